@@ -7,7 +7,7 @@ use Rattle.ly_base.specs.declared.lexeme.End.{End}
 use Rattle.ly_feed.specs.declared.outcome.Outcome.{Outcome}
 use Rattle.ly_tables.specs.TableSet.{TableSet}
 use Rattle.ly_tokens.specs.Answers.{Answers}
-use Rattle.lytab.specs.Answering.{IsAnswered, IsBegun}
+use Rattle.lytab.specs.Answering.{IsAnswered, IsAnswerBegun}
 use Rattle.lytab.specs.Failure.{IsOfWriter}
 use Rattle.lytab.specs.declared.answering.Rules.{Rules}
 use Rattle.lytab.specs.declared.answering.Rules.TheVariants as rules
@@ -43,8 +43,8 @@ some_answered (rules.Tables tables) given before after c h =
 some_answered (rules.Both lex yacc) given before after c h =
     (h.0, h.1, h.2, answered_of_some h.1 given before after h.0 h.3, h.4)
 
-some_begun : (r : Rules) (given before after : Option (List ℕ)) → IsBegun r given before after
-    → IsBegun r None before after
+some_begun : (r : Rules) (given before after : Option (List ℕ)) → IsAnswerBegun r given before after
+    → IsAnswerBegun r None before after
 some_begun (rules.Tokens lex) given before after h = (h.0, h.1, h.2, answers_of_some h.3, h.4, h.5)
 some_begun (rules.Tables tables) given before after h =
     (h.0, h.1, h.2, begun_of_some h.1 given before after h.0 h.3)
@@ -57,7 +57,7 @@ if_answered r given before after result answered =
     ok_weaker result _ _ (some_answered r given before after) answered
 
 pub if_begun : (r : Rules) (given before after : Option (List ℕ)) (result : Result Completion Failure)
-    → IfErr result (λ f. IsOfWriter f → IsBegun r given before after)
-    → IfErr result (λ f. IsOfWriter f → IsBegun r None before after)
+    → IfErr result (λ f. IsOfWriter f → IsAnswerBegun r given before after)
+    → IfErr result (λ f. IsOfWriter f → IsAnswerBegun r None before after)
 if_begun r given before after result begun =
     err_weaker result _ _ (λ f h is. some_begun r given before after (h is)) begun

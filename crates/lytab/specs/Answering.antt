@@ -22,13 +22,13 @@ text_from None given = given
 text_from (Some path) given = None
 
 -- The tokens of the text that a reader gave were written, by a lex file.
-abbrev pub IsPrinted : List ℕ → Option (List ℕ) → Option (List ℕ) → Option (List ℕ) → Completion → Type 0
-IsPrinted lex given before after c = (end : TokenEnd) × (answer : List ℕ)
+abbrev pub AreTokensPrinted : List ℕ → Option (List ℕ) → Option (List ℕ) → Option (List ℕ) → Completion → Type 0
+AreTokensPrinted lex given before after c = (end : TokenEnd) × (answer : List ℕ)
     × Answers version_2 lex given (end_of end) answer × Appends before after answer × (c ≡ completion_of_tokens end)
 
 -- so many bytes of them were written, and these are not all
-abbrev pub IsPrintedInPart : List ℕ → Option (List ℕ) → Option (List ℕ) → Option (List ℕ) → Type 0
-IsPrintedInPart lex given before after = (written : ℕ) × (end : End) × (answer : List ℕ)
+abbrev pub AreTokensBegun : List ℕ → Option (List ℕ) → Option (List ℕ) → Option (List ℕ) → Type 0
+AreTokensBegun lex given before after = (written : ℕ) × (end : End) × (answer : List ℕ)
     × Answers version_2 lex given end answer × (written < length answer) × Appends before after (take written answer)
 
 -- The answer to the text was written that the set of a table file gives.
@@ -52,12 +52,12 @@ IsBegunByFiles lex yacc given before after = (written : ℕ) × (s : TableSet) �
 
 -- The whole answer was written that these rules give to the text, and the command is completed so.
 abbrev pub IsAnswered : Rules → Option (List ℕ) → Option (List ℕ) → Option (List ℕ) → Completion → Type 0
-IsAnswered (rules.Tokens lex) given before after c = IsPrinted lex.now given before after c
+IsAnswered (rules.Tokens lex) given before after c = AreTokensPrinted lex.now given before after c
 IsAnswered (rules.Tables tables) given before after c = IsAnsweredByTables tables.now given before after c
 IsAnswered (rules.Both lex yacc) given before after c = IsAnsweredByFiles lex.now yacc.now given before after c
 
 -- so many bytes of it were written, and these are not all
-abbrev pub IsBegun : Rules → Option (List ℕ) → Option (List ℕ) → Option (List ℕ) → Type 0
-IsBegun (rules.Tokens lex) given before after = IsPrintedInPart lex.now given before after
-IsBegun (rules.Tables tables) given before after = IsBegunByTables tables.now given before after
-IsBegun (rules.Both lex yacc) given before after = IsBegunByFiles lex.now yacc.now given before after
+abbrev pub IsAnswerBegun : Rules → Option (List ℕ) → Option (List ℕ) → Option (List ℕ) → Type 0
+IsAnswerBegun (rules.Tokens lex) given before after = AreTokensBegun lex.now given before after
+IsAnswerBegun (rules.Tables tables) given before after = IsBegunByTables tables.now given before after
+IsAnswerBegun (rules.Both lex yacc) given before after = IsBegunByFiles lex.now yacc.now given before after

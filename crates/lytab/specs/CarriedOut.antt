@@ -18,7 +18,7 @@ use Rattle.ly_words.specs.Command.{said}
 use Rattle.ly_words.specs.Request.{Request}
 use Rattle.ly_words.specs.declared.command.Command.{Command}
 use Rattle.ly_words.specs.declared.command.Command.TheVariants as command
-use Rattle.lytab.specs.Answering.{IsAnsweredByFiles, IsAnsweredByTables, IsPrinted, text_from}
+use Rattle.lytab.specs.Answering.{IsAnsweredByFiles, IsAnsweredByTables, AreTokensPrinted, text_from}
 use Rattle.lytab.specs.Completion.{completion_status}
 use Rattle.lytab.specs.Failure.{IsOfWriter, failure_status}
 use Rattle.lytab.specs.declared.completion.Completion.{Completion}
@@ -27,15 +27,16 @@ use Rattle.lytab.specs.declared.failure.Failure.{Failure}
 
 -- how many conflicts the specification has that a lex file and a yacc file say within limits, of which a table set was
 -- made
-pub record IsBuilt (limits : Sizes) (version : Version) (before after : Option (List ℕ)) (c : Completion) : Type 0 where
-  pub lex : List ℕ
-  pub yacc : List ℕ
-  pub set : TableSet
-  pub generated : IsGenerated version (least_of limits (sizes_in version)) lex yacc set
-  pub counts : ConflictCounts
-  pub are_counts : AreCounts generated.spec counts
-  pub line : Appends before after (counts_line counts.shift_reduce counts.reduce_reduce)
-  pub done : c ≡ Done
+pub record IsBuildTold (limits : Sizes) (version : Version) (before after : Option (List ℕ)) (c : Completion) : Type 0
+  where
+    pub lex : List ℕ
+    pub yacc : List ℕ
+    pub set : TableSet
+    pub generated : IsGenerated version (least_of limits (sizes_in version)) lex yacc set
+    pub counts : ConflictCounts
+    pub are_counts : AreCounts generated.spec counts
+    pub line : Appends before after (counts_line counts.shift_reduce counts.reduce_reduce)
+    pub done : c ≡ Done
 
 -- what the table set is made of that the bytes of a table file spell
 pub record HasCounts (bytes : List ℕ) (counts : SetCounts) : Type 0 where
@@ -58,7 +59,7 @@ set_line counts = codes "tables: " ++ (decimal counts.terminals ++ codes " termi
     ++ (decimal counts.rules ++ codes " rules, ") ++ (decimal counts.parser_states ++ codes " parser states\n")
 
 -- that line was written
-pub record IsChecked (before after : Option (List ℕ)) (c : Completion) : Type 0 where
+pub record IsCheckTold (before after : Option (List ℕ)) (c : Completion) : Type 0 where
   pub bytes : List ℕ
   pub counts : SetCounts
   pub has : HasCounts bytes counts
@@ -66,7 +67,7 @@ pub record IsChecked (before after : Option (List ℕ)) (c : Completion) : Type 
   pub done : c ≡ Done
 
 -- what there is to say of a lex file and a yacc file, and whether they are accepted
-pub record IsSaid (before after : Option (List ℕ)) (c : Completion) : Type 0 where
+pub record IsExplanationTold (before after : Option (List ℕ)) (c : Completion) : Type 0 where
   pub lex : List ℕ
   pub yacc : List ℕ
   pub explanation : Explanation
@@ -77,14 +78,14 @@ pub record IsSaid (before after : Option (List ℕ)) (c : Completion) : Type 0 w
 -- what a command has written to standard output, where standard input had this left
 abbrev pub IsCarriedOut : Command → Option (List ℕ) → Option (List ℕ) → Option (List ℕ) → Completion → Type 0
 IsCarriedOut (command.Tokens lex text) given before after c =
-    (bytes : List ℕ) × IsPrinted bytes (text_from text given) before after c
+    (bytes : List ℕ) × AreTokensPrinted bytes (text_from text given) before after c
 IsCarriedOut (command.Run tables text) given before after c =
     (bytes : List ℕ) × IsAnsweredByTables bytes (text_from text given) before after c
 IsCarriedOut (command.Try lex yacc text) given before after c =
     (lex_bytes yacc_bytes : List ℕ) × IsAnsweredByFiles lex_bytes yacc_bytes (text_from text given) before after c
-IsCarriedOut (command.Build paths version) given before after c = IsBuilt version_2 version before after c
-IsCarriedOut (command.Check tables) given before after c = IsChecked before after c
-IsCarriedOut (command.Explain paths) given before after c = IsSaid before after c
+IsCarriedOut (command.Build paths version) given before after c = IsBuildTold version_2 version before after c
+IsCarriedOut (command.Check tables) given before after c = IsCheckTold before after c
+IsCarriedOut (command.Explain paths) given before after c = IsExplanationTold before after c
 
 -- a command was completed that asks for this, with the status of its completion
 pub record IsCompleted (request : Request) (given before after : Option (List ℕ)) (status : ℕ) : Type 0 where

@@ -16,6 +16,6 @@ pub record AreReadsTold (result : Result Completion Failure) (before after : ℕ
   pub held : MatchResult result (λ _. after ≡ before) (λ f. (IsOfReader f → ⊥) → after ≡ before)
 
 -- of a reader and of a writer
-abbrev pub AreTold : Result Completion Failure → ℕ → ℕ → ℕ → ℕ → Type 0
-AreTold result reads_before reads_after writes_before writes_after =
+abbrev pub AreDevicesTold : Result Completion Failure → ℕ → ℕ → ℕ → ℕ → Type 0
+AreDevicesTold result reads_before reads_after writes_before writes_after =
     AreReadsTold result reads_before reads_after × AreWritesTold result writes_before writes_after

@@ -58,7 +58,7 @@ IsRefusalOfFiles lex yacc given OutOfMemory = Unit {0}
 IsRefusalOfFiles lex yacc given _ = ⊥
 
 -- what a failure says of these rules, and of what a reader gave; that a device fails or memory runs out says nothing
-abbrev pub IsRefusal : Rules → Option (List ℕ) → Failure → Type 0
-IsRefusal (rules.Tokens lex) given f = IsRefusalOfLex lex.now f
-IsRefusal (rules.Tables tables) given f = IsRefusalOfTables tables.now given f
-IsRefusal (rules.Both lex yacc) given f = IsRefusalOfFiles lex.now yacc.now given f
+abbrev pub IsRefusalOf : Rules → Option (List ℕ) → Failure → Type 0
+IsRefusalOf (rules.Tokens lex) given f = IsRefusalOfLex lex.now f
+IsRefusalOf (rules.Tables tables) given f = IsRefusalOfTables tables.now given f
+IsRefusalOf (rules.Both lex yacc) given f = IsRefusalOfFiles lex.now yacc.now given f

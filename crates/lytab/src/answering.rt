@@ -1,10 +1,11 @@
 //! The commands that answer a text.
 ghost use Rattle.std.specs.Prelude.{◌≡◌, IfErr, IfOk, IsSome, None};
-ghost use Rattle.lytab.specs.Answering.{IsAnswered, IsAnsweredByFiles, IsAnsweredByTables, IsBegun, IsBegunByFiles};
-ghost use Rattle.lytab.specs.Answering.{IsBegunByTables, IsPrinted, IsPrintedInPart, text_from};
-ghost use Rattle.lytab.specs.Devices.{AreTold, AreWritesTold};
+ghost use Rattle.lytab.specs.Answering.{AreTokensBegun, AreTokensPrinted, IsAnswerBegun, IsAnswered};
+ghost use Rattle.lytab.specs.Answering.{IsAnsweredByFiles, IsAnsweredByTables, IsBegunByFiles, IsBegunByTables};
+ghost use Rattle.lytab.specs.Answering.{text_from};
+ghost use Rattle.lytab.specs.Devices.{AreDevicesTold, AreWritesTold};
 ghost use Rattle.lytab.specs.Failure.{IsOfWriter};
-ghost use Rattle.lytab.specs.Refusal.{IsRefusal, IsRefusalOfFiles, IsRefusalOfLex, IsRefusalOfTables};
+ghost use Rattle.lytab.specs.Refusal.{IsRefusalOf, IsRefusalOfFiles, IsRefusalOfLex, IsRefusalOfTables};
 
 use crate::completion::Completion;
 use crate::failure::Failure;
@@ -42,12 +43,12 @@ pub fn answer_text<'a, F: Files, R: Source, W: Sink>(
 ) -> Result<Completion, Failure<'a>>
     ensures answered { IfOk result (IsAnswered rules.entry (text_from text.entry (R.remaining input.old))
         (W.contents output.old) (W.contents output.new)) }
-    ensures refused { IfErr result (IsRefusal rules.entry (text_from text.entry (R.remaining input.old))) }
-    ensures told { text.entry ≡ None → AreTold result (R.failures input.old) (R.failures input.new)
+    ensures refused { IfErr result (IsRefusalOf rules.entry (text_from text.entry (R.remaining input.old))) }
+    ensures told { text.entry ≡ None → AreDevicesTold result (R.failures input.old) (R.failures input.new)
         (W.failures output.old) (W.failures output.new) }
     ensures unread { IsSome text.entry → input.new ≡ input.old }
     ensures written { AreWritesTold result (W.failures output.old) (W.failures output.new) }
-    ensures beginning { IfErr result (λ f. IsOfWriter f → IsBegun rules.entry
+    ensures beginning { IfErr result (λ f. IsOfWriter f → IsAnswerBegun rules.entry
         (text_from text.entry (R.remaining input.old)) (W.contents output.old) (W.contents output.new)) }
     ensures untouched { IfErr result (λ f. (IsOfWriter f → ⊥) → output.new ≡ output.old) }
 {
@@ -70,10 +71,10 @@ fn answer_by<'a, R: Source, W: Sink>(
 ) -> Result<Completion, Failure<'a>>
     ensures answered { IfOk result (IsAnswered rules.entry (R.remaining reader.old) (W.contents writer.old)
         (W.contents writer.new)) }
-    ensures refused { IfErr result (IsRefusal rules.entry (R.remaining reader.old)) }
-    ensures told { AreTold result (R.failures reader.old) (R.failures reader.new) (W.failures writer.old)
+    ensures refused { IfErr result (IsRefusalOf rules.entry (R.remaining reader.old)) }
+    ensures told { AreDevicesTold result (R.failures reader.old) (R.failures reader.new) (W.failures writer.old)
         (W.failures writer.new) }
-    ensures beginning { IfErr result (λ f. IsOfWriter f → IsBegun rules.entry (R.remaining reader.old)
+    ensures beginning { IfErr result (λ f. IsOfWriter f → IsAnswerBegun rules.entry (R.remaining reader.old)
         (W.contents writer.old) (W.contents writer.new)) }
     ensures untouched { IfErr result (λ f. (IsOfWriter f → ⊥) → writer.new ≡ writer.old) }
 {
@@ -92,12 +93,12 @@ fn print_tokens<'a, R: Source, W: Sink>(
     reader: &mut R,
     writer: &mut W,
 ) -> Result<Completion, Failure<'a>>
-    ensures answered { IfOk result (IsPrinted lex.now (R.remaining reader.old) (W.contents writer.old)
+    ensures answered { IfOk result (AreTokensPrinted lex.now (R.remaining reader.old) (W.contents writer.old)
         (W.contents writer.new)) }
     ensures refused { IfErr result (IsRefusalOfLex lex.now) }
-    ensures told { AreTold result (R.failures reader.old) (R.failures reader.new) (W.failures writer.old)
+    ensures told { AreDevicesTold result (R.failures reader.old) (R.failures reader.new) (W.failures writer.old)
         (W.failures writer.new) }
-    ensures beginning { IfErr result (λ f. IsOfWriter f → IsPrintedInPart lex.now (R.remaining reader.old)
+    ensures beginning { IfErr result (λ f. IsOfWriter f → AreTokensBegun lex.now (R.remaining reader.old)
         (W.contents writer.old) (W.contents writer.new)) }
     ensures untouched { IfErr result (λ f. (IsOfWriter f → ⊥) → writer.new ≡ writer.old) }
 {
@@ -123,7 +124,7 @@ fn answer_by_tables<'a, R: Source, W: Sink>(
     ensures answered { IfOk result (IsAnsweredByTables tables.now (R.remaining reader.old) (W.contents writer.old)
         (W.contents writer.new)) }
     ensures refused { IfErr result (IsRefusalOfTables tables.now (R.remaining reader.old)) }
-    ensures told { AreTold result (R.failures reader.old) (R.failures reader.new) (W.failures writer.old)
+    ensures told { AreDevicesTold result (R.failures reader.old) (R.failures reader.new) (W.failures writer.old)
         (W.failures writer.new) }
     ensures beginning { IfErr result (λ f. IsOfWriter f → IsBegunByTables tables.now (R.remaining reader.old)
         (W.contents writer.old) (W.contents writer.new)) }
@@ -152,7 +153,7 @@ fn answer_by_files<'a, R: Source, W: Sink>(
     ensures answered { IfOk result (IsAnsweredByFiles lex.now yacc.now (R.remaining reader.old)
         (W.contents writer.old) (W.contents writer.new)) }
     ensures refused { IfErr result (IsRefusalOfFiles lex.now yacc.now (R.remaining reader.old)) }
-    ensures told { AreTold result (R.failures reader.old) (R.failures reader.new) (W.failures writer.old)
+    ensures told { AreDevicesTold result (R.failures reader.old) (R.failures reader.new) (W.failures writer.old)
         (W.failures writer.new) }
     ensures beginning { IfErr result (λ f. IsOfWriter f → IsBegunByFiles lex.now yacc.now (R.remaining reader.old)
         (W.contents writer.old) (W.contents writer.new)) }

@@ -1,7 +1,7 @@
 //! The command `check`.
 ghost use Rattle.std.specs.Prelude.{◌≡◌, ◌++◌, IfErr, IfOk, OnOk, string_bytes};
 ghost use Rattle.std.specs.Fmt.{decimal};
-ghost use Rattle.lytab.specs.CarriedOut.{HasCounts, IsChecked, set_line};
+ghost use Rattle.lytab.specs.CarriedOut.{HasCounts, IsCheckTold, set_line};
 ghost use Rattle.lytab.specs.Failure.{IsOfWriter};
 
 use crate::completion::Completion;
@@ -20,7 +20,7 @@ pub fn check_tables<'a, F: Files, W: Sink>(
     path: &'a str,
     output: &mut W,
 ) -> Result<Completion, Failure<'a>>
-    ensures checked { IfOk result (IsChecked (W.contents output.old) (W.contents output.new)) }
+    ensures checked { IfOk result (IsCheckTold (W.contents output.old) (W.contents output.new)) }
     ensures untouched { IfErr result (λ f. (IsOfWriter f → ⊥) → output.new ≡ output.old) }
 {
     let bytes = read_file(files, alloc, path)?;

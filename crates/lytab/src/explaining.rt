@@ -1,6 +1,6 @@
 //! The command `explain`.
 ghost use Rattle.std.specs.Prelude.{◌≡◌, IfErr, IfOk};
-ghost use Rattle.lytab.specs.CarriedOut.{IsSaid};
+ghost use Rattle.lytab.specs.CarriedOut.{IsExplanationTold};
 ghost use Rattle.lytab.specs.Failure.{IsOfWriter};
 
 use crate::completion::Completion;
@@ -22,7 +22,7 @@ pub fn explain_files<'a, F: Files, W: Sink>(
     paths: ExplainPaths<'a>,
     output: &mut W,
 ) -> Result<Completion, Failure<'a>>
-    ensures said { IfOk result (IsSaid (W.contents output.old) (W.contents output.new)) }
+    ensures said { IfOk result (IsExplanationTold (W.contents output.old) (W.contents output.new)) }
     ensures untouched { IfErr result (λ f. (IsOfWriter f → ⊥) → output.new ≡ output.old) }
 {
     let lex = read_or_say_why(files, alloc, paths.lex)?;

@@ -1,5 +1,5 @@
 //! Files, read and written whole.
-ghost use Rattle.std.specs.Prelude.{◌≡◌, ◌<◌, ℕ, IfErr, length, OnErr, OnOk, take};
+ghost use Rattle.std.specs.Prelude.{◌≡◌, ◌⊎◌, ◌<◌, ℕ, IfErr, length, OnErr, OnOk, take};
 ghost use Rattle.std.specs.Io.KnownBytes.{Appends};
 
 use ly_base::{Counted, ReadFault, Sink, read_whole, write_whole};
@@ -36,7 +36,9 @@ pub fn read_file<'a, F: Files>(
     files: &F,
     alloc: Global,
     path: &'a str,
-) -> Result<Vec<u8>, FileFault<'a>> {
+) -> Result<Vec<u8>, FileFault<'a>>
+    ensures { IfErr result (λ fault. (fault ≡ FileFault.CannotRead path.entry) ⊎ (fault ≡ FileFault.OutOfMemory)) }
+{
     let mut file = Counted::new(open(files, path)?);
     match read_whole(alloc, &mut file) {
         Ok(bytes) => Ok(bytes),
@@ -46,11 +48,9 @@ pub fn read_file<'a, F: Files>(
 }
 
 /// Makes a file of these bytes, in place of an older one.
-pub fn write_file<'a, F: Files>(
-    files: &F,
-    path: &'a str,
-    bytes: &[u8],
-) -> Result<(), FileFault<'a>> {
+pub fn write_file<'a, F: Files>(files: &F, path: &'a str, bytes: &[u8]) -> Result<(), FileFault<'a>>
+    ensures { IfErr result (λ fault. fault ≡ FileFault.CannotWrite path.entry) }
+{
     match fs::create(files, path) {
         Ok(file) => write_to(&mut Counted::new(file), path, bytes),
         Err(_) => Err(FileFault::CannotWrite(path)),

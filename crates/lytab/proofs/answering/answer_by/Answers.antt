@@ -1,4 +1,3 @@
-use Rattle.std.proofs.Common.{rules}
 use Rattle.lytab.proofs.answering.answer_by.Goals as goal
 
 pub returns-in-Both-clause-answered : goal.returns-in-Both-clause-answered

@@ -1,7 +1,7 @@
 use Rattle.std.proofs.Common.{◌≡◌, IfOk, rules, subst, sym}
 use Rattle.std.specs.Io.KnownBytes.{Appends}
 use Rattle.ly_generate.proofs.GenFaultLemmas.{ok_weaker}
-use Rattle.lytab.specs.CarriedOut.{IsBuilt}
+use Rattle.lytab.specs.CarriedOut.{IsBuildTold}
 use Rattle.lytab.specs.declared.completion.Completion.TheVariants.{Done}
 use Rattle.lytab.proofs.building.build_tables.Goals as goal
 
@@ -12,7 +12,7 @@ returns-clause-built g c =
     let after = g.W.Sink.contents c.said.new.output in
     let is_said : IfOk c.said.result (λ done. (done ≡ Done) × Appends before after c.in_ok-line.line.items) =
     search rules in
-    subst (λ limits. IfOk c.said.result (IsBuilt limits c.args.version before after)) c.version_2-limits.ensures
+    subst (λ limits. IfOk c.said.result (IsBuildTold limits c.args.version before after)) c.version_2-limits.ensures
     (ok_weaker c.said.result _ _
     (λ done said. record {
       lex = _;
