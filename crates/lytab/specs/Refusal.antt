@@ -6,7 +6,7 @@ use Rattle.ly_generate.specs.Accepted.{IsRefusedFor}
 use Rattle.ly_generate.specs.declared.gen_fault.GenFault.{GenFault}
 use Rattle.ly_generate.specs.declared.gen_fault.GenFault.TheVariants as gen
 use Rattle.ly_lexread.specs.Faults.{IsOfText, IsTooHeavy}
-use Rattle.ly_lexread.specs.LexText.{IsHeavyText, LexText}
+use Rattle.ly_lexread.specs.LexText.{IsHeavyText, IsLight, LexText}
 use Rattle.ly_lexread.specs.declared.file.LexFile.{LexFile}
 use Rattle.ly_position.specs.declared.fault.PosFault.TheVariants.{TooManyPositions}
 use Rattle.ly_subset.specs.declared.fault.SubsetFault.TheVariants.{TooManyStates}
@@ -25,6 +25,7 @@ abbrev pub IsRefusedLex : List ℕ → GenFault → Type 0
 IsRefusedLex lex (gen.Lex fault) = IsOfText fault
     × ((IsTooHeavy fault → ⊥) → (f : LexFile) → LexText lex f → ⊥)
     × (IsTooHeavy fault → IsHeavyText version_2.pattern_weight lex)
+    × (IsTooHeavy fault → (f : LexFile) → LexText lex f → IsLight version_2.pattern_weight f → ⊥)
 IsRefusedLex lex (gen.Positions fault) = (fault ≡ TooManyPositions) × AreTooHeavy version_2 lex
 IsRefusedLex lex (gen.States fault) = (fault ≡ TooManyStates) × HaveTooManyStates version_2 lex
 IsRefusedLex lex _ = ⊥

@@ -1,11 +1,13 @@
 //! The commands that answer a text.
-ghost use Rattle.std.specs.Prelude.{◌≡◌, IfErr, IfOk, IsSome, None};
+ghost use Rattle.std.specs.Prelude.{◌≡◌, IfErr, IfOk, IsSome, None, Ok};
+ghost use Rattle.std.specs.Io.KnownBytes.{IsAtEnd};
 ghost use Rattle.lytab.specs.Answering.{AreTokensBegun, AreTokensPrinted, IsAnswerBegun, IsAnswered};
 ghost use Rattle.lytab.specs.Answering.{IsAnsweredByFiles, IsAnsweredByTables, IsBegunByFiles, IsBegunByTables};
 ghost use Rattle.lytab.specs.Answering.{text_from};
 ghost use Rattle.lytab.specs.Devices.{AreDevicesTold, AreWritesTold};
 ghost use Rattle.lytab.specs.Failure.{IsOfWriter};
 ghost use Rattle.lytab.specs.Refusal.{IsRefusalOf, IsRefusalOfFiles, IsRefusalOfLex, IsRefusalOfTables};
+ghost use Rattle.lytab.specs.declared.completion.Completion.TheVariants as completion;
 
 use crate::completion::Completion;
 use crate::failure::Failure;
@@ -51,6 +53,7 @@ pub fn answer_text<'a, F: Files, R: Source, W: Sink>(
     ensures beginning { IfErr result (λ f. IsOfWriter f → IsAnswerBegun rules.entry
         (text_from text.entry (R.remaining input.old)) (W.contents output.old) (W.contents output.new)) }
     ensures untouched { IfErr result (λ f. (IsOfWriter f → ⊥) → output.new ≡ output.old) }
+    ensures ended { text.entry ≡ None → result ≡ Ok completion.Done → IsAtEnd (R.remaining input.new) }
 {
     match text {
         Some(path) => {
@@ -77,6 +80,7 @@ fn answer_by<'a, R: Source, W: Sink>(
     ensures beginning { IfErr result (λ f. IsOfWriter f → IsAnswerBegun rules.entry (R.remaining reader.old)
         (W.contents writer.old) (W.contents writer.new)) }
     ensures untouched { IfErr result (λ f. (IsOfWriter f → ⊥) → writer.new ≡ writer.old) }
+    ensures ended { result ≡ Ok completion.Done → IsAtEnd (R.remaining reader.new) }
 {
     match rules {
         Rules::Tokens(lex) => print_tokens(alloc, lex, path, reader, writer),
@@ -101,6 +105,7 @@ fn print_tokens<'a, R: Source, W: Sink>(
     ensures beginning { IfErr result (λ f. IsOfWriter f → AreTokensBegun lex.now (R.remaining reader.old)
         (W.contents writer.old) (W.contents writer.new)) }
     ensures untouched { IfErr result (λ f. (IsOfWriter f → ⊥) → writer.new ≡ writer.old) }
+    ensures ended { result ≡ Ok completion.Done → IsAtEnd (R.remaining reader.new) }
 {
     match tokens(alloc, lex, reader, writer) {
         Ok(end) => Ok(Completion::of_tokens(end)),
@@ -129,6 +134,7 @@ fn answer_by_tables<'a, R: Source, W: Sink>(
     ensures beginning { IfErr result (λ f. IsOfWriter f → IsBegunByTables tables.now (R.remaining reader.old)
         (W.contents writer.old) (W.contents writer.new)) }
     ensures untouched { IfErr result (λ f. (IsOfWriter f → ⊥) → writer.new ≡ writer.old) }
+    ensures ended { result ≡ Ok completion.Done → IsAtEnd (R.remaining reader.new) }
 {
     match drive(alloc, tables, reader, writer) {
         Ok(outcome) => Ok(Completion::of_outcome(&outcome)),
@@ -158,6 +164,7 @@ fn answer_by_files<'a, R: Source, W: Sink>(
     ensures beginning { IfErr result (λ f. IsOfWriter f → IsBegunByFiles lex.now yacc.now (R.remaining reader.old)
         (W.contents writer.old) (W.contents writer.new)) }
     ensures untouched { IfErr result (λ f. (IsOfWriter f → ⊥) → writer.new ≡ writer.old) }
+    ensures ended { result ≡ Ok completion.Done → IsAtEnd (R.remaining reader.new) }
 {
     match answer(alloc, lex, yacc, reader, writer) {
         Ok(outcome) => Ok(Completion::of_outcome(&outcome)),
