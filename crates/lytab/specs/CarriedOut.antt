@@ -95,8 +95,9 @@ pub record IsCompleted (request : Request) (given before after : Option (List �
   pub carried_out : IsCarriedOut command given before after completion
   pub is_status : status ≡ completion_status completion
 
--- it failed, with the status of the failure, or of want of memory for its line, and nothing was written but where a
--- write failed
+-- It failed, with the status of a failure, or of want of memory for its line; and nothing was written, where that isn't
+-- a failed write. Statuses 1 and 2 are no failed write's. Status 3 may be, so there this says nothing of what was
+-- written.
 pub record HasFailed (before after : Option (List ℕ)) (status : ℕ) : Type 0 where
   pub failure : Failure
   pub is_status : (status ≡ failure_status failure) ⊎ (status ≡ 3)
