@@ -1,9 +1,15 @@
 -- Keys with values beside them, looked up by the bytes of a key.
-use Rattle.std.proofs.Common.{◌≡◌, List, [], ◌∷◌, ◌++◌, length, sym, ap, ◌∙◌, ◌+◌, ℕ, Bool, refl, arith}
+use Rattle.std.proofs.Common.{◌≡◌, ◌⊎◌, List, [], ◌∷◌, ◌++◌, length, sym, ap, ◌∙◌, ◌+◌, ℕ, Bool, refl, arith}
+use Rattle.std.proofs.Common.{inl, inr, subst}
 use Rattle.std.specs.Prelude.{◌||◌, None, Some, true, false, if◌then◌else◌, cond, map, position, zip}
 use Rattle.std.specs.List.{list_any, position_from}
-use Rattle.std.proofs.lemmas.Iterator.Adapters.{position_from-zero}
+use Rattle.std.specs.HashMap.{HashMap, UpdatesBy}
+use Rattle.std.specs.Map.{AreApart, IsKeyTest, KeepsOthers, lookup}
 use Rattle.std.specs.Str.{bytes_eq}
+use Rattle.std.proofs.lemmas.Bool.{cases_Bool}
+use Rattle.std.proofs.lemmas.Iterator.Adapters.{position_from-zero}
+use Rattle.std.proofs.lemmas.Slice.Eq.{bytes_eq-Decides}
+use Rattle.ly_base.specs.Keys.{PutsAt}
 
 position_zip : {K V : Type 0} (p : List ℕ → Bool) (f : K → List ℕ) (ks : List K) (vs : List V) (n : ℕ)
     → length ks ≡ length vs
@@ -50,3 +56,26 @@ length_zip f [] [] e = refl
 length_zip f [] (y ∷ vs) e = absurd (omega (arith, e))
 length_zip f (k ∷ ks) [] e = absurd (omega (arith, e))
 length_zip f (k ∷ ks) (y ∷ vs) e = omega (arith, length_zip f ks vs (omega (arith, e)))
+
+-- what a query for another key finds stays
+kept : {K V : Type 0} (eq : K → K → Bool) (test other : K → Bool) (es ds : List (K × V)) → KeepsOthers eq test es ds
+    → IsKeyTest eq other → AreApart test other → lookup other ds ≡ lookup other es
+unfolding KeepsOthers
+kept eq test other es ds h = h other
+
+-- a value that is put at a name is found there
+pub found_put : {K V S : Type 0} (f : K → List ℕ) (m n : HashMap K V S) (key name : List ℕ) (v : V) → key ≡ name
+    → UpdatesBy (λ x y. bytes_eq (f x) (f y)) (λ x. bytes_eq key (f x)) m n (Some v)
+    → PutsAt f name v m.entries n.entries
+found_put f m n key name v same updates other = by (cases_Bool (bytes_eq other name))
+  where
+    is : (s t : List ℕ) → bytes_eq s t ≡ true → s ≡ t
+    is s t = (bytes_eq-Decides s t).0
+
+    by : (bytes_eq other name ≡ true) ⊎ (bytes_eq other name ≡ false) → lookup (λ x. bytes_eq other (f x)) n.entries
+        ≡ cond (bytes_eq other name) (Some v) (lookup (λ x. bytes_eq other (f x)) m.entries)
+    by (inl e) = rw (e)
+        (subst (λ s. lookup (λ x. bytes_eq s (f x)) n.entries ≡ Some v) (same ∙ sym (is other name e)) updates.1)
+    by (inr e) = rw (e) (kept (λ x y. bytes_eq (f x) (f y)) (λ x. bytes_eq key (f x)) (λ x. bytes_eq other (f x))
+        m.entries n.entries updates.3 (λ x y passes. ap (λ s. bytes_eq s (f y)) (is other (f x) passes))
+        (λ x passes. subst (λ s. bytes_eq other s ≡ false) (sym same ∙ is key (f x) passes) e))

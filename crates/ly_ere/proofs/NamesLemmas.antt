@@ -1,18 +1,27 @@
 -- The definitions of a lex file with one more, as they are kept.
-use Rattle.std.proofs.Common.{◌≡◌, ◌++◌, ◌∷◌, [], ◌∙◌, ap, arith, length, length-append, subst, sym, ℕ, List}
-use Rattle.std.specs.Prelude.{map, zip}
+use Rattle.std.proofs.Common.{◌≡◌, ◌⊎◌, ◌++◌, ◌∷◌, [], ◌∙◌, ap, arith, length, length-append, subst, sym, ℕ, List}
+use Rattle.std.proofs.Common.{None, Some, inl, inr, true, false}
+use Rattle.std.specs.Map.{lookup}
+use Rattle.std.specs.Prelude.{cond, map, zip}
+use Rattle.std.specs.Str.{bytes_eq}
+use Rattle.std.proofs.lemmas.Bool.{cases_Bool}
 use Rattle.std.proofs.lemmas.List.{length-map}
+use Rattle.std.proofs.lemmas.Slice.Eq.{bytes_eq-Decides}
+use Rattle.ly_base.specs.Keys.{PutsAt}
 use Rattle.ly_base.proofs.KeyLemmas.{zip_push}
 use Rattle.ly_ere.specs.Expression.{Expression, Matches}
 use Rattle.ly_ere.specs.Lengths.{AreLengths, AreNamedLengths, IsSound}
-use Rattle.ly_ere.specs.Names.{AreOrdered, Definition, UsesBelow, defined}
+use Rattle.ly_ere.specs.Names.{AreOrdered, Definition, UsesBelow, defined, number_of}
+use Rattle.ly_ere.specs.Private.Definitions.{AreNumbers}
 use Rattle.ly_ere.specs.Weight.{AreWeights, weight_of}
 use Rattle.ly_ere.specs.declared.length.Lengths.{Lengths}
 use Rattle.ly_ere.proofs.NameLemmas.{defined_zip, ordered_push}
 use Rattle.ly_ere.proofs.NamedLengthLemmas.{named_lengths_push}
+use Rattle.ly_ere.proofs.PlaceLemmas.{number_new, number_other}
 use Rattle.ly_ere.proofs.SoundLemmas.{sound_below}
 use Rattle.ly_ere.proofs.WeightLemmas.{weights_push}
 
+-- an option, or else nothing
 -- What is kept of some definitions, and of those with one more.
 module _ {K : Type 0} (f : K → List ℕ) (ks js : List K) (es ds : List Expression) (ns : List Definition) (k : K)
     (e : Expression) (view : zip (map f ks) es ≡ ns) (even : length ks ≡ length es) (keys : js ≡ ks ++ k ∷ [])
@@ -62,3 +71,25 @@ module _ {K : Type 0} (f : K → List ℕ) (ks js : List K) (es ds : List Expres
         (subst (λ d. AreNamedLengths d (ls ++ l ∷ [])) (sym texts)
         (named_lengths_push es e ordered uses ls l lengths
         (subst (λ d. AreLengths (weight_of d e) (Matches d e) l) (sym there) is)))
+
+  -- the new name finds the new number, and each other one what it found
+  pub still_numbered : (text : List ℕ) → f k ≡ text → number_of ns text ≡ None → (before after : List (K × ℕ)) (m : ℕ)
+      → m ≡ length ks → PutsAt f text m before after → AreNumbers f (zip (map f ks) es) before
+      → AreNumbers f (zip (map f js) ds) after
+  still_numbered text is new before after m count put numbers n = put n ∙ (by (cases_Bool (bytes_eq n text))
+      ∙ ap (λ names. number_of names n) (sym (with_name text is)))
+    where
+      last : m ≡ length ns
+      last = omega (arith, count, even, ap length there, length-map ns (λ d. d.1))
+
+      here : lookup (λ x. bytes_eq n (f x)) before ≡ number_of ns n
+      here = numbers n ∙ ap (λ names. number_of names n) view
+
+      by : (bytes_eq n text ≡ true) ⊎ (bytes_eq n text ≡ false)
+          → cond (bytes_eq n text) (Some m) (lookup (λ x. bytes_eq n (f x)) before)
+          ≡ number_of (ns ++ (text, e) ∷ []) n
+      by (inl same) = ap (λ b. cond b (Some m) (lookup (λ x. bytes_eq n (f x)) before)) same
+          ∙ (ap Some last ∙ (sym (number_new ns text e new)
+          ∙ ap (number_of (ns ++ (text, e) ∷ [])) (sym ((bytes_eq-Decides n text).0 same))))
+      by (inr other) = ap (λ b. cond b (Some m) (lookup (λ x. bytes_eq n (f x)) before)) other
+          ∙ (here ∙ sym (number_other ns text e n other))

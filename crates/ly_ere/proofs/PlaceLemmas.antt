@@ -122,6 +122,16 @@ number_new names m e is
     = number_append names m e m ∙ (ap (λ o. or_else o (cond (bytes_eq m m) (Some (length names)) None)) is
     ∙ ap (λ b. cond b (Some (length names)) None) (same_text m m refl))
 
+-- one of another name changes nothing
+pub number_other : (names : List Definition) (m : List ℕ) (e : Expression) (n : List ℕ) → bytes_eq n m ≡ false
+    → number_of (names ++ (m, e) ∷ []) n ≡ number_of names n
+number_other names m e n other = number_append names m e n
+    ∙ (ap (λ b. or_else (number_of names n) (cond b (Some (length names)) None)) other ∙ nothing (number_of names n))
+  where
+    nothing : (o : Option ℕ) → or_else o None ≡ o
+    nothing None = refl
+    nothing (Some x) = refl
+
 -- a number is one from before, or the last
 pub number_cases : (names : List Definition) (m : List ℕ) (e : Expression) (n : List ℕ) (x : ℕ)
     → number_of (names ++ (m, e) ∷ []) n ≡ Some x → (number_of names n ≡ Some x) ⊎ (m ≡ n)

@@ -1,4 +1,4 @@
-ghost use Rattle.std.specs.Prelude.{◌≡◌, ◌≢◌, ◌<◌, ◌≤◌, [], ◌∷◌, ◌++◌, ℕ, None, length, IfOk, IfErr, IsOk};
+ghost use Rattle.std.specs.Prelude.{◌≡◌, ◌≢◌, ◌<◌, ◌≤◌, [], ◌∷◌, ◌++◌, None, length, IfOk, IfErr, IsOk};
 ghost use Rattle.ly_ere.specs.Lengths.{AreNamedLengths, IsSound};
 ghost use Rattle.ly_ere.specs.Names.{defined, number_of};
 ghost use Rattle.ly_ere.specs.Weight.{AreWeights, weight_of};
@@ -8,16 +8,18 @@ use crate::fault::EreFault;
 use crate::length::{Lengths, lengths_of};
 use crate::re::Re;
 use crate::weight::weigh;
-use indexmap::IndexSet;
 use ly_base::Limits;
 use std::alloc::{AllocError, Global};
+use std::collections::HashMap;
 use std::marker::Model;
 
 /// The definitions of a lex file, in an order in which each uses earlier ones only: names with their expressions.
 #[derive(Drop)]
 pub struct Names {
     /// The names.
-    names: IndexSet<Vec<u8>>,
+    names: Vec<Vec<u8>>,
+    /// The number of each.
+    numbers: HashMap<Vec<u8>, usize>,
     /// The expression of each.
     definitions: Vec<Re>,
     /// The weight of each.
@@ -32,16 +34,18 @@ impl Model for Names {
     ghost use Rattle.ly_ere.specs.ExpressionCode.{expression_code};
     ghost use Rattle.ly_ere.specs.Names.{Definition, AreOrdered};
     ghost use Rattle.ly_ere.specs.Lengths.{AreNamedLengths};
+    ghost use Rattle.ly_ere.specs.Private.Definitions.{AreNumbers};
     ghost use Rattle.ly_ere.specs.Weight.{AreWeights};
 
     ghost Value = { List Definition };
 
     ghost coded = { coded_list (coded× (coded_list coded_ℕ) expression_code) };
 
-    ghost view = { λ n. zip (map (λ k. k.items) n.names.keys) n.definitions.items };
+    ghost view = { λ n. zip (map (λ k. k.items) n.names.items) n.definitions.items };
 
-    ghost invariant = { λ n. (length n.names.keys ≡ length n.definitions.items) × AreOrdered n.definitions.items
-        × AreWeights n.definitions.items n.weights.items × AreNamedLengths n.definitions.items n.lengths.items };
+    ghost invariant = { λ n. (length n.names.items ≡ length n.definitions.items) × AreOrdered n.definitions.items
+        × AreWeights n.definitions.items n.weights.items × AreNamedLengths n.definitions.items n.lengths.items
+        × AreNumbers (λ k. k.items) (zip (map (λ k. k.items) n.names.items) n.definitions.items) n.numbers.entries };
 }
 
 impl Names {
@@ -52,7 +56,8 @@ impl Names {
         ensures { result ≡ [] }
     {
         Names {
-            names: IndexSet::new(alloc),
+            names: Vec::new(alloc),
+            numbers: HashMap::new(alloc),
             definitions: Vec::new(alloc),
             weights: Vec::new(alloc),
             lengths: Vec::new(alloc),
@@ -71,7 +76,7 @@ impl Names {
     pub(crate) fn find(&self, name: &[u8]) -> Option<usize>
         ensures { result ≡ number_of self.now name.now }
     {
-        self.names.get_index_of(name)
+        self.numbers.get(name).copied()
     }
 
     /// The definitions with one more, which uses earlier ones only, of a name that has none. One whose weight is above
@@ -111,7 +116,9 @@ impl Names {
         ensures { IfOk result (λ names. names ≡ self ++ (name.now, definition) ∷ []) }
     {
         let lengths = lengths_of(alloc, &definition, &self)?;
-        self.names.insert(Vec::from_slice(alloc, name)?)?;
+        self.numbers
+            .insert(Vec::from_slice(alloc, name)?, self.names.len())?;
+        self.names.push(Vec::from_slice(alloc, name)?)?;
         self.definitions.push(definition)?;
         self.weights.push(weight)?;
         self.lengths.push(lengths)?;

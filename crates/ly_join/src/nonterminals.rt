@@ -1,28 +1,33 @@
-ghost use Rattle.std.specs.Prelude.{◌≡◌, ◌<◌, [], length, IfOk, Contains, MatchOption, slice_get, Some};
+ghost use Rattle.std.specs.Prelude.{◌≡◌, ◌<◌, [], length, IfOk, Contains, slice_get, Some};
 ghost use Rattle.std.specs.Str.{bytes_eq};
 ghost use Rattle.ly_join.specs.Private.Numbering.{with_one};
+ghost use Rattle.ly_join.specs.Private.Tables.{IsFoundAs};
 
 use crate::terminal::next_number;
-use indexmap::IndexSet;
 use ly_base::{OutOfMemory, Sym};
 use std::alloc::Global;
+use std::collections::HashMap;
 use std::marker::Model;
 
 /// The names of nonterminals, numbered as they came, each once.
 #[derive(Drop)]
 pub(crate) struct Nonterminals {
     /// The names.
-    names: IndexSet<Vec<u8>>,
+    names: Vec<Vec<u8>>,
+    /// The number of each.
+    numbers: HashMap<Vec<u8>, Sym>,
 }
 
 impl Model for Nonterminals {
     ghost use Rattle.std.specs.Prelude.{ℕ, List, map, length, ◌<◌, ◌^◌};
+    ghost use Rattle.ly_join.specs.Private.Tables.{AreFound};
 
     ghost Value = { List (List ℕ) };
 
-    ghost view = { λ n. map (λ k. k.items) n.names.keys };
+    ghost view = { λ n. map (λ k. k.items) n.names.items };
 
-    ghost invariant = { λ n. length n.names.keys < 2 ^ 32 };
+    ghost invariant = { λ n. (length n.names.items < 2 ^ 32)
+        × AreFound (λ k. k.items) (λ name. name) (map (λ k. k.items) n.names.items) n.numbers.entries };
 }
 
 impl Nonterminals {
@@ -31,7 +36,8 @@ impl Nonterminals {
         ensures { result ≡ [] }
     {
         Nonterminals {
-            names: IndexSet::new(alloc),
+            names: Vec::new(alloc),
+            numbers: HashMap::new(alloc),
         }
     }
 
@@ -52,10 +58,9 @@ impl Nonterminals {
 
     /// The number of a name, if it is there.
     pub(crate) fn find(&self, name: &[u8]) -> Option<Sym>
-        ensures { MatchOption result (Contains self.now name.now → ⊥) (λ n. slice_get self.now n.0 ≡ Some name.now) }
+        ensures { IsFoundAs self.now name.now result }
     {
-        let number = self.names.get_index_of(name)?;
-        Some(Sym(number as u32))
+        self.numbers.get(name).copied()
     }
 
     /// The number of a name that is there.
@@ -74,8 +79,12 @@ impl Nonterminals {
     ) -> Result<Nonterminals, OutOfMemory>
         ensures { IfOk result (λ n. n ≡ with_one bytes_eq self name.now) }
     {
-        next_number(self.names.len())?;
-        self.names.insert(Vec::from_slice(alloc, name)?)?;
+        if self.find(name).is_some() {
+            return Ok(self);
+        }
+        let number = next_number(self.names.len())?;
+        self.numbers.insert(Vec::from_slice(alloc, name)?, number)?;
+        self.names.push(Vec::from_slice(alloc, name)?)?;
         Ok(self)
     }
 }

@@ -4,10 +4,10 @@ ghost use Rattle.ly_join.specs.Terminals.{token as token_terminal, IsNumbered, I
 ghost use Rattle.ly_join.specs.Private.Numbering.{with_one};
 ghost use Rattle.ly_join.specs.Private.Tables.{terminal_of, IsFoundAs};
 
-use indexmap::IndexMap;
 use ly_base::{OutOfMemory, Sym};
 use ly_yaccread::SymbolName;
 use std::alloc::Global;
+use std::collections::HashMap;
 use std::marker::Model;
 
 /// What a terminal of a grammar is.
@@ -29,7 +29,7 @@ pub(crate) struct Terminals {
     /// What each terminal is.
     names: Vec<TerminalName>,
     /// The numbers of the tokens with a name.
-    tokens: IndexMap<Vec<u8>, Sym>,
+    tokens: HashMap<Vec<u8>, Sym>,
     /// The number of the literal of each byte, if there is one.
     literals: Vec<Option<Sym>>,
 }
@@ -60,7 +60,7 @@ impl Terminals {
         names.push(TerminalName::Undefined)?;
         Ok(Terminals {
             names,
-            tokens: IndexMap::new(alloc),
+            tokens: HashMap::new(alloc),
             literals: vec![in alloc; None; 256]?,
         })
     }

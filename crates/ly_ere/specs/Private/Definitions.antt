@@ -1,7 +1,9 @@
 -- Texts of definitions as they are read and placed.
 use Rattle.std.specs.Prelude.{◌≡◌, ◌≢◌, ◌⊎◌, ℕ, ◌<◌, List, [], All, map, length, slice_get, slice_index_or}
 use Rattle.std.specs.Prelude.{None, Some, Contains}
+use Rattle.std.specs.Map.{lookup}
 use Rattle.std.specs.Option.{ForSome}
+use Rattle.std.specs.Str.{bytes_eq}
 use Rattle.ly_ere.specs.Definitions.{ArePlaced, DefinedText, HasText, IsNoText}
 use Rattle.ly_ere.specs.Expression.{Expression, empty}
 use Rattle.ly_ere.specs.Names.{Definition, number_of}
@@ -50,3 +52,7 @@ pub record ArePlacing (list : List DefinedText) (order : List ℕ) (names : List
     pub found : (n : ℕ) (d : DefinedText) → slice_get list n ≡ Some d → Contains order n
         → number_of names d.name ≡ Some (slice_index_or numbers n 0)
     pub only : (n : ℕ) (d : DefinedText) → slice_get list n ≡ Some d → number_of names d.name ≢ None → Contains order n
+
+-- the numbers of definitions by their names
+abbrev pub AreNumbers : {K : Type 0} → (K → List ℕ) → List Definition → List (K × ℕ) → Type 0
+AreNumbers name_of names by_name = (n : List ℕ) → lookup (λ k. bytes_eq n (name_of k)) by_name ≡ number_of names n

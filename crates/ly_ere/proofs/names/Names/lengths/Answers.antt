@@ -7,5 +7,5 @@ pub returns : goal.returns
 returns c = rw (
   c.deref.ensures.value,
   ← ap defined c.self.view_is,
-  defined_zip (λ k. k.items) c.self.inside.names.keys c.self.inside.definitions.items c.self.invariant.0,
+  defined_zip (λ k. k.items) c.self.inside.names.items c.self.inside.definitions.items c.self.invariant.0,
 ) c.self.invariant.3

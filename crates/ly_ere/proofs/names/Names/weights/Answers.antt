@@ -8,6 +8,6 @@ returns c = rw (
   c.deref.ensures.value,
   ← ap defined c.self.view_is,
   defined_zip
-      (λ k. k.items) c.self.inside.names.keys _ c.self.invariant.0,
+      (λ k. k.items) c.self.inside.names.items _ c.self.invariant.0,
 )
     c.self.invariant.2
