@@ -20,7 +20,8 @@ use Rattle.ly_words.specs.declared.command.Command.{Command}
 use Rattle.ly_words.specs.declared.command.Command.TheVariants as command
 use Rattle.lytab.specs.Answering.{IsAnsweredByFiles, IsAnsweredByTables, AreTokensPrinted, text_from}
 use Rattle.lytab.specs.Completion.{completion_status}
-use Rattle.lytab.specs.Failure.{IsOfWriter, failure_status}
+use Rattle.lytab.specs.Devices.{IsLeftOrFailed}
+use Rattle.lytab.specs.Failure.{failure_status}
 use Rattle.lytab.specs.declared.completion.Completion.{Completion}
 use Rattle.lytab.specs.declared.completion.Completion.TheVariants.{Done, FilesRefused}
 use Rattle.lytab.specs.declared.failure.Failure.{Failure}
@@ -87,22 +88,27 @@ IsCarriedOut (command.Build paths version) given before after c = IsBuildTold ve
 IsCarriedOut (command.Check tables) given before after c = IsCheckTold before after c
 IsCarriedOut (command.Explain paths) given before after c = IsExplanationTold before after c
 
--- a command was completed that asks for this, with the status of its completion
-pub record IsCompleted (request : Request) (given before after : Option (List ℕ)) (status : ℕ) : Type 0 where
+-- a command was completed that asks for this, with the status of its completion; standard output's count of failures is
+-- as it was
+pub record IsCompleted (request : Request) (given before after : Option (List ℕ)) (failures new_failures status : ℕ)
+    : Type 0 where
   pub command : Command
   pub says : said command ≡ request
   pub completion : Completion
   pub carried_out : IsCarriedOut command given before after completion
   pub is_status : status ≡ completion_status completion
+  pub held : new_failures ≡ failures
 
--- It failed, with the status of a failure, or of want of memory for its line; and nothing was written, where that isn't
--- a failed write. Statuses 1 and 2 are no failed write's. Status 3 may be, so there this says nothing of what was
--- written.
-pub record HasFailed (before after : Option (List ℕ)) (status : ℕ) : Type 0 where
+-- It failed, with the status of a failure, or 3 where there is no memory for its line. Standard output and its count of
+-- failures are as they were, or a write to it failed: the count went on by one, and the status is 3, that of a failed
+-- write. So standard output is as it was with status 1 or 2, and with any where its count of failures is.
+pub record HasFailed (before after : Option (List ℕ)) (failures new_failures status : ℕ) : Type 0 where
   pub failure : Failure
   pub is_status : (status ≡ failure_status failure) ⊎ (status ≡ 3)
-  pub untouched : (IsOfWriter failure → ⊥) → after ≡ before
+  pub output : IsLeftOrFailed before after failures new_failures failure
 
-abbrev pub HasPerformed : Request → Option (List ℕ) → Option (List ℕ) → Option (List ℕ) → ℕ → Type 0
-HasPerformed request given before after status =
-    IsCompleted request given before after status ⊎ HasFailed before after status
+-- with what standard input had left, and what stood on standard output and its count of failures before and after
+abbrev pub HasPerformed : Request → Option (List ℕ) → Option (List ℕ) → Option (List ℕ) → ℕ → ℕ → ℕ → Type 0
+HasPerformed request given before after failures new_failures status =
+    IsCompleted request given before after failures new_failures status
+    ⊎ HasFailed before after failures new_failures status

@@ -1,5 +1,5 @@
 -- Which failures of devices are told: by how often they had failed before a call and after it.
-use Rattle.std.specs.Prelude.{◌≡◌, ℕ, IfErr, MatchResult, OnOk, Result}
+use Rattle.std.specs.Prelude.{◌≡◌, ◌⊎◌, ℕ, IfErr, MatchResult, OnOk, Result}
 use Rattle.ly_base.specs.Device.{next_count}
 use Rattle.lytab.specs.Failure.{IsOfReader, IsOfWriter}
 use Rattle.lytab.specs.declared.completion.Completion.{Completion}
@@ -9,6 +9,18 @@ use Rattle.lytab.specs.declared.failure.Failure.{Failure}
 pub record AreWritesTold (result : Result Completion Failure) (before after : ℕ) : Type 0 where
   pub failed : IfErr result (λ f. IsOfWriter f → after ≡ next_count before)
   pub held : OnOk result (after ≡ before)
+
+-- A failure left what is written to, and its count of failures, as they were; or it is that of a write, which failed:
+-- the count went on by one.
+abbrev pub IsLeftOrFailed : {W : Type 0} → W → W → ℕ → ℕ → Failure → Type 0
+IsLeftOrFailed old new before after f =
+    ((after ≡ before) × (new ≡ old)) ⊎ ((after ≡ next_count before) × IsOfWriter f)
+
+-- so for a command that fails; where it is completed the count is as it was
+pub record IsOutputTold {W : Type 0} (result : Result Completion Failure) (old new : W) (before after : ℕ) : Type 0
+  where
+    pub failed : IfErr result (IsLeftOrFailed old new before after)
+    pub held : OnOk result (after ≡ before)
 
 -- that a read failed is told exactly where one did
 pub record AreReadsTold (result : Result Completion Failure) (before after : ℕ) : Type 0 where

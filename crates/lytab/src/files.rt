@@ -1,6 +1,7 @@
 //! Files, read and written whole.
 ghost use Rattle.std.specs.Prelude.{◌≡◌, ◌⊎◌, ◌<◌, ℕ, IfErr, length, OnErr, OnOk, take};
 ghost use Rattle.std.specs.Io.KnownBytes.{Appends};
+ghost use Rattle.ly_base.specs.Device.{next_count};
 
 use ly_base::{Counted, ReadFault, Sink, read_whole, write_whole};
 use std::alloc::Global;
@@ -67,6 +68,8 @@ pub fn write_to<'a, W: Sink>(
     ensures beginning { OnErr result ((written : ℕ) × (written < length bytes.now)
         × Appends (W.contents writer.old) (W.contents writer.new) (take written bytes.now)) }
     ensures failed { IfErr result (λ fault. fault ≡ FileFault.CannotWrite path.entry) }
+    ensures no_failure { OnOk result (W.failures writer.new ≡ W.failures writer.old) }
+    ensures counted { OnErr result (W.failures writer.new ≡ next_count (W.failures writer.old)) }
 {
     match write_whole(writer, bytes) {
         Ok(()) => Ok(()),

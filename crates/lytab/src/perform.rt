@@ -3,6 +3,7 @@ ghost use Rattle.ly_words.specs.CommandLine.{line_takes, request_of};
 ghost use Rattle.ly_words.specs.Paths.{AskFor};
 ghost use Rattle.ly_words.specs.Request.{Request};
 ghost use Rattle.lytab.specs.CarriedOut.{HasPerformed, IsCarriedOut};
+ghost use Rattle.lytab.specs.Devices.{IsOutputTold};
 ghost use Rattle.lytab.specs.Failure.{IsOfWriter};
 
 use crate::answering::{Rules, answer_text};
@@ -42,7 +43,8 @@ pub fn perform<F: Files, R: Source, W: Sink, E: Write>(
         → result ≤ 3 }
     ensures taken { (request : Request) → AskFor (map string_bytes words.now) request → result ≤ 3 }
     ensures performed { (request : Request) → AskFor (map string_bytes words.now) request
-        → HasPerformed request (R.remaining input.old) (W.contents output.old) (W.contents output.new) result }
+        → HasPerformed request (R.remaining input.old) (W.contents output.old) (W.contents output.new)
+        (W.failures output.old) (W.failures output.new) result }
 {
     match read_command(alloc, words) {
         Ok(command) => match carry_out(files, alloc, command, input, output) {
@@ -73,6 +75,7 @@ fn carry_out<'a, F: Files, R: Source, W: Sink>(
     ensures completed { IfOk result (IsCarriedOut command.entry (R.remaining input.old) (W.contents output.old)
         (W.contents output.new)) }
     ensures untouched { IfErr result (λ f. (IsOfWriter f → ⊥) → output.new ≡ output.old) }
+    ensures devices { IsOutputTold result output.old output.new (W.failures output.old) (W.failures output.new) }
 {
     match command {
         Command::Tokens { lex, text } => {

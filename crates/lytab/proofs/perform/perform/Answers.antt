@@ -10,6 +10,7 @@ returns-in-Ok-carry_out-clause-performed g c = λ request ask. inl (record {
   completion = c.in-Ok-carry_out.completion;
   carried_out = c.in-Ok-carry_out.ensures.completed;
   is_status = c.status.ensures;
+  held = c.in-Ok-carry_out.ensures.devices.held;
 })
 
 pub returns-in-Ok-said-clause-performed : goal.returns-in-Ok-said-clause-performed
@@ -34,5 +35,5 @@ pub returns-clause-performed : goal.returns-clause-performed
 returns-clause-performed g c = λ request ask. inr (record {
   failure = OutOfMemory;
   is_status = c.told-in-Err-OutOfMemory.ensures.status;
-  untouched = λ not. refl;
+  output = inl (refl, refl);
 })
