@@ -1,10 +1,9 @@
 //! The command `build`.
-ghost use Rattle.std.specs.Prelude.{◌≡◌, IfErr, IfOk};
+ghost use Rattle.std.specs.Prelude.{◌≡◌, IfOk};
 ghost use Rattle.ly_base.specs.Limits.{version_2};
 ghost use Rattle.ly_report.specs.Report.{counts_line};
 ghost use Rattle.lytab.specs.CarriedOut.{IsBuildTold};
 ghost use Rattle.lytab.specs.Devices.{IsOutputTold};
-ghost use Rattle.lytab.specs.Failure.{IsOfWriter};
 
 use crate::completion::Completion;
 use crate::failure::Failure;
@@ -27,7 +26,6 @@ pub fn build_tables<'a, F: Files, W: Sink>(
     output: &mut W,
 ) -> Result<Completion, Failure<'a>>
     ensures built { IfOk result (IsBuildTold version_2 version (W.contents output.old) (W.contents output.new)) }
-    ensures untouched { IfErr result (λ f. (IsOfWriter f → ⊥) → output.new ≡ output.old) }
     ensures devices { IsOutputTold result output.old output.new (W.failures output.old) (W.failures output.new) }
 {
     let lex = read_file(files, alloc, paths.lex)?;

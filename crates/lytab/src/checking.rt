@@ -1,9 +1,8 @@
 //! The command `check`.
-ghost use Rattle.std.specs.Prelude.{◌≡◌, ◌++◌, IfErr, IfOk, OnOk, string_bytes};
+ghost use Rattle.std.specs.Prelude.{◌≡◌, ◌++◌, IfOk, OnOk, string_bytes};
 ghost use Rattle.std.specs.Fmt.{decimal};
 ghost use Rattle.lytab.specs.CarriedOut.{HasCounts, IsCheckTold, set_line};
 ghost use Rattle.lytab.specs.Devices.{IsOutputTold};
-ghost use Rattle.lytab.specs.Failure.{IsOfWriter};
 
 use crate::completion::Completion;
 use crate::failure::Failure;
@@ -22,7 +21,6 @@ pub fn check_tables<'a, F: Files, W: Sink>(
     output: &mut W,
 ) -> Result<Completion, Failure<'a>>
     ensures checked { IfOk result (IsCheckTold (W.contents output.old) (W.contents output.new)) }
-    ensures untouched { IfErr result (λ f. (IsOfWriter f → ⊥) → output.new ≡ output.old) }
     ensures devices { IsOutputTold result output.old output.new (W.failures output.old) (W.failures output.new) }
 {
     let bytes = read_file(files, alloc, path)?;

@@ -1,8 +1,7 @@
 //! The command `explain`.
-ghost use Rattle.std.specs.Prelude.{◌≡◌, IfErr, IfOk};
+ghost use Rattle.std.specs.Prelude.{IfOk};
 ghost use Rattle.lytab.specs.CarriedOut.{IsExplanationTold};
 ghost use Rattle.lytab.specs.Devices.{IsOutputTold};
-ghost use Rattle.lytab.specs.Failure.{IsOfWriter};
 
 use crate::completion::Completion;
 use crate::failure::Failure;
@@ -24,7 +23,6 @@ pub fn explain_files<'a, F: Files, W: Sink>(
     output: &mut W,
 ) -> Result<Completion, Failure<'a>>
     ensures said { IfOk result (IsExplanationTold (W.contents output.old) (W.contents output.new)) }
-    ensures untouched { IfErr result (λ f. (IsOfWriter f → ⊥) → output.new ≡ output.old) }
     ensures devices { IsOutputTold result output.old output.new (W.failures output.old) (W.failures output.new) }
 {
     let lex = read_or_say_why(files, alloc, paths.lex)?;

@@ -1,10 +1,9 @@
-ghost use Rattle.std.specs.Prelude.{◌≡◌, ◌≤◌, IfErr, IfOk, IsSome, map, string_bytes, true};
+ghost use Rattle.std.specs.Prelude.{◌≡◌, ◌≤◌, IfOk, IsSome, map, string_bytes, true};
 ghost use Rattle.ly_words.specs.CommandLine.{line_takes, request_of};
 ghost use Rattle.ly_words.specs.Paths.{AskFor};
 ghost use Rattle.ly_words.specs.Request.{Request};
 ghost use Rattle.lytab.specs.CarriedOut.{HasPerformed, IsCarriedOut};
 ghost use Rattle.lytab.specs.Devices.{IsOutputTold};
-ghost use Rattle.lytab.specs.Failure.{IsOfWriter};
 
 use crate::answering::{Rules, answer_text};
 use crate::building::build_tables;
@@ -74,7 +73,6 @@ fn carry_out<'a, F: Files, R: Source, W: Sink>(
 ) -> Result<Completion, Failure<'a>>
     ensures completed { IfOk result (IsCarriedOut command.entry (R.remaining input.old) (W.contents output.old)
         (W.contents output.new)) }
-    ensures untouched { IfErr result (λ f. (IsOfWriter f → ⊥) → output.new ≡ output.old) }
     ensures devices { IsOutputTold result output.old output.new (W.failures output.old) (W.failures output.new) }
 {
     match command {
