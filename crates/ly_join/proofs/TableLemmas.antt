@@ -13,7 +13,7 @@ use Rattle.std.proofs.lemmas.List.Elements.{Contains-push_cases}
 use Rattle.ly_base.specs.Keys.{PutsAt}
 use Rattle.ly_base.specs.declared.numbers.Sym.{Sym}
 use Rattle.ly_join.specs.Terminals.{TerminalName, end, undefined, token, byte, same_terminal}
-use Rattle.ly_join.specs.Private.Tables.{AreFound, AreTables, IsFoundAs}
+use Rattle.ly_join.specs.Private.Tables.{AreFoundByName, AreTables, IsFoundAs}
 use Rattle.ly_base.proofs.MemberLemmas.{Contains-cons_cases, Contains-one}
 use Rattle.ly_base.proofs.ListLemmas.{slice_get-append, slice_get-behind}
 use Rattle.ly_join.proofs.ListLemmas.{member_at}
@@ -66,8 +66,8 @@ found_last all x s next = subst (λ n. slice_get (all ++ x ∷ []) n ≡ Some x)
 -- the numbers by name, with one name more
 pub found_more : {K X : Type 0} (name_of : K → List ℕ) (symbol : List ℕ → X)
     (one : (m n : List ℕ) → symbol m ≡ symbol n → m ≡ n) (all : List X) (before after : List (K × Sym)) (s : Sym)
-    (name : List ℕ) → s.0 ≡ length all → PutsAt name_of name s before after → AreFound name_of symbol all before
-    → AreFound name_of symbol (all ++ symbol name ∷ []) after
+    (name : List ℕ) → s.0 ≡ length all → PutsAt name_of name s before after → AreFoundByName name_of symbol all before
+    → AreFoundByName name_of symbol (all ++ symbol name ∷ []) after
 found_more name_of symbol one all before after s name next put found n = by (cases_Bool (bytes_eq n name))
   where
     here : Option Sym

@@ -20,14 +20,14 @@ pub(crate) struct Nonterminals {
 
 impl Model for Nonterminals {
     ghost use Rattle.std.specs.Prelude.{ℕ, List, map, length, ◌<◌, ◌^◌};
-    ghost use Rattle.ly_join.specs.Private.Tables.{AreFound};
+    ghost use Rattle.ly_join.specs.Private.Tables.{AreFoundByName};
 
     ghost Value = { List (List ℕ) };
 
     ghost view = { λ n. map (λ k. k.items) n.names.items };
 
     ghost invariant = { λ n. (length n.names.items < 2 ^ 32)
-        × AreFound (λ k. k.items) (λ name. name) (map (λ k. k.items) n.names.items) n.numbers.entries };
+        × AreFoundByName (λ k. k.items) (λ name. name) (map (λ k. k.items) n.names.items) n.numbers.entries };
 }
 
 impl Nonterminals {
