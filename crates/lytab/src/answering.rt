@@ -1,11 +1,12 @@
 //! The commands that answer a text.
-ghost use Rattle.std.specs.Prelude.{◌≡◌, IfErr, IfOk, IsSome, None, Ok};
+ghost use Rattle.std.specs.Prelude.{◌≡◌, IfErr, IfOk, IsSome, None, Ok, OnOk};
 ghost use Rattle.std.specs.Io.KnownBytes.{IsAtEnd};
 ghost use Rattle.lytab.specs.Answering.{AreTokensBegun, AreTokensPrinted, IsAnswerBegun, IsAnswered};
 ghost use Rattle.lytab.specs.Answering.{IsAnsweredByFiles, IsAnsweredByTables, IsBegunByFiles, IsBegunByTables};
 ghost use Rattle.lytab.specs.Answering.{text_from};
 ghost use Rattle.lytab.specs.Devices.{AreDevicesTold, AreWritesTold};
 ghost use Rattle.lytab.specs.Failure.{IsOfWriter};
+ghost use Rattle.lytab.specs.Reading.{IsOfRules, IsReadByFiles, IsReadByTables, IsTextRead};
 ghost use Rattle.lytab.specs.Refusal.{IsRefusalOf, IsRefusalOfFiles, IsRefusalOfLex, IsRefusalOfTables};
 ghost use Rattle.lytab.specs.declared.completion.Completion.TheVariants as completion;
 
@@ -53,6 +54,8 @@ pub fn answer_text<'a, F: Files, R: Source, W: Sink>(
     ensures beginning { IfErr result (λ f. IsOfWriter f → IsAnswerBegun rules.entry
         (text_from text.entry (R.remaining input.old)) (W.contents output.old) (W.contents output.new)) }
     ensures untouched { IfErr result (λ f. (IsOfWriter f → ⊥) → output.new ≡ output.old) }
+    ensures needed { text.entry ≡ None → IsTextRead rules.entry result input.old input.new (R.remaining input.old)
+        (R.remaining input.new) }
     ensures ended { text.entry ≡ None → result ≡ Ok completion.Done → IsAtEnd (R.remaining input.new) }
 {
     match text {
@@ -80,6 +83,8 @@ fn answer_by<'a, R: Source, W: Sink>(
     ensures beginning { IfErr result (λ f. IsOfWriter f → IsAnswerBegun rules.entry (R.remaining reader.old)
         (W.contents writer.old) (W.contents writer.new)) }
     ensures untouched { IfErr result (λ f. (IsOfWriter f → ⊥) → writer.new ≡ writer.old) }
+    ensures needed { IsTextRead rules.entry result reader.old reader.new (R.remaining reader.old)
+        (R.remaining reader.new) }
     ensures ended { result ≡ Ok completion.Done → IsAtEnd (R.remaining reader.new) }
 {
     match rules {
@@ -105,6 +110,8 @@ fn print_tokens<'a, R: Source, W: Sink>(
     ensures beginning { IfErr result (λ f. IsOfWriter f → AreTokensBegun lex.now (R.remaining reader.old)
         (W.contents writer.old) (W.contents writer.new)) }
     ensures untouched { IfErr result (λ f. (IsOfWriter f → ⊥) → writer.new ≡ writer.old) }
+    ensures unread { IfErr result (λ f. IsOfRules f → reader.new ≡ reader.old) }
+    ensures needed { OnOk result (IsAtEnd (R.remaining reader.new)) }
     ensures ended { result ≡ Ok completion.Done → IsAtEnd (R.remaining reader.new) }
 {
     match tokens(alloc, lex, reader, writer) {
@@ -134,6 +141,8 @@ fn answer_by_tables<'a, R: Source, W: Sink>(
     ensures beginning { IfErr result (λ f. IsOfWriter f → IsBegunByTables tables.now (R.remaining reader.old)
         (W.contents writer.old) (W.contents writer.new)) }
     ensures untouched { IfErr result (λ f. (IsOfWriter f → ⊥) → writer.new ≡ writer.old) }
+    ensures unread { IfErr result (λ f. IsOfRules f → reader.new ≡ reader.old) }
+    ensures needed { IsReadByTables tables.now result (R.remaining reader.old) (R.remaining reader.new) }
     ensures ended { result ≡ Ok completion.Done → IsAtEnd (R.remaining reader.new) }
 {
     match drive(alloc, tables, reader, writer) {
@@ -164,6 +173,9 @@ fn answer_by_files<'a, R: Source, W: Sink>(
     ensures beginning { IfErr result (λ f. IsOfWriter f → IsBegunByFiles lex.now yacc.now (R.remaining reader.old)
         (W.contents writer.old) (W.contents writer.new)) }
     ensures untouched { IfErr result (λ f. (IsOfWriter f → ⊥) → writer.new ≡ writer.old) }
+    ensures unread { IfErr result (λ f. IsOfRules f → reader.new ≡ reader.old) }
+    ensures needed { IsReadByFiles lex.now yacc.now result reader.old reader.new (R.remaining reader.old)
+        (R.remaining reader.new) }
     ensures ended { result ≡ Ok completion.Done → IsAtEnd (R.remaining reader.new) }
 {
     match answer(alloc, lex, yacc, reader, writer) {

@@ -5,3 +5,9 @@ returns-in-Both-clause-answered g c = rw c.in-Both.is c.answer_by_files.ensures.
 
 pub returns-in-Both-clause-beginning : goal.returns-in-Both-clause-beginning
 returns-in-Both-clause-beginning g c = rw c.in-Both.is c.answer_by_files.ensures.beginning
+
+pub returns-in-Both-clause-needed : goal.returns-in-Both-clause-needed
+returns-in-Both-clause-needed g c = record {
+  unread = c.answer_by_files.ensures.unread;
+  needed = rw c.in-Both.is c.answer_by_files.ensures.needed;
+}

@@ -3,3 +3,21 @@ use Rattle.lytab.proofs.answering.answer_by_tables.Goals as goal
 
 pub returns-in-Err-Tables-clause-refused : goal.returns-in-Err-Tables-clause-refused
 returns-in-Err-Tables-clause-refused g c = c.in-Err-Tables.ensures.refused _ (search rules)
+
+pub returns-in-Ok-clause-needed : goal.returns-in-Ok-clause-needed
+returns-in-Ok-clause-needed g c = λ s driven not. c.in-Ok.ensures.needed s driven (search rules)
+
+pub returns-in-Err-Tables-clause-needed : goal.returns-in-Err-Tables-clause-needed
+returns-in-Err-Tables-clause-needed g c = λ s driven not. c.in-Err-Tables.ensures.needed s driven (search rules)
+
+pub returns-in-Err-TableFault-clause-needed : goal.returns-in-Err-TableFault-clause-needed
+returns-in-Err-TableFault-clause-needed g c = λ s driven not. c.in-Err-TableFault.ensures.needed s driven (search rules)
+
+pub returns-in-Err-TooLong-clause-needed : goal.returns-in-Err-TooLong-clause-needed
+returns-in-Err-TooLong-clause-needed g c = λ s driven not. c.in-Err-TooLong.ensures.needed s driven (search rules)
+
+pub returns-in-Err-Write-clause-needed : goal.returns-in-Err-Write-clause-needed
+returns-in-Err-Write-clause-needed g c = λ s driven not. c.in-Err-Write.ensures.needed s driven (search rules)
+
+pub returns-in-Err-OutOfMemory-clause-needed : goal.returns-in-Err-OutOfMemory-clause-needed
+returns-in-Err-OutOfMemory-clause-needed g c = λ s driven not. c.in-Err-OutOfMemory.ensures.needed s driven (search rules)

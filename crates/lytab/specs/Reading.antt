@@ -1,0 +1,48 @@
+-- What is read of a text.
+use Rattle.std.specs.Prelude.{◌≡◌, ◌⊎◌, ℕ, IfErr, List, MatchResult, OnOk, Option, Result}
+use Rattle.std.specs.Io.KnownBytes.{IsAtEnd}
+use Rattle.ly_base.specs.Limits.{version_2}
+use Rattle.ly_base.specs.declared.version.Version.TheVariants.{V2}
+use Rattle.ly_drive.specs.Answering.{IsDriven, IsReadAsNeeded}
+use Rattle.ly_generate.specs.Generated.{IsGenerated}
+use Rattle.ly_tables.specs.TableSet.{TableSet}
+use Rattle.lytab.specs.Failure.{IsOfReader}
+use Rattle.lytab.specs.declared.answering.Rules.{Rules}
+use Rattle.lytab.specs.declared.answering.Rules.TheVariants as rules
+use Rattle.lytab.specs.declared.completion.Completion.{Completion}
+use Rattle.lytab.specs.declared.failure.Failure.{Failure}
+use Rattle.lytab.specs.declared.failure.Failure.TheVariants.{Refused, Tables}
+
+-- a read failed
+abbrev pub HasReadFailed : Result Completion Failure → Type 0
+HasReadFailed result = MatchResult result (λ c. ⊥) IsOfReader
+
+-- the files that a text is answered by are refused
+abbrev pub IsOfRules : Failure → Type 0
+IsOfRules (Refused fault) = Unit {0}
+IsOfRules (Tables fault) = Unit {0}
+IsOfRules _ = ⊥
+
+-- where a table file's set answers: no more than the answer asks for, and at most 4,096 bytes behind, where no read failed
+abbrev pub IsReadByTables : List ℕ → Result Completion Failure → Option (List ℕ) → Option (List ℕ) → Type 0
+IsReadByTables tables result before after = (s : TableSet) → IsDriven tables s → (HasReadFailed result → ⊥)
+    → IsReadAsNeeded 4096 s before after
+
+-- where that answers which is made of a lex file and a yacc file; or the reader is as it was
+abbrev pub IsReadByFiles : {R : Type 0} → List ℕ → List ℕ → Result Completion Failure → R → R → Option (List ℕ)
+    → Option (List ℕ) → Type 0
+IsReadByFiles lex yacc result old new before after = (HasReadFailed result → ⊥) → (new ≡ old)
+    ⊎ ((s : TableSet) × IsGenerated V2 version_2 lex yacc s × IsReadAsNeeded 4096 s before after)
+
+-- what these rules ask for: all of a text whose tokens are printed
+abbrev pub IsReadBy : {R : Type 0} → Rules → Result Completion Failure → R → R → Option (List ℕ) → Option (List ℕ)
+    → Type 0
+IsReadBy (rules.Tokens lex) result old new before after = OnOk result (IsAtEnd after)
+IsReadBy (rules.Tables tables) result old new before after = IsReadByTables tables.now result before after
+IsReadBy (rules.Both lex yacc) result old new before after = IsReadByFiles lex.now yacc.now result old new before after
+
+-- A reader is as it was where the files are refused, and else it gave what these rules ask for.
+pub record IsTextRead {R : Type 0} (by : Rules) (result : Result Completion Failure) (old new : R)
+    (before after : Option (List ℕ)) : Type 0 where
+  pub unread : IfErr result (λ f. IsOfRules f → new ≡ old)
+  pub needed : IsReadBy by result old new before after
