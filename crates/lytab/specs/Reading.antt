@@ -23,12 +23,13 @@ IsOfRules (Refused fault) = Unit {0}
 IsOfRules (Tables fault) = Unit {0}
 IsOfRules _ = ⊥
 
--- where a table file's set answers: no more than the answer asks for, and at most 4,096 bytes behind, where no read failed
+-- Where a table file's set answers: no more than the answer asks for, and at most 4,096 bytes behind, where no read
+-- failed.
 abbrev pub IsReadByTables : List ℕ → Result Completion Failure → Option (List ℕ) → Option (List ℕ) → Type 0
 IsReadByTables tables result before after = (s : TableSet) → IsDriven tables s → (HasReadFailed result → ⊥)
     → IsReadAsNeeded 4096 s before after
 
--- where that answers which is made of a lex file and a yacc file; or the reader is as it was
+-- Where that answers which is made of a lex file and a yacc file; or the reader is as it was.
 abbrev pub IsReadByFiles : {R : Type 0} → List ℕ → List ℕ → Result Completion Failure → R → R → Option (List ℕ)
     → Option (List ℕ) → Type 0
 IsReadByFiles lex yacc result old new before after = (HasReadFailed result → ⊥) → (new ≡ old)

@@ -20,4 +20,5 @@ pub returns-in-Err-Write-clause-needed : goal.returns-in-Err-Write-clause-needed
 returns-in-Err-Write-clause-needed g c = λ s driven not. c.in-Err-Write.ensures.needed s driven (search rules)
 
 pub returns-in-Err-OutOfMemory-clause-needed : goal.returns-in-Err-OutOfMemory-clause-needed
-returns-in-Err-OutOfMemory-clause-needed g c = λ s driven not. c.in-Err-OutOfMemory.ensures.needed s driven (search rules)
+returns-in-Err-OutOfMemory-clause-needed g c = λ s driven not.
+    c.in-Err-OutOfMemory.ensures.needed s driven (search rules)
