@@ -21,7 +21,6 @@ use Rattle.ly_ere.proofs.PlaceLemmas.{number_new, number_other}
 use Rattle.ly_ere.proofs.SoundLemmas.{sound_below}
 use Rattle.ly_ere.proofs.WeightLemmas.{weights_push}
 
--- an option, or else nothing
 -- What is kept of some definitions, and of those with one more.
 module _ {K : Type 0} (f : K → List ℕ) (ks js : List K) (es ds : List Expression) (ns : List Definition) (k : K)
     (e : Expression) (view : zip (map f ks) es ≡ ns) (even : length ks ≡ length es) (keys : js ≡ ks ++ k ∷ [])

@@ -1,4 +1,4 @@
--- Terminals that are the same, and the tables of their numbers.
+-- Terminals that are the same, and the tables of symbols' numbers.
 use Rattle.std.proofs.Common.{◌≡◌, ◌<◌, ◌+◌, ◌^◌, ℕ, List, [], ◌∷◌, ◌++◌, true, false, cond, rules}
 use Rattle.std.proofs.Common.{Contains, Option, Some, None, refl, sym, ap, subst, ◌∙◌, arith, inl, inr, ◌⊎◌, true≢false}
 use Rattle.std.proofs.Common.{length, slice_get, slice_index_or, length-set, lit<}
