@@ -1,7 +1,1 @@
-pub mod Demands
-pub mod Doubts
-pub mod Examples
-pub mod Laws
-pub mod Openings
-pub mod Private
-pub mod Sentences
+pub mod Explained

@@ -1,48 +1,14 @@
-//! What is found out about two files that are accepted, as values: examples of their conflicts, and what is of no use
-//! in them.
+//! From a lex file and a yacc file to what is said of them to people, whether they are accepted or not: `explain`.
 //!
-//! A conflict's prefix is the least string that leads to its state, and often only one of the two actions is possible
-//! there: lookaheads are merged. An example is a string of the same core at which the rule, complete, is valid with
-//! the terminal, and so is what stands against it (`IsExample`, Knuth 1965). `Examples::of` seeks one backwards from
-//! the state, over demands (`Demand`): a state, and two claims on items there. Popping a symbol moves the dots of both;
-//! a rule with nothing before its dot is valid because of an item that waits for its left side, and there the terminal
-//! begins what stands behind, or is handed up. Where no example is, only merging made the conflict.
+//! Of files that are refused it says each fault that can be told apart (`ly_refused`), and of files that are accepted
+//! what is known of them (`ly_accepted`). `explain` says whether the files are accepted (`IsExplained`). How things are
+//! worded is tested alone.
 //!
-//! `unmatched_rules` lists the rules of the lex file that never match (`NeverMatches`): they win at no place of any
-//! text (`MatchedWin`). `unreduced_rules` lists the useful rules of the grammar by which nothing is reduced
-//! (`NeverReduces`), `unused_terminals` the tokens and literals that stand in no rule (`IsUnused`), and
-//! `unreturned_terminals` those that come of no match (`IsUnreturned`). Each goes once over what it asks about: the
-//! states, the rows, the rules; from which states a string leads to a rule that returns its first byte is one pass
-//! along the moves.
-//!
-//! Left out: which conflicts there are, which rules are removed, what is told of them, that no shorter string is an
-//! example, and sentences with two trees.
+//! Left out: files and devices, which are the program's.
 #![tactic(auto)]
 
-mod claim;
-mod example;
-mod first_bytes;
-mod found;
-mod ground;
-mod halt;
-mod incoming;
-mod laws;
-mod lists;
-mod marks;
-mod rest;
-mod search;
-mod sentences;
-mod steps;
-mod unmatched;
-mod unreduced;
-mod unreturned;
-mod unused;
+mod explaining;
 
-pub use claim::{Claim, Demand};
-pub use example::{Example, Examples};
-pub use laws::{examples_follow, matched_rules_win, shifts_have_examples};
-pub use sentences::ambiguous_sentence;
-pub use unmatched::unmatched_rules;
-pub use unreduced::unreduced_rules;
-pub use unreturned::unreturned_terminals;
-pub use unused::unused_terminals;
+pub use explaining::explain;
+pub use ly_accepted::{Explanation, Wish};
+pub use ly_page::Named;

@@ -5,12 +5,12 @@ use Rattle.std.specs.Fmt.{decimal}
 use Rattle.std.specs.Io.KnownBytes.{Appends}
 use Rattle.ly_base.specs.Limits.{Sizes, least_of, sizes_in, version_2}
 use Rattle.ly_base.specs.declared.version.Version.{Version}
-use Rattle.ly_explanation.specs.Explained.{IsExplained}
+use Rattle.ly_explain.specs.Explained.{IsExplained}
 use Rattle.ly_generate.specs.Generated.{IsGenerated}
 use Rattle.ly_report.specs.Counts.{AreCounts}
 use Rattle.ly_report.specs.Report.{counts_line}
 use Rattle.ly_report.specs.declared.counts.ConflictCounts.{ConflictCounts}
-use Rattle.ly_survey.specs.declared.surveying.Explanation.{Explanation}
+use Rattle.ly_accepted.specs.declared.surveying.Explanation.{Explanation}
 use Rattle.ly_tables.specs.TableSet.{TableSet}
 use Rattle.ly_tables.specs.TableText.{TableText}
 use Rattle.ly_tables.specs.declared.set_counts.SetCounts.{SetCounts}

@@ -7,7 +7,7 @@ use crate::completion::Completion;
 use crate::failure::Failure;
 use crate::files::{FileFault, read_file, write_file};
 use ly_base::{Limits, Sink};
-use ly_explanation::{Explanation, Named, Wish, explain};
+use ly_explain::{Explanation, Named, Wish, explain};
 use ly_words::ExplainPaths;
 use std::alloc::Global;
 use std::fs;

@@ -1,0 +1,270 @@
+//! What is doubtful in files that are accepted.
+ghost use Rattle.ly_subset.specs.Automaton.{IsBreadthFirst};
+
+use crate::decided::Decided;
+use crate::patterns::{Surprise, surprises};
+use crate::places::Places;
+use crate::scanner::say_other_bytes;
+use crate::surveying::{Accepted, first_of, say_numbered};
+use ly_base::{OutOfMemory, Sym};
+use ly_examples::{unmatched_rules, unreduced_rules, unreturned_terminals, unused_terminals};
+use ly_page::{Named, Page};
+use std::alloc::Global;
+
+/// How many terminals of a kind are told, at most.
+const MOST: usize = 50;
+
+/// What doubts are told by.
+#[derive(Clone, Copy)]
+struct Teller<'a> {
+    /// The files.
+    files: Accepted<'a>,
+    /// Where symbols and rules stand.
+    places: &'a Places,
+}
+
+/// What is said of terminals.
+#[derive(Clone, Copy)]
+struct Said<'a> {
+    /// Of one.
+    one: &'a [u8],
+    /// What stands behind that.
+    of: &'a [u8],
+    /// Of more than are told.
+    more: &'a [u8],
+}
+
+/// Of those that stand in no rule's body.
+const STANDS_NOWHERE: Said<'static> = Said {
+    one: b" stands in no rule",
+    of: b"",
+    more: b"stand in no rule\n",
+};
+
+/// Says what is doubtful, a line each: first of the lex file, and then of the yacc file.
+pub(crate) fn say_doubts(
+    alloc: Global,
+    page: &mut Page,
+    files: &Accepted<'_>,
+    conditions: &[&[u8]],
+    places: &Places,
+) -> Result<(), OutOfMemory>
+    requires { IsBreadthFirst files.now.dfa.now }
+{
+    let teller = Teller {
+        files: *files,
+        places,
+    };
+    let before = page.len();
+    teller.say_of_lex(alloc, page)?;
+    teller.say_of_yacc(alloc, page)?;
+    if page.len() == before {
+        page.say(b"No doubts.\n");
+    }
+    say_other_bytes(alloc, page, files, conditions)
+}
+
+impl Teller<'_> {
+    /// Says what is doubtful in the lex file.
+    fn say_of_lex(&self, alloc: Global, page: &mut Page) -> Result<(), OutOfMemory>
+        requires { IsBreadthFirst self.now.files.dfa.now }
+    {
+        self.say_surprises(alloc, page)?;
+        self.say_indented(page);
+        self.say_unmatched(alloc, page)
+    }
+
+    /// Says what is doubtful in the yacc file.
+    fn say_of_yacc(&self, alloc: Global, page: &mut Page) -> Result<(), OutOfMemory>
+        requires { IsBreadthFirst self.now.files.dfa.now }
+    {
+        self.say_removed(page);
+        self.say_unreduced(alloc, page)?;
+        self.say_terminals(alloc, page)?;
+        self.say_declared_again(alloc, page)?;
+        self.say_undecided(alloc, page)
+    }
+
+    /// Says the place of a rule of the lex file.
+    fn say_lex_rule(&self, page: &mut Page, rule: usize) {
+        let line = self.files.file.lines.get(rule).copied().unwrap_or(1);
+        page.say_line_of(self.files.lex, line);
+    }
+
+    /// Says the place of a rule of the yacc file, and its number.
+    fn say_rule(&self, page: &mut Page, rule: usize) {
+        page.say_line_of(self.files.yacc, self.places.line_of_rule(rule));
+        say_numbered(page, b"rule ", rule as u64, b"");
+    }
+
+    /// Says the place where a terminal is named first.
+    fn say_terminal_line(&self, page: &mut Page, terminal: Sym) {
+        let line = self
+            .places
+            .line_of_terminal(self.files.spec, self.files.yacc.bytes, terminal);
+        page.say_line_of(self.files.yacc, line);
+    }
+
+    /// Says what in the patterns of the lex file means something else than it may seem to.
+    fn say_surprises(&self, alloc: Global, page: &mut Page) -> Result<(), OutOfMemory> {
+        for line in &self.files.file.lines {
+            if let Some(bytes) = self.files.lex.line(*line) {
+                say_surprise(page, self.files.lex, *line, surprises(alloc, bytes)?);
+            }
+        }
+        Ok(())
+    }
+
+    /// Says which rules of the lex file never match.
+    fn say_unmatched(&self, alloc: Global, page: &mut Page) -> Result<(), OutOfMemory>
+        requires { IsBreadthFirst self.now.files.dfa.now }
+    {
+        for rule in &unmatched_rules(alloc, self.files.file.rules.len(), self.files.dfa)? {
+            self.say_lex_rule(page, *rule);
+            page.say(b"this rule never matches: earlier rules take all that it could\n");
+        }
+        Ok(())
+    }
+
+    /// Says which rules of the grammar are removed.
+    fn say_removed(&self, page: &mut Page) {
+        let reduced = self.files.resolved.lr0().reduced();
+        for rule in 0..reduced.grammar().rules().len() {
+            if !reduced.is_kept(rule) {
+                self.say_rule(page, rule);
+                page.say(b" is of no use: no text has it\n");
+            }
+        }
+    }
+
+    /// Says which rules of the grammar are never reduced.
+    fn say_unreduced(&self, alloc: Global, page: &mut Page) -> Result<(), OutOfMemory> {
+        for rule in &unreduced_rules(alloc, self.files.resolved)? {
+            self.say_rule(page, *rule);
+            page.say(b" is never reduced: conflicts and precedence leave it nothing\n");
+        }
+        Ok(())
+    }
+
+    /// Says which terminals stand in no rule, and which of the others no rule of the lex file returns.
+    fn say_terminals(&self, alloc: Global, page: &mut Page) -> Result<(), OutOfMemory>
+        requires { IsBreadthFirst self.now.files.dfa.now }
+    {
+        let unused = unused_terminals(alloc, self.files.spec)?;
+        self.say_all_so(page, &unused, &[], STANDS_NOWHERE);
+        let unreturned = unreturned_terminals(alloc, self.files.spec, self.files.dfa)?;
+        let is_unreturned = Said {
+            one: b" is returned by no rule of ",
+            of: self.files.lex.name.as_bytes(),
+            more: b"are returned by no rule\n",
+        };
+        self.say_all_so(page, &unreturned, &unused, is_unreturned);
+        Ok(())
+    }
+
+    /// Says what is so of terminals, but of those that were told before, and of those that give a rule its precedence.
+    fn say_all_so(&self, page: &mut Page, terminals: &[Sym], told: &[Sym], so: Said<'_>) {
+        let (spec, text) = (self.files.spec, self.files.yacc.bytes);
+        let mut said = 0;
+        for terminal in terminals {
+            if told.contains(terminal) || self.places.gives_precedence(spec, text, *terminal) {
+                continue;
+            }
+            if said < MOST {
+                self.say_terminal_line(page, *terminal);
+                page.say_terminal(spec, *terminal);
+                page.say(so.one);
+                page.say(so.of);
+                page.say(b"\n");
+            }
+            said = said.saturating_add(1);
+        }
+        self.say_more(page, said, so.more);
+    }
+
+    /// Says which lines among the rules of the lex file aren't used.
+    fn say_indented(&self, page: &mut Page) {
+        for line in first_of(self.files.indented, MOST) {
+            page.say_line_of(self.files.lex, *line);
+            page.say(b"this line begins with a blank, and so is no rule: it is not used\n");
+        }
+    }
+
+    /// Says which tokens are declared more than once.
+    fn say_declared_again(&self, alloc: Global, page: &mut Page) -> Result<(), OutOfMemory> {
+        let again = self.places.declared_again(alloc, self.files.yacc.bytes)?;
+        for (line, word) in first_of(&again, MOST) {
+            page.say_line_of(self.files.yacc, *line);
+            page.say(word);
+            page.say(b" is declared before\n");
+        }
+        Ok(())
+    }
+
+    /// Says which precedences decide nothing: those of terminals, and those that a `%prec` gives.
+    fn say_undecided(&self, alloc: Global, page: &mut Page) -> Result<(), OutOfMemory> {
+        let decided = Decided::of(alloc, self.files.resolved)?;
+        self.say_undecided_terminals(page, &decided);
+        self.say_undecided_rules(page, &decided);
+        Ok(())
+    }
+
+    /// Says which precedences of terminals decide nothing.
+    fn say_undecided_terminals(&self, page: &mut Page, decided: &Decided) {
+        let spec = self.files.spec;
+        let mut said = 0;
+        for number in 0..spec.grammar().terminals() {
+            let ranked = matches!(spec.precedences().get(number as usize), Some(Some(_)));
+            if ranked && said < MOST && !decided.by_terminal(spec, Sym(number)) {
+                self.say_terminal_line(page, Sym(number));
+                page.say(b"the precedence of ");
+                page.say_terminal(spec, Sym(number));
+                page.say(b" decides nothing\n");
+                said = said.saturating_add(1);
+            }
+        }
+    }
+
+    /// Says which rules have a `%prec` that decides nothing.
+    fn say_undecided_rules(&self, page: &mut Page, decided: &Decided) {
+        for rule in first_of(self.places.ranked_rules(), MOST) {
+            if !decided.by_rule(*rule) {
+                page.say_line_of(self.files.yacc, self.places.line_of_rule(*rule));
+                say_numbered(
+                    page,
+                    b"the %prec of rule ",
+                    *rule as u64,
+                    b" decides nothing\n",
+                );
+            }
+        }
+    }
+
+    /// Says of how many terminals more the same is so.
+    fn say_more(&self, page: &mut Page, count: usize, so: &[u8]) {
+        if count > MOST {
+            page.say(self.files.yacc.name.as_bytes());
+            say_numbered(page, b": ", (count - MOST) as u64, b" terminals more ");
+            page.say(so);
+        }
+    }
+}
+
+/// Says what is surprising in the pattern on a line of the lex file.
+fn say_surprise(page: &mut Page, lex: Named<'_>, line: u64, found: Surprise) {
+    if let Some(letter) = found.letter {
+        page.say_line_of(lex, line);
+        page.say(b"\\");
+        page.say(&[letter]);
+        page.say(b" is the letter ");
+        page.say(&[letter]);
+        page.say(b" in a pattern; a class of bytes is written as [[:digit:]] or [0-9]\n");
+    }
+    if found.interval {
+        page.say_line_of(lex, line);
+        page.say(
+            b"the interval repeats all that stands before it, not its last piece alone, as POSIX has it; \
+            write parentheses around what is to be repeated\n",
+        );
+    }
+}

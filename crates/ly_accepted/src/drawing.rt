@@ -1,0 +1,430 @@
+//! How an action comes about behind a string of symbols: the rules that are under way there, drawn with brackets.
+use crate::bodies::{behind_dot, body_of, rest_of};
+use indexmap::{IndexMap, IndexSet};
+use ly_base::{OutOfMemory, StateNo, Sym};
+use ly_examples::Claim;
+use ly_grammar::Reduced;
+use ly_join::{Grammar, Spec, Symbol};
+use ly_lr0::{Item, Lr0};
+use ly_page::Page;
+use std::alloc::{AllocError, Global};
+
+/// How many claims are looked at, at most, to find how an action comes about.
+const MOST: usize = 50_000;
+
+/// A string of symbols behind which an action is drawn.
+#[derive(Drop)]
+pub(crate) struct Drawing<'a> {
+    /// What is known of the grammar.
+    reduced: &'a Reduced<'a>,
+    /// The grammar.
+    grammar: &'a Grammar,
+    /// The string, its first symbol first.
+    string: &'a [Symbol],
+    /// What stands next.
+    terminal: Sym,
+    /// For each beginning of the string, the empty one first, the items of its core.
+    cores: Vec<Vec<Item>>,
+}
+
+/// A claim on a beginning of the string.
+#[derive(Clone, Copy, PartialEq, Eq, Hash)]
+struct Claimed {
+    /// How many symbols the beginning has.
+    length: usize,
+    /// What is claimed of it.
+    claim: Claim,
+}
+
+/// A rule that begins behind a beginning of the string.
+#[derive(Clone, Copy, PartialEq, Eq, Hash)]
+struct Opening {
+    /// How many symbols the beginning has.
+    length: usize,
+    /// The left side of the rule.
+    left: Sym,
+    /// Whether it is claimed with any terminal.
+    in_core: bool,
+}
+
+/// The claims that were found on the way back to the start.
+#[derive(Drop)]
+struct Search {
+    /// Each with the place of the one that is true by it.
+    found: IndexMap<Claimed, usize>,
+    /// The openings of those that were looked at.
+    opened: IndexSet<Opening>,
+}
+
+impl<'a> Drawing<'a> {
+    /// What is drawn behind this string.
+    pub(crate) fn new(
+        alloc: Global,
+        lr0: &'a Lr0<'a>,
+        string: &'a [Symbol],
+        terminal: Sym,
+    ) -> Result<Drawing<'a>, OutOfMemory> {
+        let mut cores = Vec::new(alloc);
+        push_cores(alloc, lr0, string, &mut cores)?;
+        let reduced = lr0.reduced();
+        Ok(Drawing {
+            reduced,
+            grammar: reduced.grammar(),
+            string,
+            terminal,
+            cores,
+        })
+    }
+
+    /// The way to a claim behind the string: the items of the claims from that on the start to this one, each of which
+    /// is true by the one before it; none where that isn't found.
+    pub(crate) fn way(&self, alloc: Global, last: Claim) -> Result<Vec<Item>, OutOfMemory> {
+        let mut search = Search {
+            found: IndexMap::new(alloc),
+            opened: IndexSet::new(alloc),
+        };
+        let last = Claimed {
+            length: self.string.len(),
+            claim: last,
+        };
+        self.way_to(alloc, &mut search, last)
+    }
+
+    /// The way to a claim, found by a search that has looked at nothing.
+    fn way_to(
+        &self,
+        alloc: Global,
+        search: &mut Search,
+        last: Claimed,
+    ) -> Result<Vec<Item>, OutOfMemory> {
+        search.found.insert(last, 0)?;
+        for place in 0..MOST {
+            let Some(claimed) = search.claimed(place) else {
+                break;
+            };
+            if self.reaches_start(alloc, search, claimed, place)? {
+                return search.way_back(alloc);
+            }
+        }
+        Ok(Vec::new(alloc))
+    }
+
+    /// Adds the claims by which the one at a place is true, and answers whether that on the start is among them.
+    fn reaches_start(
+        &self,
+        alloc: Global,
+        search: &mut Search,
+        claimed: Claimed,
+        place: usize,
+    ) -> Result<bool, OutOfMemory> {
+        if search.opens_again(self.opening(claimed))? {
+            return Ok(false);
+        }
+        Ok(search.has_start(&self.before(alloc, claimed)?, place)?)
+    }
+
+    /// What a claim on a rule with nothing before its dot is true by depends on alone.
+    fn opening(&self, claimed: Claimed) -> Option<Opening> {
+        let item = item_of(claimed.claim)?;
+        if item.dot > 0 {
+            return None;
+        }
+        let rule = self.grammar.rules().get(item.rule)?;
+        Some(Opening {
+            length: claimed.length,
+            left: rule.left(),
+            in_core: matches!(claimed.claim, Claim::InCore(_)),
+        })
+    }
+
+    /// The claims by which one is true.
+    fn before(&self, alloc: Global, claimed: Claimed) -> Result<Vec<Claimed>, OutOfMemory> {
+        let mut found = Vec::new(alloc);
+        let Some(item) = item_of(claimed.claim) else {
+            return Ok(found);
+        };
+        if let (Some(dot), Some(length)) = (
+            item.dot.checked_sub(1),
+            claimed.length.checked_sub(1),
+        ) {
+            let item = Item { dot, ..item };
+            if self.string.get(length).copied() == behind_dot(self.grammar, item) {
+                let claim = with_item(claimed.claim, item);
+                found.push(Claimed { length, claim })?;
+            }
+        } else if let Some(core) = self.cores.get(claimed.length) {
+            self.push_waiting(&mut found, core, claimed, item)?;
+        }
+        Ok(found)
+    }
+
+    /// Adds the claims on the items of a core that wait for the left side of a rule with nothing before its dot.
+    fn push_waiting(
+        &self,
+        found: &mut Vec<Claimed>,
+        core: &[Item],
+        claimed: Claimed,
+        item: Item,
+    ) -> Result<(), OutOfMemory> {
+        let Some(rule) = self.grammar.rules().get(item.rule) else {
+            return Ok(());
+        };
+        let left = Symbol::Nonterminal(rule.left());
+        for waiting in core {
+            if behind_dot(self.grammar, *waiting) != Some(left) {
+                continue;
+            }
+            let (in_core, with) = self.is_true_by(claimed.claim, *waiting);
+            if in_core {
+                found.push(Claimed {
+                    claim: Claim::InCore(*waiting),
+                    ..claimed
+                })?;
+            }
+            if with {
+                found.push(Claimed {
+                    claim: Claim::With(*waiting),
+                    ..claimed
+                })?;
+            }
+        }
+        Ok(())
+    }
+
+    /// Whether a claim is true by the item that waits for its rule in the core, with any terminal, and whether by that
+    /// item with the terminal that stands next.
+    fn is_true_by(&self, claim: Claim, waiting: Item) -> (bool, bool) {
+        if let Claim::InCore(_) = claim {
+            return (true, false);
+        }
+        let rest = rest_of(self.grammar, waiting.rule, waiting.dot.saturating_add(1));
+        begin(self.reduced, rest, self.terminal)
+    }
+}
+
+impl Search {
+    /// The claim at a place; none behind so many that the search ends.
+    fn claimed(&self, place: usize) -> Option<Claimed> {
+        if self.found.len() > MOST {
+            return None;
+        }
+        let (claimed, _) = self.found.get_index(place)?;
+        Some(*claimed)
+    }
+
+    /// Whether a claim depends on an opening that was met before. A new one is met here.
+    fn opens_again(&mut self, opening: Option<Opening>) -> Result<bool, AllocError> {
+        let Some(opening) = opening else {
+            return Ok(false);
+        };
+        let again = self.opened.contains(&opening);
+        if !again {
+            self.opened.insert(opening)?;
+        }
+        Ok(again)
+    }
+
+    /// Adds claims by which the one at a place is true, up to the one on the start, and answers whether that is among
+    /// them and new.
+    fn has_start(&mut self, claims: &[Claimed], place: usize) -> Result<bool, AllocError> {
+        for before in claims {
+            if self.found.contains_key(before) {
+                continue;
+            }
+            self.found.insert(*before, place)?;
+            if before.is_start() {
+                return Ok(true);
+            }
+        }
+        Ok(false)
+    }
+
+    /// The items of the claims from the last one back to the first, each found from the next.
+    fn way_back(&self, alloc: Global) -> Result<Vec<Item>, OutOfMemory> {
+        let mut way = Vec::new(alloc);
+        let mut place = self.found.len().saturating_sub(1);
+        for _ in 0..self.found.len() {
+            let Some((claimed, from)) = self.found.get_index(place) else {
+                break;
+            };
+            if let Some(item) = item_of(claimed.claim) {
+                way.push(item)?;
+            }
+            if place == 0 {
+                break;
+            }
+            place = *from;
+        }
+        Ok(way)
+    }
+}
+
+impl Claimed {
+    /// Whether it is the one on the start that is always true.
+    fn is_start(&self) -> bool {
+        self.length == 0 && self.claim == Claim::InCore(Item { rule: 0, dot: 0 })
+    }
+}
+
+/// Adds the cores of the states to which the beginnings of a string lead, up to where it leads nowhere.
+fn push_cores(
+    alloc: Global,
+    lr0: &Lr0<'_>,
+    string: &[Symbol],
+    cores: &mut Vec<Vec<Item>>,
+) -> Result<(), OutOfMemory> {
+    let mut state = StateNo(0);
+    cores.push(core_of(alloc, lr0, state)?)?;
+    for symbol in string {
+        let Some(next) = goto_of(lr0, state, *symbol) else {
+            break;
+        };
+        state = next;
+        cores.push(core_of(alloc, lr0, state)?)?;
+    }
+    Ok(())
+}
+
+/// The items of a state; none of a number that no state has.
+pub(crate) fn core_of(
+    alloc: Global,
+    lr0: &Lr0<'_>,
+    state: StateNo,
+) -> Result<Vec<Item>, OutOfMemory> {
+    if (state.0 as usize) < lr0.states() {
+        lr0.core(alloc, state)
+    } else {
+        Ok(Vec::new(alloc))
+    }
+}
+
+/// Where a symbol leads from a state; nowhere from a number that no state has.
+fn goto_of(lr0: &Lr0<'_>, state: StateNo, symbol: Symbol) -> Option<StateNo> {
+    if (state.0 as usize) < lr0.states() {
+        lr0.goto(state, symbol)
+    } else {
+        None
+    }
+}
+
+/// The item of a claim, if it has one.
+fn item_of(claim: Claim) -> Option<Item> {
+    match claim {
+        Claim::Settled => None,
+        Claim::InCore(item) | Claim::With(item) => Some(item),
+    }
+}
+
+/// The claim of the same kind on another item.
+fn with_item(claim: Claim, item: Item) -> Claim {
+    match claim {
+        Claim::Settled => Claim::Settled,
+        Claim::InCore(_) => Claim::InCore(item),
+        Claim::With(_) => Claim::With(item),
+    }
+}
+
+/// Whether a terminal begins what symbols yield, and whether that may be empty.
+pub(crate) fn begin(reduced: &Reduced<'_>, symbols: &[Symbol], terminal: Sym) -> (bool, bool) {
+    let grammar = reduced.grammar();
+    for symbol in symbols {
+        match symbol {
+            Symbol::Terminal(number) => return (*number == terminal, false),
+            Symbol::Nonterminal(number) => {
+                if number.0 > grammar.accept().0 || terminal.0 >= grammar.terminals() {
+                    return (false, false);
+                }
+                if reduced.begins(*number, terminal) {
+                    return (true, false);
+                }
+                if !reduced.is_nullable(*number) {
+                    return (false, false);
+                }
+            }
+        }
+    }
+    (false, true)
+}
+
+/// Draws the rules of a way: a bracket where one begins below another, the symbols before the dots, and at the end a
+/// dot and what stands behind it in each rule, from the inmost one on; then the line ends. Of no way nothing is said.
+pub(crate) fn say_way(
+    alloc: Global,
+    page: &mut Page,
+    spec: &Spec,
+    way: &[Item],
+) -> Result<(), OutOfMemory> {
+    if way.is_empty() {
+        page.say(b"\n");
+        return Ok(());
+    }
+    let mut open: Vec<Item> = Vec::new(alloc);
+    let mut opened = false;
+    for item in way {
+        match open.last_mut() {
+            Some(top) if item.dot > 0 => {
+                opened = say_passed(page, spec, *top, opened);
+                *top = *item;
+            }
+            top => {
+                if let Some(top) = top {
+                    opened = say_bracket(page, spec, *top, opened);
+                }
+                open.push(*item)?;
+            }
+        }
+    }
+    page.say(if opened { b"." } else { b" ." });
+    say_rests(page, spec, &open);
+    page.say(b"\n");
+    Ok(())
+}
+
+/// Says the symbol behind an item's dot, if there is one. Answers whether a bracket was said last, as it is told.
+fn say_passed(page: &mut Page, spec: &Spec, item: Item, opened: bool) -> bool {
+    let Some(symbol) = behind_dot(spec.grammar(), item) else {
+        return opened;
+    };
+    if !opened {
+        page.say(b" ");
+    }
+    page.say_symbol(spec, symbol);
+    false
+}
+
+/// Says the bracket around what stands behind an item's dot, if it gets one. Answers whether a bracket was said last.
+fn say_bracket(page: &mut Page, spec: &Spec, item: Item, opened: bool) -> bool {
+    if is_bracketed_in(spec, item) {
+        page.say(if opened { b"[" } else { b" [" });
+        return true;
+    }
+    opened
+}
+
+/// Says what stands behind the dots of the rules under way, the inmost one first. In each but that one the symbol
+/// behind the dot is the rule within. Of rule 0 nothing is said.
+fn say_rests(page: &mut Page, spec: &Spec, open: &[Item]) {
+    let Some((inmost, outer)) = open.split_last() else {
+        return;
+    };
+    say_rest(page, spec, inmost.rule, inmost.dot);
+    for item in outer.iter().rev() {
+        if is_bracketed_in(spec, *item) {
+            page.say(b"]");
+        }
+        say_rest(page, spec, item.rule, item.dot.saturating_add(1));
+    }
+}
+
+/// Says what stands behind so many symbols of a rule's body. Of rule 0 nothing is said.
+fn say_rest(page: &mut Page, spec: &Spec, rule: usize, passed: usize) {
+    if rule > 0 {
+        page.say_symbols(spec, rest_of(spec.grammar(), rule, passed));
+    }
+}
+
+/// Whether what stands behind the dot of an item gets brackets: it is a part of another rule than rule 0, and not all
+/// of it.
+fn is_bracketed_in(spec: &Spec, item: Item) -> bool {
+    item.rule > 0 && body_of(spec.grammar(), item.rule).len() > 1
+}

@@ -1,0 +1,30 @@
+//! From two files that are accepted, and what is known of them, to what is said of them to people: `survey`. What is
+//! said of refused files is in `ly_refused`.
+//!
+//! It says the doubts, the conflicts with an example each, and the rules by their numbers; and if they are asked for,
+//! the states of the scanner and of the parser, and their picture.
+//!
+//! What is said is found by `ly_examples`, whose contracts it has: which rules and tokens are of no use, and at which
+//! strings both actions of a conflict are possible. How things are worded is tested alone.
+//!
+//! Left out: whether files are accepted, which is given.
+#![tactic(auto)]
+
+mod ambiguity;
+mod bodies;
+mod conflicts;
+mod decided;
+mod doubts;
+mod drawing;
+mod patterns;
+mod picture;
+mod places;
+mod rules;
+mod scanner;
+mod states;
+mod surveying;
+mod trees;
+mod yields;
+
+pub use states::Tables;
+pub use surveying::{Accepted, Explanation, Wish, survey};

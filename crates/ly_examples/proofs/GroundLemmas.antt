@@ -1,0 +1,302 @@
+-- What leads to states and what waits for nonterminals, as it is added.
+use Rattle.std.proofs.Common.{◌≡◌, ◌≢◌, ◌∙◌, ◌⊎◌, ◌↔◌, inl, inr, ℕ, ◌+◌, ◌<◌, ◌≤◌, List, [], ◌∷◌, ◌++◌, Some, None}
+use Rattle.std.proofs.Common.{refl, sym, ap, subst, arith, length, map, take, drop, slice_get}
+use Rattle.std.proofs.Common.{slice_index_or, slice_set, All, Contains}
+use Rattle.std.specs.Prelude.{option_and_then}
+use Rattle.std.specs.List.{AllPairs}
+use Rattle.std.proofs.lemmas.List.{get_or-set_same, get_or-set_other, length-set}
+use Rattle.std.proofs.lemmas.List.Elements.{Contains-get_or}
+use Rattle.std.proofs.lemmas.Bool.{cases_order}
+use Rattle.std.proofs.lemmas.Option.{slice_get_past, slice_get_within}
+use Rattle.ly_base.specs.declared.numbers.StateNo.{StateNo}
+use Rattle.ly_join.specs.Grammar.{Grammar, IsAugmented, IsRule, GrammarRule, Symbol, nonterminal, symbol_of, terminal}
+use Rattle.ly_join.proofs.ListLemmas.{in_mapped, mapped_in}
+use Rattle.ly_grammar.specs.Private.Search.{HasNumberBelow}
+use Rattle.ly_grammar.proofs.SearchLemmas.{same_or_not}
+use Rattle.ly_lr0.specs.Automaton.{Lr0Automaton, IsLr0Automaton, IsLess, goto_of, state_at, target_of}
+use Rattle.ly_lr0.specs.Transitions.{transition_of}
+use Rattle.ly_lr0.specs.declared.transition.Transition as code
+use Rattle.ly_lr0.proofs.GroupLemmas.{symbol_one}
+use Rattle.ly_lr0.proofs.StateLemmas.{state_there, target_some}
+use Rattle.ly_relate.specs.Private.Walks.{HasNumberTo}
+use Rattle.ly_relate.proofs.GotoLemmas.{has_target}
+use Rattle.ly_lr0.specs.declared.item.Item.{Item}
+use Rattle.ly_examples.specs.declared.incoming.Incoming.{Incoming}
+use Rattle.ly_examples.specs.Private.Grounds.{AreIncoming, AreUses}
+use Rattle.ly_examples.specs.Private.Lists.{AreIncomingOf, AreLeavingAdded, AreUsesAdded, AreUsesOf, IsLeaving}
+use Rattle.ly_examples.specs.Private.Met.{item_at}
+use Rattle.ly_examples.specs.Private.Uses.{HasSource}
+use Rattle.ly_examples.proofs.BackLemmas.{ahead_at, at_ahead, no_source, pushed_one, sources_beside}
+use Rattle.ly_examples.proofs.UseLemmas.{body_within}
+
+-- one more in one of some lists
+pub pushed_into : {Y : Type 0} (old new : List (List Y)) (n : ℕ) (v : Y) → n < length old
+    → new ≡ slice_set old n (slice_index_or old n [] ++ v ∷ []) → (s : ℕ) (y : Y)
+    → Contains (slice_index_or new s []) y ↔ (Contains (slice_index_or old s []) y ⊎ ((n ≡ s) × (v ≡ y)))
+pushed_into {Y} old new n v lt e s y = by (same_or_not s n) where
+  row : List Y
+  row = slice_index_or old n [] ++ v ∷ []
+
+  by : (s ≡ n) ⊎ (s ≢ n)
+      → Contains (slice_index_or new s []) y ↔ (Contains (slice_index_or old s []) y ⊎ ((n ≡ s) × (v ≡ y)))
+  by (inl same) =
+      let here : slice_index_or new s [] ≡ slice_index_or old s [] ++ v ∷ []
+      = ap (λ w. slice_index_or w s []) e ∙ ap (λ m. slice_index_or (slice_set old n row) m []) same
+      ∙ get_or-set_same old n row [] lt ∙ ap (λ m. slice_index_or old m [] ++ v ∷ []) (sym same) in
+      let one = pushed_one (slice_index_or old s []) (slice_index_or new s []) v here y in (
+        λ has. elim (one.0 has) [ inl was ↦ inl was | inr is ↦ inr (sym same, is) ],
+        λ either. one.1 (elim either [ inl was ↦ inl was | inr both ↦ inr both.1 ]),
+      )
+  by (inr other) =
+      let here : slice_index_or new s [] ≡ slice_index_or old s []
+      = ap (λ w. slice_index_or w s []) e ∙ get_or-set_other old n s row [] other in (
+        λ has. inl (subst (λ w. Contains w y) here has),
+        λ either. elim either [
+          | inl was ↦ subst (λ w. Contains w y) (sym here) was
+          | inr both ↦ absurd (other (sym both.0))
+        ],
+      )
+
+-- ITEMS
+
+pub uses_none : (lists : List (List Item)) (body : List Symbol) (rule : ℕ) → AreUsesAdded lists lists body rule 0
+uses_none lists body rule = record {
+  count = refl;
+  exact = λ A i. (
+    λ has. inl has,
+    λ either. elim either [ inl was ↦ was | inr later ↦ absurd (let less = later.1 in omega (arith, less)) ],
+  );
+}
+
+module _ (old mid : List (List Item)) (body : List Symbol) (rule n : ℕ) (X : Symbol)
+    (at : slice_get body n ≡ Some X) (are : AreUsesAdded old mid body rule n) where
+  -- one more symbol of a body
+  pub uses_step : (new : List (List Item)) → length new ≡ length mid
+      → ((A : ℕ) (i : Item) → Contains (slice_index_or new A []) i
+      ↔ (Contains (slice_index_or mid A []) i ⊎ ((X ≡ nonterminal A) × (item_at rule n ≡ i))))
+      → AreUsesAdded old new body rule (n + 1)
+  uses_step new long one = record {
+    count = long ∙ are.count;
+    exact = λ A i. (
+      λ has. elim ((one A i).0 has) [
+        | inl was ↦ elim ((are.exact A i).0 was) [
+          | inl before ↦ inl before
+          | inr (r, less, there) ↦ inr (r, omega (arith, less), there)
+        ]
+        | inr (symbol, same) ↦
+            let dot : n ≡ i.dot = ap (λ j. j.dot) same in
+            inr (
+              sym (ap (λ j. j.rule) same),
+              omega (arith, dot),
+              ap (slice_get body) (sym dot) ∙ at ∙ ap (λ Y. Some Y) symbol,
+            )
+      ],
+      λ either. (one A i).1 (elim either [
+        | inl before ↦ inl ((are.exact A i).1 (inl before))
+        | inr (r, less, there) ↦ elim (cases_order i.dot n) [
+          | inl same ↦
+              let here : Some X ≡ Some (nonterminal A) = sym at ∙ ap (slice_get body) (sym same) ∙ there in
+              inr (
+                (let e : X ≡ nonterminal A = cc in e),
+                ap (λ d. item_at rule d) (sym same)
+                    ∙ ap (λ p. item_at p i.dot) (sym r),
+              )
+          | inr (inl lower) ↦ inl ((are.exact A i).1 (inr (r, lower, there)))
+          | inr (inr higher) ↦ absurd (omega (arith, less, higher))
+        ]
+      ]),
+    );
+  }
+
+  pub uses_skip : (k : ℕ) → X ≡ terminal k → AreUsesAdded old mid body rule (n + 1)
+  uses_skip k e = uses_step mid refl (λ A i. (
+    λ has. inl has,
+    λ either. elim either [ inl was ↦ was | inr here ↦ (let f = here.0 in absurd (cc)) ],
+  ))
+
+  pub uses_push : (new : List (List Item)) (A : ℕ) → X ≡ nonterminal A → A < length mid
+      → new ≡ slice_set mid A (slice_index_or mid A [] ++ item_at rule n ∷ []) → AreUsesAdded old new body rule (n + 1)
+  uses_push new A e lt is = uses_step new (ap length is ∙ length-set mid A _) (λ B i.
+      let one = pushed_into mid new A (item_at rule n) lt is B i in (
+        λ has. elim (one.0 has) [
+          | inl was ↦ inl was
+          | inr here ↦ inr (e ∙ ap (λ m. nonterminal m) here.0, here.1)
+        ],
+        λ either. one.1 (elim either [
+          | inl was ↦ inl was
+          | inr here ↦ inr ((let f = here.0 in let same : A ≡ B = cc in same), here.1)
+        ]),
+      ))
+
+-- the symbols of a body have lists
+pub body_below : (G : Grammar) → IsAugmented G → (p : ℕ) (r : GrammarRule) → IsRule G p r
+    → All (HasNumberBelow (G.accept + 1)) r.body
+body_below G augmented p r is = λ k d lt.
+    below (slice_index_or r.body k d) (body_within G augmented p r is k d lt)
+  where
+    below : (X : Symbol) → HasNumberTo G.accept X → HasNumberBelow (G.accept + 1) X
+    below (terminal k) within = tt
+    below (nonterminal A) within = omega (arith, within)
+
+module _ (G : Grammar) (rule : ℕ) (old : List (List Item)) (are : AreUsesOf G old rule) where
+  pub rule_added : (r : GrammarRule) (new : List (List Item)) → IsRule G rule r
+      → AreUsesAdded old new r.body rule (length r.body) → AreUsesOf G new (rule + 1)
+  rule_added r new is added = record {
+    count = added.count ∙ are.count;
+    exact = λ A i le. (
+      λ has. elim ((added.exact A i).0 has) [
+        | inl was ↦
+            let there = (are.exact A i le).0 was in
+            ((let less = there.0 in omega (arith, less)), there.1, there.2)
+        | inr (same, less, here) ↦ (
+          omega (arith, same),
+          drop (i.dot + 1) r.body,
+          ahead_at G i (nonterminal A) r (subst (λ p. IsRule G p r) (sym same) is) here,
+        )
+      ],
+      λ (early, rest, ahead). (added.exact A i).1 (elim (cases_order i.rule rule) [
+        | inl same ↦
+            let here = (at_ahead G i (nonterminal A) rest r (subst (λ p. IsRule G p r) (sym same) is) ahead).0 in
+            inr (same, slice_get_within r.body i.dot (nonterminal A) here, here)
+        | inr (inl lower) ↦ inl ((are.exact A i le).1 (lower, rest, ahead))
+        | inr (inr higher) ↦ absurd (omega (arith, early, higher))
+      ]),
+    );
+  }
+
+  pub rule_removed : ((r : GrammarRule) × IsRule G rule r → ⊥) → AreUsesOf G old (rule + 1)
+  rule_removed none = record {
+    count = are.count;
+    exact = λ A i le. (
+      λ has.
+          let there = (are.exact A i le).0 has in
+          ((let less = there.0 in omega (arith, less)), there.1, there.2),
+      λ (early, rest, ahead). (are.exact A i le).1 (elim (cases_order i.rule rule) [
+        | inl same ↦ absurd (none (ahead.rule, subst (λ p. IsRule G p ahead.rule) same ahead.is_rule))
+        | inr (inl lower) ↦ (lower, rest, ahead)
+        | inr (inr higher) ↦ absurd (omega (arith, early, higher))
+      ]),
+    );
+  }
+
+pub uses_all : (G : Grammar) (lists : List (List Item)) (n : ℕ) → length G.rules ≤ n → AreUsesOf G lists n
+    → AreUses G lists
+uses_all G lists n past are = record {
+  count = are.count;
+  exact = λ A i le. (
+    λ has. let there = (are.exact A i le).0 has in (there.1, there.2),
+    λ (rest, ahead).
+        let less = slice_get_within G.rules i.rule (Some ahead.rule) ahead.is_rule in
+        (are.exact A i le).1 (omega (arith, less, past), rest, ahead),
+  );
+}
+
+-- TRANSITIONS
+
+pub leaving_none : (lists : List (List Incoming)) (from : StateNo) (ts : List code.Transition)
+    → AreLeavingAdded lists lists from (take 0 ts)
+leaving_none lists from ts = record {
+  count = refl;
+  exact = λ s x. (
+    λ has. inl has,
+    λ either. elim either [ inl was ↦ was | inr none ↦ absurd (no_source (IsLeaving from s) ts x none) ],
+  );
+}
+
+pub leaving_more : (old mid new : List (List Incoming)) (from : StateNo) (ts : List code.Transition) (k : ℕ)
+    (t : code.Transition) → k < length ts → (slice_index_or ts k t).target.0 < length mid
+    → new ≡ slice_set mid (slice_index_or ts k t).target.0 (slice_index_or mid (slice_index_or ts k t).target.0 []
+    ++ record { from = from; symbol = (slice_index_or ts k t).symbol } ∷ [])
+    → AreLeavingAdded old mid from (take k ts) → AreLeavingAdded old new from (take (k + 1) ts)
+leaving_more old mid new from ts k t lt within e are = record {
+  count = ap length e ∙ length-set mid (slice_index_or ts k t).target.0 _ ∙ are.count;
+  exact = λ s. sources_beside (IsLeaving from s) ts (λ y. Contains (slice_index_or old s []) y) k t lt
+      (slice_index_or mid s []) (slice_index_or new s [])
+      (pushed_into mid new (slice_index_or ts k t).target.0
+      (record { from = from; symbol = (slice_index_or ts k t).symbol }) within e s) (are.exact s);
+}
+
+module _ (M : Lr0Automaton) (is : IsLr0Automaton M) (from : StateNo) (lt : from.0 < length M.states)
+    (ts : List code.Transition) (shown : map transition_of ts ≡ (state_at M from.0).transitions) where
+  -- a transition leads to a state
+  pub target_within : (k : ℕ) (t : code.Transition) → k < length ts
+      → (slice_index_or ts k t).target.0 < length M.states
+  target_within k t less = (is.each from.0 (state_at M from.0) (state_there M from.0 lt)).within
+      (transition_of (slice_index_or ts k t)) (subst (λ w. Contains w (transition_of (slice_index_or ts k t))) shown
+      (mapped_in transition_of ts (slice_index_or ts k t) (Contains-get_or ts k t less)))
+
+  goes : (X : Symbol) → goto_of M from.0 X ≡ target_of (map transition_of ts) X
+  goes X = ap (option_and_then (λ q. target_of q.transitions X)) (state_there M from.0 lt)
+      ∙ ap (λ w. target_of w X) (sym shown)
+
+  leaving_are : (s : ℕ) (x : Incoming) → HasSource (IsLeaving from s) ts x
+      ↔ ((x.from ≡ from) × (goto_of M x.from.0 (symbol_of x.symbol) ≡ Some s))
+  leaving_are s x = (
+    λ (t, among, (target, e)).
+        let there = has_target (map transition_of ts) (transition_of t)
+        (subst (AllPairs (λ a b. IsLess a.symbol b.symbol)) (sym shown) (is.each from.0 (state_at M from.0)
+        (state_there M from.0 lt)).ordered)
+        (mapped_in transition_of ts t among) in
+        subst (λ y. (y.from ≡ from) × (goto_of M y.from.0 (symbol_of y.symbol) ≡ Some s)) e
+        (refl, goes (symbol_of t.symbol) ∙ there ∙ ap (λ n. Some n) target),
+    λ (at, leads).
+        let there : target_of (map transition_of ts) (symbol_of x.symbol) ≡ Some s
+        = sym (goes (symbol_of x.symbol)) ∙ ap (λ q. goto_of M q.0 (symbol_of x.symbol)) (sym at) ∙ leads in
+        let it = in_mapped transition_of ts _ (target_some (map transition_of ts) (symbol_of x.symbol) s there) in
+        let symbol = symbol_one it.0.symbol x.symbol (ap (λ u. u.symbol) it.2) in
+        let put : StateNo → _ → Incoming = λ q y. record { from = q; symbol = y } in
+        (it.0, it.1, (ap (λ u. u.target) it.2, ap (λ q. put q it.0.symbol) (sym at) ∙ ap (put x.from) symbol)),
+  )
+
+  pub leaving_done : (old new : List (List Incoming)) → AreIncomingOf M old from.0 → AreLeavingAdded old new from ts
+      → AreIncomingOf M new (from.0 + 1)
+  leaving_done old new before are = record {
+    count = are.count ∙ before.count;
+    exact = λ s x less. (
+      λ has. elim ((are.exact s x).0 has) [
+        | inl was ↦
+            let there = (before.exact s x less).0 was in
+            ((let e = there.0 in omega (arith, e)), there.1)
+        | inr some ↦
+            let there = (leaving_are s x).0 some in
+            let e : x.from.0 ≡ from.0 = ap (λ q. q.0) there.0 in
+            (omega (arith, e), there.1)
+      ],
+      λ (early, leads). (are.exact s x).1 (elim (cases_order x.from.0 from.0) [
+        | inl same ↦ inr ((leaving_are s x).1 (ap (λ n. record { 0 = n }) same, leads))
+        | inr (inl less') ↦ inl ((before.exact s x less).1 (less', leads))
+        | inr (inr more') ↦ absurd (omega (arith, early, more'))
+      ]),
+    );
+  }
+
+pub incoming_all : (M : Lr0Automaton) (lists : List (List Incoming)) (n : ℕ) → length M.states ≤ n
+    → AreIncomingOf M lists n → AreIncoming M lists
+incoming_all M lists n past are = record {
+  count = are.count;
+  exact = λ s x less. (
+    λ has. ((are.exact s x less).0 has).1,
+    λ leads. (are.exact s x less).1 (early x.from.0 (symbol_of x.symbol) s leads, leads),
+  );
+} where
+  early : (r : ℕ) (X : Symbol) (s : ℕ) → goto_of M r X ≡ Some s → r < n
+  early r X s leads = elim (cases_order r n) [
+    | inl same ↦ absurd (nowhere r X s leads (omega (arith, same, past)))
+    | inr (inl less) ↦ less
+    | inr (inr more') ↦ absurd (nowhere r X s leads (omega (arith, more', past)))
+  ]
+    where
+      nowhere : (r : ℕ) (X : Symbol) (s : ℕ) → goto_of M r X ≡ Some s → length M.states ≤ r → ⊥
+      nowhere r X s leads le =
+          let none : goto_of M r X ≡ None
+          = ap (option_and_then (λ q. target_of q.transitions X)) (slice_get_past M.states r le) in
+          cc
+
+-- a state leads to states
+pub goto_within : (M : Lr0Automaton) → IsLr0Automaton M → (s : ℕ) (X : Symbol) (t : ℕ) → s < length M.states
+    → goto_of M s X ≡ Some t → t < length M.states
+goto_within M is s X t lt e =
+    let there = state_there M s lt in
+    let to : target_of (state_at M s).transitions X ≡ Some t
+    = sym (ap (option_and_then (λ q. target_of q.transitions X)) there) ∙ e in
+    (is.each s (state_at M s) there).within _ (target_some (state_at M s).transitions X t to)

@@ -1,0 +1,114 @@
+use Rattle.std.proofs.Common.{◌≡◌, ◌≢◌, ◌∙◌, ◌+◌, ap, arith, drop, subst, sym, [], ◌∷◌, ◌++◌, slice_index_or}
+use Rattle.std.proofs.Common.{eqb, not, true}
+use Rattle.std.proofs.lemmas.Bool.{eq-eqb, eqb-true, not-false}
+use Rattle.std.proofs.lemmas.List.{drop_all}
+use Rattle.ly_join.specs.Grammar.{nonterminal}
+use Rattle.ly_join.specs.declared.symbol.Symbol.TheVariants.{Nonterminal}
+use Rattle.ly_examples.specs.Sentences.{numbers_of}
+use Rattle.ly_examples.specs.Private.Leftmost.{ahead_of, IsUnderWay}
+use Rattle.ly_examples.proofs.SentenceLemmas.{at_start, next_rule, no_rule_kept, one_sentence, rule_kept, rule_left_same}
+use Rattle.ly_examples.proofs.SentenceLemmas.{way_end, way_next, way_on, way_other, way_out}
+use Rattle.ly_examples.proofs.SentenceLemmas.{way_over, way_short, way_taken}
+use Rattle.ly_examples.proofs.sentences.sentence_by.Goals as goal
+
+pub loop-number-init : goal.loop-number-init
+loop-number-init c =
+    let G = c.args.grammar.now in
+    let rules = c.args.rules.now in
+    let kept : c.push.new.self.items ≡ Nonterminal c.start.result ∷ []
+    = c.in_ok-push.ensures.items ∙ ap (λ xs. xs ++ Nonterminal c.start.result ∷ []) c.new-ahead.ensures.items in
+    subst (λ d. IsUnderWay G rules d (ahead_of c.push.new.self.items) rules)
+    (sym (ap numbers_of c.new-sentence.ensures.items))
+    (subst (λ w. IsUnderWay G rules [] w rules)
+    (sym (ap ahead_of kept ∙ ap (λ n. nonterminal n ∷ []) c.start.ensures.value)) (at_start G rules))
+
+pub returns-in_default : goal.returns-in_default
+returns-in_default c =
+    let G = c.args.grammar.now in
+    let rules = c.args.rules.now in
+    let l = c.loop-number in
+    let on = subst (IsUnderWay G rules (numbers_of l.sentence.items) (ahead_of l.ahead.items))
+    (next_rule rules l.number-index c.loop-number-test.true) l.invariant in
+    way_over G rules (numbers_of c.next_left.new.sentence.items) (slice_index_or rules l.number-index 0)
+    (drop (l.number-index + 1) rules)
+    (way_out G rules (ahead_of l.ahead.items) (ahead_of c.next_left.new.ahead.items) (numbers_of l.sentence.items)
+    (numbers_of c.next_left.new.sentence.items) c.in_ok-left.field-0
+    (slice_index_or rules l.number-index 0 ∷ drop (l.number-index + 1) rules) on c.in_ok-left.ensures c.in_default.is)
+
+pub returns-in_default-get : goal.returns-in_default-get
+returns-in_default-get c =
+    let G = c.args.grammar.now in
+    let rules = c.args.rules.now in
+    let l = c.loop-number in
+    let p = slice_index_or rules l.number-index 0 in
+    let behind = numbers_of c.next_left.new.sentence.items in
+    let new = ahead_of c.next_left.new.ahead.items in
+    way_other G rules behind c.in-Some.left.0 new p (drop (l.number-index + 1) rules)
+    (λ r is same. no_rule_kept G c.rules.result.now c.rules.ensures.these p
+    (omega (arith, c.in_default-get.ensures.lookup)) r is)
+    (way_next G rules l.number-index (ahead_of l.ahead.items) new (numbers_of l.sentence.items) behind
+    c.in_ok-left.field-0 c.in-Some.left c.loop-number-test.true l.invariant c.in_ok-left.ensures c.in-Some.is)
+
+pub returns-then-ne : goal.returns-then-ne
+returns-then-ne c =
+    let G = c.args.grammar.now in
+    let rules = c.args.rules.now in
+    let l = c.loop-number in
+    let p = slice_index_or rules l.number-index 0 in
+    let r = c.in-Some-get.rule.now in
+    let behind = numbers_of c.next_left.new.sentence.items in
+    let new = ahead_of c.next_left.new.ahead.items in
+    let is = rule_kept G c.rules.result.now c.rules.ensures.these p r c.in-Some-get.ensures.lookup.3.0
+    c.in-Some-get.ensures.lookup.1 in
+    let differ : not (eqb c.left.result.0 c.in-Some.left.0) ≡ true = sym c.ne.ensures ∙ c.if-ne.true in
+    let apart : r.left ≢ c.in-Some.left.0
+    = λ e. (let one = ap not (eq-eqb c.left.result.0 c.in-Some.left.0 (c.left.ensures ∙ e)) in cc) in
+    way_other G rules behind c.in-Some.left.0 new p (drop (l.number-index + 1) rules)
+    (λ q is_q same. apart (rule_left_same G p q r is_q is same))
+    (way_next G rules l.number-index (ahead_of l.ahead.items) new (numbers_of l.sentence.items) behind
+    c.in_ok-left.field-0 c.in-Some.left c.loop-number-test.true l.invariant c.in_ok-left.ensures c.in-Some.is)
+
+pub loop-number-preserved : goal.loop-number-preserved
+loop-number-preserved c =
+    let G = c.args.grammar.now in
+    let rules = c.args.rules.now in
+    let l = c.loop-number in
+    let p = slice_index_or rules l.number-index 0 in
+    let rest = drop (l.number-index + 1) rules in
+    let r = c.in-Some-get.rule.now in
+    let behind = numbers_of c.next_left.new.sentence.items in
+    let new = ahead_of c.next_left.new.ahead.items in
+    let way = way_next G rules l.number-index (ahead_of l.ahead.items) new (numbers_of l.sentence.items) behind
+    c.in_ok-left.field-0 c.in-Some.left c.loop-number-test.true l.invariant c.in_ok-left.ensures c.in-Some.is in
+    let is = rule_kept G c.rules.result.now c.rules.ensures.these p r c.in-Some-get.ensures.lookup.3.0
+    c.in-Some-get.ensures.lookup.1 in
+    let same : r.left ≡ c.in-Some.left.0
+    = sym c.left.ensures ∙ eqb-true c.left.result.0 c.in-Some.left.0
+    (not-false (eqb c.left.result.0 c.in-Some.left.0) (sym c.ne.ensures ∙ c.if-ne.false)) in
+    subst (λ w. IsUnderWay G rules behind w rest)
+    (ap (λ w. w ++ new) (sym c.body.ensures) ∙ sym c.in_ok-push_body.ensures)
+    (way_taken G rules behind c.in-Some.left.0 new p r rest is same way)
+
+pub returns-in-None : goal.returns-in-None
+returns-in-None c =
+    let G = c.args.grammar.now in
+    let rules = c.args.rules.now in
+    let l = c.loop-number in
+    let done = numbers_of c.next_left-2.new.sentence.items in
+    let way = way_out G rules (ahead_of l.ahead.items) (ahead_of c.next_left-2.new.ahead.items)
+    (numbers_of l.sentence.items) done c.in_ok-next_left.field-0 [] (subst
+    (IsUnderWay G rules (numbers_of l.sentence.items) (ahead_of l.ahead.items))
+    (drop_all l.number-index rules c.loop-number-test.false) l.invariant) c.in_ok-next_left.ensures c.in-None.is in
+    (way_end G rules done way, one_sentence G rules done way)
+
+pub returns : goal.returns
+returns c =
+    let G = c.args.grammar.now in
+    let rules = c.args.rules.now in
+    let l = c.loop-number in
+    let new = ahead_of c.next_left-2.new.ahead.items in
+    let done = numbers_of c.next_left-2.new.sentence.items in
+    way_short G rules done c.in-Some-2.field-0.0 new (way_on G rules (ahead_of l.ahead.items) new
+    (numbers_of l.sentence.items) done c.in_ok-next_left.field-0 c.in-Some-2.field-0 [] (subst
+    (IsUnderWay G rules (numbers_of l.sentence.items) (ahead_of l.ahead.items))
+    (drop_all l.number-index rules c.loop-number-test.false) l.invariant) c.in_ok-next_left.ensures c.in-Some-2.is)

@@ -1,0 +1,7 @@
+pub mod Demands
+pub mod Doubts
+pub mod Examples
+pub mod Laws
+pub mod Openings
+pub mod Private
+pub mod Sentences

@@ -1,0 +1,145 @@
+ghost use Rattle.std.specs.Prelude.{◌≡◌, Contains, IfOk, length};
+ghost use Rattle.ly_join.specs.Grammar.{IsRule, GrammarRule};
+ghost use Rattle.ly_resolve.specs.Resolved.{AreResolved};
+ghost use Rattle.ly_resolve.specs.Values.{conflict_from, IsInside};
+ghost use Rattle.ly_examples.specs.Examples.{IsAnswer};
+ghost use Rattle.ly_examples.specs.Openings.{Opens};
+ghost use Rattle.ly_examples.specs.Private.Opening.{ClaimsRival};
+
+use crate::claim::{Claim, Demand};
+use crate::ground::{Ground, ground_of};
+use crate::halt::Halt;
+use crate::search::{Sought, shortest};
+use ly_base::OutOfMemory;
+use ly_join::{Spec, Symbol};
+use ly_lr0::Item;
+use ly_resolve::{Action, Conflict, ConflictKind, Resolved};
+use std::alloc::Global;
+use std::marker::Model;
+
+/// Whether both actions of a conflict are possible somewhere.
+#[derive(Debug, Drop)]
+pub enum Example {
+    /// At this string of symbols they are, its first symbol first.
+    At(Vec<Symbol>),
+    /// At no string: only merging made the conflict.
+    Merged,
+    /// There are more demands than were allowed.
+    Unknown,
+}
+
+/// Where examples of conflicts are sought.
+#[derive(Drop)]
+pub struct Examples<'a> {
+    /// The conflicts.
+    resolved: &'a Resolved<'a>,
+    /// Their automaton, as the search goes back over it.
+    ground: Ground<'a>,
+}
+
+impl<'a> Model for Examples<'a> {
+    ghost use Rattle.std.specs.Prelude.{◌≡◌};
+    ghost use Rattle.ly_resolve.specs.Resolved as value;
+    ghost use Rattle.ly_examples.specs.Private.Lists.{IsGround};
+
+    ghost Value = { value.Resolved };
+
+    ghost view = { λ e. e.resolved.now };
+
+    ghost invariant = { λ e. IsGround e.ground × (e.ground.lr0.now ≡ e.resolved.now.automaton) };
+}
+
+impl<'a> Examples<'a> {
+    /// Where examples of these conflicts are sought.
+    ///
+    /// `OutOfMemory` comes where a growth was refused.
+    pub fn new(alloc: Global, resolved: &'a Resolved<'a>) -> Result<Examples<'a>, OutOfMemory>
+        ensures { IfOk result (λ e. e ≡ resolved.now) }
+    {
+        let ground = ground_of(alloc, resolved.lr0())?;
+        Ok(Examples { resolved, ground })
+    }
+
+    /// The conflicts.
+    pub fn resolved(&self) -> &'a Resolved<'a>
+        ensures { result.now ≡ self.now }
+    {
+        self.resolved
+    }
+
+    /// An example of a conflict, which is sought over so many demands.
+    ///
+    /// `OutOfMemory` comes where a growth was refused.
+    pub fn of(
+        &self,
+        alloc: Global,
+        conflict: &Conflict,
+        bound: usize,
+    ) -> Result<Example, OutOfMemory>
+        requires inside { IsInside self.now.automaton conflict.now }
+        requires conflict { Contains self.now.conflicts (conflict_from self.now.automaton conflict.now) }
+        ensures { IfOk result
+            (IsAnswer self.now.automaton (conflict_from self.now.automaton conflict.now) bound) }
+    {
+        let demand = self.demand(conflict);
+        let sought = Sought {
+            ground: &self.ground,
+            terminal: conflict.terminal,
+            bound,
+        };
+        match shortest(alloc, &sought, demand) {
+            Ok(Some(string)) => Ok(Example::At(string)),
+            Ok(None) => Ok(Example::Merged),
+            Err(Halt::TooMany) => Ok(Example::Unknown),
+            Err(Halt::OutOfMemory) => Err(OutOfMemory),
+        }
+    }
+
+    /// The specification.
+    fn spec(&self) -> &'a Spec
+        ensures these { result.now ≡ self.now.spec }
+        ensures resolved { AreResolved self.now.spec self.now.automaton self.now }
+    {
+        self.resolved.spec()
+    }
+
+    /// The demand on the examples of a conflict.
+    fn demand(&self, conflict: &Conflict) -> Demand
+        requires inside { IsInside self.now.automaton conflict.now }
+        requires conflict { Contains self.now.conflicts (conflict_from self.now.automaton conflict.now) }
+        ensures state { result.state ≡ conflict.now.state }
+        ensures opens { Opens self.now.automaton (conflict_from self.now.automaton conflict.now) result }
+    {
+        let _ground = &self.ground;
+        let _spec = self.spec();
+        Demand {
+            state: conflict.state,
+            first: Claim::With(self.whole(conflict.rule)),
+            second: self.rival(conflict),
+        }
+    }
+
+    /// What is claimed for what stands against the rule of a conflict. A shift is possible wherever the state is led
+    /// to.
+    fn rival(&self, conflict: &Conflict) -> Claim
+        requires { Contains self.now.conflicts (conflict_from self.now.automaton conflict.now) }
+        ensures { ClaimsRival self.now.automaton (conflict_from self.now.automaton conflict.now) result }
+    {
+        let _spec = self.spec();
+        match (conflict.kind, conflict.choice) {
+            (ConflictKind::ReduceReduce, Action::Reduce(rule)) => Claim::With(self.whole(rule)),
+            _ => Claim::Settled,
+        }
+    }
+
+    /// The item of a rule with its dot at the end.
+    fn whole(&self, rule: usize) -> Item
+        requires { (r : GrammarRule) × IsRule self.now.automaton.grammar rule r }
+        ensures rule { result.rule ≡ rule }
+        ensures end { (r : GrammarRule) × IsRule self.now.automaton.grammar rule r × (result.dot ≡ length r.body) }
+    {
+        let grammar = self.ground.lr0.reduced().grammar();
+        let dot = grammar.rule(rule).body().len();
+        Item { rule, dot }
+    }
+}

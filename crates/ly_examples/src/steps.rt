@@ -1,0 +1,224 @@
+//! From demands to those that meet them.
+ghost use Rattle.std.specs.Prelude.{◌≡◌, ◌↔◌, ◌⊎◌, ◌+◌, ◌<◌, drop, length, Contains, IfOk, IsTrue, OnOk, Some};
+ghost use Rattle.ly_join.specs.Grammar.{symbol_of, IsRule, GrammarRule};
+ghost use Rattle.ly_examples.specs.Demands.{ClimbsTo, IsBefore, IsBegun, IsClimb, IsPop, PopsTo};
+ghost use Rattle.ly_examples.specs.Private.Kept.{IsKeptClaim, IsKeptDemand, IsKeptItem};
+ghost use Rattle.ly_examples.specs.Private.Lists.{IsGround};
+ghost use Rattle.ly_examples.specs.Private.Met.{item_at};
+ghost use Rattle.ly_examples.specs.Private.Uses.{HasAhead, IsPopBy, IsUseBy};
+ghost use Rattle.ly_examples.specs.declared.claim.Claim as claim_values;
+ghost use Rattle.ly_examples.specs.declared.claim.Claim.TheVariants.{With as TheTerminal};
+ghost use Rattle.ly_examples.specs.declared.claim.Demand as demands;
+ghost use Rattle.ly_lr0.specs.declared.item.Item as items;
+ghost use Rattle.ly_examples.specs.declared.steps.Pop as pops;
+
+use crate::claim::{Claim, Demand};
+use crate::ground::Ground;
+use crate::incoming::Incoming;
+use crate::rest::{are_nullable, begins};
+use ly_base::{StateNo, Sym};
+use ly_grammar::Reduced;
+use ly_join::Symbol;
+use ly_lr0::Item;
+use std::alloc::{AllocError, Global};
+
+/// A demand on a string without its last symbol.
+#[derive(Clone, Copy)]
+pub(crate) struct Pop {
+    /// The symbol.
+    pub(crate) symbol: Symbol,
+    /// The demand.
+    pub(crate) demand: Demand,
+}
+
+/// The demands on the same string by which one is met: one of its claims is so by another claim.
+pub(crate) fn climbs(
+    alloc: Global,
+    ground: &Ground<'_>,
+    terminal: Sym,
+    demand: Demand,
+) -> Result<Vec<Demand>, AllocError>
+    requires ground { IsGround ground.now }
+    requires terminal { terminal.0 < ground.now.lr0.now.grammar.terminals }
+    requires kept { IsKeptDemand ground.now.lr0.now demand }
+    ensures { IfOk result (λ ds. (e : demands.Demand) → Contains ds.items e
+        ↔ IsClimb ground.now.lr0.now terminal.0 demand e) }
+{
+    let mut demands = Vec::new(alloc);
+    for first in &claims_above(alloc, ground, terminal, demand.state, demand.first)? {
+        demands.push(Demand {
+            first: *first,
+            ..demand
+        })?;
+    }
+    for second in &claims_above(alloc, ground, terminal, demand.state, demand.second)? {
+        demands.push(Demand {
+            second: *second,
+            ..demand
+        })?;
+    }
+    Ok(demands)
+}
+
+/// The claims by which one is true at strings that lead to a state, where its item has nothing before the dot.
+fn claims_above(
+    alloc: Global,
+    ground: &Ground<'_>,
+    terminal: Sym,
+    state: StateNo,
+    claim: Claim,
+) -> Result<Vec<Claim>, AllocError>
+    requires ground { IsGround ground.now }
+    requires terminal { terminal.0 < ground.now.lr0.now.grammar.terminals }
+    requires state { state.0 < length ground.now.lr0.now.states }
+    requires kept { IsKeptClaim ground.now.lr0.now.grammar claim }
+    ensures { IfOk result (λ cs. (c : claim_values.Claim) → Contains cs.items c
+        ↔ ClimbsTo ground.now.lr0.now terminal.0 state.0 claim c) }
+{
+    let mut claims = Vec::new(alloc);
+    match claim {
+        Claim::Settled => {}
+        Claim::With(item) if item.dot == 0 => {
+            push_uses(ground, terminal, item.rule, &mut claims)?;
+        }
+        Claim::InCore(item) if item.dot == 0 && is_begun(ground, state, item.rule) => {
+            claims.push(Claim::Settled)?;
+        }
+        _ => {}
+    }
+    Ok(claims)
+}
+
+/// Adds the claims by which a rule with nothing before its dot is valid with a terminal: of each item that waits for
+/// its left side, where the terminal begins what stands behind that, or is handed up.
+fn push_uses(
+    ground: &Ground<'_>,
+    terminal: Sym,
+    rule: usize,
+    claims: &mut Vec<Claim>,
+) -> Result<(), AllocError>
+    requires ground { IsGround ground.now }
+    requires terminal { terminal.0 < ground.now.lr0.now.grammar.terminals }
+    requires kept { (r : GrammarRule) × IsRule ground.now.lr0.now.grammar rule r }
+    ensures { OnOk result ((c : claim_values.Claim) → Contains claims.new.items c ↔ (Contains claims.old.items c
+        ⊎ ClimbsTo ground.now.lr0.now terminal.0 0 (TheTerminal (item_at rule 0)) c)) }
+{
+    let reduced = ground.lr0.reduced();
+    let left = reduced.grammar().rule(rule).left();
+    for item in ground.uses.of(left.0 as usize) {
+        push_use(reduced, terminal, *item, claims)?;
+    }
+    Ok(())
+}
+
+/// Adds the claims on an item by which the symbol behind its dot is followed by a terminal.
+fn push_use(
+    reduced: &Reduced<'_>,
+    terminal: Sym,
+    item: Item,
+    claims: &mut Vec<Claim>,
+) -> Result<(), AllocError>
+    requires terminal { terminal.0 < reduced.now.grammar.terminals }
+    requires ahead { HasAhead reduced.now.grammar item }
+    ensures { OnOk result ((c : claim_values.Claim) → Contains claims.new.items c ↔ (Contains claims.old.items c
+        ⊎ IsUseBy reduced.now.grammar terminal.0 item c)) }
+{
+    let body = reduced.grammar().rule(item.rule).body();
+    let rest = behind(body, item.dot);
+    if begins(reduced, rest, terminal) {
+        claims.push(Claim::InCore(item))?;
+    }
+    if are_nullable(reduced, rest) {
+        claims.push(Claim::With(item))?;
+    }
+    Ok(())
+}
+
+/// The symbols behind one.
+fn behind(body: &[Symbol], place: usize) -> &[Symbol]
+    requires { place < length body.now }
+    ensures { result.now ≡ drop (place + 1) body.now }
+{
+    &body[place + 1..]
+}
+
+/// Whether a rule with nothing before its dot is in the core of a state.
+pub(crate) fn is_begun(ground: &Ground<'_>, state: StateNo, rule: usize) -> bool
+    requires state { state.0 < length ground.now.lr0.now.states }
+    requires kept { (r : GrammarRule) × IsRule ground.now.lr0.now.grammar rule r }
+    ensures { IsTrue result ↔ IsBegun ground.now.lr0.now state.0 rule }
+{
+    let left = ground.lr0.reduced().grammar().rule(rule).left();
+    rule == 0 && state.0 == 0 || ground.lr0.goto(state, Symbol::Nonterminal(left)).is_some()
+}
+
+/// The demands on strings without their last symbol by which one is met, with these symbols.
+pub(crate) fn pops(
+    alloc: Global,
+    ground: &Ground<'_>,
+    demand: Demand,
+) -> Result<Vec<Pop>, AllocError>
+    requires ground { IsGround ground.now }
+    requires kept { IsKeptDemand ground.now.lr0.now demand }
+    ensures { IfOk result (λ ps. (p : pops.Pop) → Contains ps.items p
+        ↔ IsPop ground.now.lr0.now (symbol_of p.symbol) demand p.demand) }
+{
+    let mut found = Vec::new(alloc);
+    for incoming in ground.incoming.of(demand.state.0 as usize) {
+        if let Some(pop) = pop_by(ground, demand, *incoming) {
+            found.push(pop)?;
+        }
+    }
+    Ok(found)
+}
+
+/// The demand on strings without their last symbol by which one is met, by way of a transition to its state.
+fn pop_by(ground: &Ground<'_>, demand: Demand, incoming: Incoming) -> Option<Pop>
+    requires first { IsKeptClaim ground.now.lr0.now.grammar demand.first }
+    requires second { IsKeptClaim ground.now.lr0.now.grammar demand.second }
+    ensures { (p : pops.Pop) → IsPopBy ground.now.lr0.now.grammar demand incoming p ↔ (result ≡ Some p) }
+{
+    let first = popped(ground, demand.first, incoming.symbol)?;
+    let second = popped(ground, demand.second, incoming.symbol)?;
+    Some(Pop {
+        symbol: incoming.symbol,
+        demand: Demand {
+            state: incoming.from,
+            first,
+            second,
+        },
+    })
+}
+
+/// The claim on strings without their last symbol by which one is true.
+fn popped(ground: &Ground<'_>, claim: Claim, symbol: Symbol) -> Option<Claim>
+    requires { IsKeptClaim ground.now.lr0.now.grammar claim }
+    ensures { (c : claim_values.Claim) → PopsTo ground.now.lr0.now.grammar (symbol_of symbol) claim c
+        ↔ (result ≡ Some c) }
+{
+    match claim {
+        Claim::Settled => Some(Claim::Settled),
+        Claim::InCore(item) => Some(Claim::InCore(before(ground, item, symbol)?)),
+        Claim::With(item) => Some(Claim::With(before(ground, item, symbol)?)),
+    }
+}
+
+/// The item whose dot is before the symbol, where that stands before the dot of an item.
+fn before(ground: &Ground<'_>, item: Item, symbol: Symbol) -> Option<Item>
+    requires { IsKeptItem ground.now.lr0.now.grammar item }
+    ensures { (i : items.Item) → IsBefore ground.now.lr0.now.grammar (symbol_of symbol) item i ↔ (result ≡ Some i) }
+{
+    if item.dot == 0 {
+        return None;
+    }
+    let dot = item.dot - 1;
+    let body = ground.lr0.reduced().grammar().rule(item.rule).body();
+    if body[dot] == symbol {
+        Some(Item {
+            rule: item.rule,
+            dot,
+        })
+    } else {
+        None
+    }
+}

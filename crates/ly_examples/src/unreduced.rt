@@ -1,0 +1,51 @@
+//! The rules of a grammar by which nothing is reduced.
+ghost use Rattle.std.specs.Prelude.{◌≡◌, length, IfOk};
+ghost use Rattle.ly_examples.specs.Doubts.{AreRising, IsReducedBy, NeverReduces};
+ghost use Rattle.ly_examples.specs.Private.Marks.{AreAdded, AreMarked};
+ghost use Rattle.ly_examples.specs.Private.Reductions.{ReducesIn};
+
+use crate::marks::Marks;
+use ly_base::{OutOfMemory, StateNo};
+use ly_resolve::{Action, Resolved, TerminalAction};
+use std::alloc::Global;
+
+/// The useful rules by which nothing is reduced at any string of symbols before any terminal, rising: precedence and
+/// conflicts have taken all of their reductions.
+///
+/// `OutOfMemory` comes where a growth was refused.
+pub fn unreduced_rules(alloc: Global, resolved: &Resolved<'_>) -> Result<Vec<usize>, OutOfMemory>
+    ensures { IfOk result (λ found. AreRising (NeverReduces resolved.now) found.items) }
+{
+    let reduced = reduced_rules(alloc, resolved)?;
+    let kept = resolved.lr0().reduced();
+    let mut found = Vec::new(alloc);
+    for rule in 1..resolved.spec().grammar().rules().len() {
+        if kept.is_kept(rule) && !reduced.has(rule) {
+            found.push(rule)?;
+        }
+    }
+    Ok(found)
+}
+
+/// Of all rules those by which something is reduced.
+fn reduced_rules(alloc: Global, resolved: &Resolved<'_>) -> Result<Marks, OutOfMemory>
+    ensures { IfOk result (AreMarked (length resolved.now.spec.grammar.rules) (IsReducedBy resolved.now)) }
+{
+    let rules = resolved.spec().grammar().rules().len();
+    let mut reduced = Marks::new(alloc, rules)?;
+    for state in 0..resolved.lr0().states() {
+        mark_reductions(&mut reduced, resolved.row(StateNo(state as u32)));
+    }
+    Ok(reduced)
+}
+
+/// Marks the rules by which entries of a row reduce.
+fn mark_reductions(reduced: &mut Marks, row: &[TerminalAction])
+    ensures { AreAdded (ReducesIn row.now) reduced.old reduced.new }
+{
+    for entry in row {
+        if let Action::Reduce(rule) = entry.action {
+            reduced.set(rule);
+        }
+    }
+}

@@ -1,6 +1,0 @@
-use Rattle.ly_explain.specs.Private.Lists.{AreUsesOf}
-use Rattle.ly_explain.proofs.ground.uses_of.Given as goal
-
--- the items of the rules so far
-abbrev pub invariant-loop-rule : goal.invariant-loop-rule
-invariant-loop-rule l = AreUsesOf l.lr0.grammar l.uses l.rule

@@ -1,9 +1,0 @@
-use Rattle.std.proofs.Common.{◌↔◌, Contains, take}
-use Rattle.ly_explain.specs.declared.steps.Pop.{Pop}
-use Rattle.ly_explain.specs.Private.Uses.{HasSource, IsPopBy}
-use Rattle.ly_explain.proofs.steps.pops.Given as goal
-
--- those by way of the transitions so far
-abbrev pub invariant-loop-incoming : goal.invariant-loop-incoming
-invariant-loop-incoming l = (p : Pop) → Contains l.found.items p
-    ↔ HasSource (IsPopBy l.ground.lr0.now.grammar l.demand) (take l.incoming-index l.incoming-items) p

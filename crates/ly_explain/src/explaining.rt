@@ -1,0 +1,168 @@
+ghost use Rattle.std.specs.Prelude.{◌≡◌, IfErr, IfOk, true};
+ghost use Rattle.ly_base.specs.Limits.{least_of, sizes_in, Sizes};
+ghost use Rattle.ly_base.specs.declared.version.Version.TheVariants.{V2};
+ghost use Rattle.ly_emit.specs.Tables.{AreShapesWithin};
+ghost use Rattle.ly_generate.specs.Accepted.{HasSteadyTables, IsFit, IsRefusedFor, IsUnfitFor};
+ghost use Rattle.ly_grammar.specs.Reduction.{KeepsUseful};
+ghost use Rattle.ly_join.specs.Grammar.{Grammar};
+ghost use Rattle.ly_lr0.specs.Automaton as parser;
+ghost use Rattle.ly_subset.specs.Automaton.{IsBreadthFirst};
+ghost use Rattle.ly_explain.specs.Explained.{IsExplained, IsWellFormed};
+
+use ly_accepted::{Accepted, Explanation, Tables, Wish, survey};
+use ly_base::{Limits, OutOfMemory, Version};
+use ly_generate::{GenFault, Specification, read_specification, settle, steady_tables};
+use ly_grammar::reduce;
+use ly_join::Spec;
+use ly_lexread::LexFile;
+use ly_lr0::{Lr0, automaton};
+use ly_minim::minimise;
+use ly_page::{Named, Page};
+use ly_refused::{indented_lines, known_conditions, say_faults};
+use ly_resolve::Resolved;
+use ly_subset::Dfa;
+use std::alloc::Global;
+
+/// Two files, and what they say.
+#[derive(Clone, Copy)]
+struct Read<'a> {
+    /// The lex file.
+    lex: Named<'a>,
+    /// The yacc file.
+    yacc: Named<'a>,
+    /// What the lex file says.
+    file: &'a LexFile,
+    /// What both say together.
+    spec: &'a Spec,
+    /// The smallest scanner.
+    dfa: &'a Dfa,
+}
+
+/// Says of a lex file and a yacc file what is wrong, where they are refused, and else what is doubtful, where their
+/// conflicts are, and which rule has which number. They are accepted where `build` accepts them.
+///
+/// A limit above that of version 2 of the table file counts as that. `OutOfMemory` comes where a growth was refused.
+pub fn explain(
+    alloc: Global,
+    lex: Named<'_>,
+    yacc: Named<'_>,
+    limits: &Limits,
+    wish: Wish,
+) -> Result<Explanation, OutOfMemory>
+    ensures { IfOk result (IsExplained (least_of limits.now (sizes_in V2)) lex.entry.bytes.now yacc.entry.bytes.now) }
+{
+    let limits = limits.within(Version::V2);
+    match of_accepted(alloc, lex, yacc, &limits, wish) {
+        Ok(explanation) => Ok(explanation),
+        Err(GenFault::OutOfMemory) => Err(OutOfMemory),
+        Err(fault) => {
+            let mut page = Page::new(alloc);
+            say_faults(alloc, &mut page, lex, yacc, &limits, &fault)?;
+            Ok(Explanation {
+                text: page.finish()?,
+                states: None,
+                picture: None,
+                accepted: false,
+            })
+        }
+    }
+}
+
+/// What is said of two files that are accepted; a fault where they are refused.
+fn of_accepted(
+    alloc: Global,
+    lex: Named<'_>,
+    yacc: Named<'_>,
+    limits: &Limits,
+    wish: Wish,
+) -> Result<Explanation, GenFault>
+    ensures accepted { IfOk result (λ e. e.accepted ≡ true) }
+    ensures formed { IfOk result (λ _. IsWellFormed limits.now lex.entry.bytes.now yacc.entry.bytes.now) }
+    ensures refused { IfErr result (IsRefusedFor limits.now lex.entry.bytes.now yacc.entry.bytes.now) }
+{
+    let given = read_specification(alloc, lex.bytes, yacc.bytes, limits)?;
+    let Specification {
+        file,
+        spec,
+        subsets,
+    } = given;
+    let dfa = minimise(alloc, subsets)?;
+    let read = Read {
+        lex,
+        yacc,
+        file: &file,
+        spec: &spec,
+        dfa: &dfa,
+    };
+    let said = of_read(alloc, read, limits, wish);
+    drop(dfa);
+    drop(spec);
+    drop(file);
+    said
+}
+
+/// What is said of two files that say a specification; a fault where no tables are made of it.
+fn of_read(
+    alloc: Global,
+    read: Read<'_>,
+    limits: &Limits,
+    wish: Wish,
+) -> Result<Explanation, GenFault>
+    requires shapes { AreShapesWithin read.spec.now }
+    requires order { IsBreadthFirst read.dfa.now }
+    ensures accepted { IfOk result (λ e. e.accepted ≡ true) }
+    ensures fit { IfOk result (λ _. (useful : Grammar) × IsFit limits.now read.entry.spec.now useful) }
+    ensures unfit { IfErr result (IsUnfitFor limits.now read.entry.spec.now) }
+{
+    let reduced = reduce(alloc, read.spec.grammar())?;
+    let lr0 = automaton(alloc, &reduced, limits)?;
+    of_automaton(alloc, read, &lr0, wish)
+}
+
+/// What is said of two files that have an automaton; a fault where no tables are made of it.
+fn of_automaton(
+    alloc: Global,
+    read: Read<'_>,
+    lr0: &Lr0<'_>,
+    wish: Wish,
+) -> Result<Explanation, GenFault>
+    requires shapes { AreShapesWithin read.spec.now }
+    requires order { IsBreadthFirst read.dfa.now }
+    requires lawful { parser.IsLr0Automaton lr0.now }
+    requires useful { KeepsUseful read.spec.now.grammar lr0.now.grammar }
+    ensures accepted { IfOk result (λ e. e.accepted ≡ true) }
+    ensures steady { IfOk result (λ _. HasSteadyTables read.entry.spec.now lr0.now.grammar) }
+    ensures unfit { IfErr result (λ fault. (limits : Sizes) → IsUnfitFor limits read.entry.spec.now fault) }
+{
+    let resolved = settle(alloc, read.spec, lr0)?;
+    let tables = steady_tables(alloc, &resolved)?;
+    let told = told(alloc, read, &resolved, &tables, wish);
+    drop(tables);
+    drop(resolved);
+    Ok(told?)
+}
+
+/// What is said of two files that are accepted.
+fn told(
+    alloc: Global,
+    read: Read<'_>,
+    resolved: &Resolved<'_>,
+    tables: &Tables,
+    wish: Wish,
+) -> Result<Explanation, OutOfMemory>
+    requires { IsBreadthFirst read.dfa.now }
+    ensures { IfOk result (λ e. e.accepted ≡ true) }
+{
+    let conditions = known_conditions(alloc, read.lex.bytes)?;
+    let indented = indented_lines(alloc, read.lex.bytes)?;
+    let files = Accepted {
+        lex: read.lex,
+        yacc: read.yacc,
+        file: read.file,
+        spec: read.spec,
+        dfa: read.dfa,
+        resolved,
+        indented: &indented,
+    };
+    survey(alloc, files, &conditions, tables, wish)
+}
