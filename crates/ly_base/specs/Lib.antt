@@ -1,8 +1,6 @@
 pub mod Blank
 pub mod ByteSet
 pub mod Bytes
-pub mod Counted
-pub mod Device
 pub mod Entry
 pub mod Escapes
 pub mod Gap
@@ -11,13 +9,10 @@ pub mod Language
 pub mod Lexed
 pub mod Limits
 pub mod Literals
-pub mod MemSink
-pub mod MemSource
+pub mod Location
 pub mod Place
 pub mod Private
 pub mod Shape
 pub mod SparseSet
-pub mod Text
-pub mod TextWriter
 pub mod Trees
 pub mod Words

@@ -2,7 +2,7 @@
 use Rattle.std.proofs.Common.{◌≡◌, ◌∙◌, ◌<◌, ℕ, Err, List, Ok, Option, ap, length, subst, take}
 use Rattle.std.specs.Io.KnownBytes.{Appends}
 use Rattle.std.specs.Prelude.{IsErrAnd, IsErrOf, Result}
-use Rattle.ly_base.specs.TextWriter.{IsCutShort}
+use Rattle.ly_print.specs.TextWriter.{IsCutShort}
 use Rattle.ly_drive.specs.DriveFault.{drive_fault_of}
 use Rattle.ly_drive.specs.declared.fault.DriveFault.{DriveFault}
 use Rattle.ly_drive.specs.declared.fault.DriveFault.TheVariants.{TableFault, Write}

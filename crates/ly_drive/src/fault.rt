@@ -2,8 +2,9 @@ ghost use Rattle.std.specs.Prelude.{◌≡◌};
 ghost use Rattle.ly_drive.specs.DriveFault.{drive_fault_of, fault_of_tables};
 ghost use Rattle.ly_drive.specs.declared.fault.DriveFault.TheVariants.{OutOfMemory, Write};
 
-use ly_base::{OutOfMemory as NoMemory, WriteFault};
+use ly_base::OutOfMemory as NoMemory;
 use ly_feed::FinishFault;
+use ly_print::WriteFault;
 use ly_tables::TableFault as FileFault;
 use std::alloc::AllocError;
 use thiserror::Error;

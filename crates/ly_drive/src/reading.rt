@@ -1,10 +1,10 @@
 ghost use Rattle.std.specs.Prelude.{◌≡◌, ◌<◌, IsErrOf, length, false};
-ghost use Rattle.ly_base.specs.Device.{next_count};
+ghost use Rattle.ly_print.specs.Device.{next_count};
 ghost use Rattle.ly_drive.specs.Private.Reading.{IsReadInto};
 
 use crate::fault::DriveFault;
-use ly_base::Source;
 use ly_feed::{Feed, FeedFault, Need};
+use ly_print::Source;
 
 /// Reads what a reader gives at once, at most so much as there is room for, into a feed, and says what that wants next.
 /// None where the text has ended.

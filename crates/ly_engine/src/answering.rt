@@ -1,6 +1,6 @@
 ghost use Rattle.std.specs.Prelude.{◌≡◌, ◌≢◌, ◌⊎◌, ℕ, Err, IfErr, IfOk, IsErrOf, Ok, OnOk};
 ghost use Rattle.std.specs.Io.KnownBytes.{IsAtEnd};
-ghost use Rattle.ly_base.specs.Device.{next_count};
+ghost use Rattle.ly_print.specs.Device.{next_count};
 ghost use Rattle.ly_base.specs.Limits.{version_2};
 ghost use Rattle.ly_base.specs.declared.version.Version.TheVariants.{V2};
 ghost use Rattle.ly_drive.specs.Answering.{IsAnsweredBy, IsBegunBy, IsReadAsNeeded, IsTooLong};
@@ -12,9 +12,10 @@ ghost use Rattle.ly_generate.specs.declared.gen_fault.GenFault as code;
 ghost use Rattle.ly_generate.specs.declared.gen_fault.GenFault.TheVariants as gen;
 
 use crate::answer_fault::AnswerFault;
-use ly_base::{Limits, Sink, Source, Version};
+use ly_base::{Limits, Version};
 use ly_drive::{DriveFault, Outcome, run};
 use ly_generate::{Report, generated};
+use ly_print::{Sink, Source};
 use std::alloc::Global;
 
 /// Answers the text that a reader gives by a lex file and a yacc file (POSIX, XCU lex and yacc), and writes the answer.

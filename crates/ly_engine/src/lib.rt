@@ -18,12 +18,13 @@ mod reporting;
 pub use answer_fault::AnswerFault;
 pub use answering::answer;
 pub use generating::{Built, build, generate};
-pub use ly_base::{Counted, Limits, MemSink, MemSource, Sink, Source, Version};
+pub use ly_base::{Limits, Version};
 pub use ly_drive::{DriveFault, Feed, FeedFault, FinishFault, Need, Outcome, drive};
 pub use ly_generate::{
     GenFault, Report, Specification, read_specification, refusal_is_exact, sentences_are_answered,
     settle, steady_tables, tables_answer_as_specified,
 };
+pub use ly_print::{Counted, MemSink, MemSource, Sink, Source};
 pub use ly_report::ConflictCounts;
 pub use ly_tables::{
     FormatFault, SetCounts, TableFault, TableSet, counts, read_tables, write_tables,

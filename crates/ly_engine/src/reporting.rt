@@ -1,6 +1,6 @@
 ghost use Rattle.std.specs.Prelude.{◌≡◌, ◌<◌, ◌↔◌, ℕ, List, length, take, Err, IfErr, IfOk, IsTrue, OnOk};
 ghost use Rattle.std.specs.Io.KnownBytes.{Appends};
-ghost use Rattle.ly_base.specs.Device.{next_count};
+ghost use Rattle.ly_print.specs.Device.{next_count};
 ghost use Rattle.ly_base.specs.Limits.{least_of, sizes_in};
 ghost use Rattle.ly_base.specs.declared.version.Version.TheVariants.{V2};
 ghost use Rattle.ly_join.specs.Grammar.{Grammar};
@@ -9,8 +9,9 @@ ghost use Rattle.ly_report.specs.Report.{IsReport};
 ghost use Rattle.ly_resolve.specs.Actions.{IsConflictFree};
 ghost use Rattle.ly_generate.specs.Accepted.{IsFailedWrite, IsFit, IsRefusedFor, Specifies};
 
-use ly_base::{Limits, Sink, write_whole};
+use ly_base::Limits;
 use ly_generate::{GenFault, Report, parser_of_files};
+use ly_print::{Sink, write_whole};
 use std::alloc::Global;
 
 /// Writes the report of the specification that a lex file and a yacc file say together (POSIX, XCU yacc, "Conflicts"):

@@ -4,7 +4,7 @@ use Rattle.std.specs.Fmt.{decimal}
 use Rattle.std.specs.List.{flat_map}
 use Rattle.ly_base.specs.Bytes.{newline}
 use Rattle.ly_base.specs.Lexed.{Token}
-use Rattle.ly_base.specs.Text.{leaf_of, no_rule_line, token}
+use Rattle.ly_print.specs.Text.{leaf_of, no_rule_line, token}
 use Rattle.ly_feed.specs.declared.outcome.Outcome.{Outcome}
 use Rattle.ly_feed.specs.declared.outcome.Outcome.TheVariants.{NoRule, Syntax, Tree}
 use Rattle.ly_tree.specs.Shown.{Vocabulary, shown}

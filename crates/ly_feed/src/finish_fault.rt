@@ -3,7 +3,8 @@ ghost use Rattle.ly_feed.specs.FinishFault.{finish_fault_of};
 ghost use Rattle.ly_feed.specs.declared.finish_fault.FinishFault.TheVariants.{OutOfMemory, Write};
 
 use crate::run_fault::RunFault;
-use ly_base::{OutOfMemory as NoMemory, WriteFault};
+use ly_base::OutOfMemory as NoMemory;
+use ly_print::WriteFault;
 use thiserror::Error;
 
 /// Why the answer to a text that has ended wasn't written, or not all of it.

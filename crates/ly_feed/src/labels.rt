@@ -6,8 +6,9 @@ ghost use Rattle.ly_feed.specs.Vocabularies.{constructor_in, constructor_of, nam
 ghost use Rattle.ly_pack.specs.Values.{rule_from};
 
 use crate::names::Names;
-use ly_base::{Label, OutOfMemory, RuleNo, RuleTree, Sym, Terminal};
+use ly_base::{OutOfMemory, RuleNo, RuleTree, Sym};
 use ly_pack::TableRule;
+use ly_print::{Label, Terminal};
 use ly_tree::Words;
 use std::alloc::Global;
 

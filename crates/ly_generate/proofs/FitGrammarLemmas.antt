@@ -17,7 +17,7 @@ use Rattle.ly_base.specs.Escapes.{AllPass}
 use Rattle.ly_base.specs.Language.{IsName, continues_name, is_letter}
 use Rattle.ly_base.specs.Limits.{AreBounded, Sizes, sizes_in}
 use Rattle.ly_base.specs.declared.version.Version.{Version}
-use Rattle.ly_base.specs.Text.{escape_for, escaped_byte, is_plain}
+use Rattle.ly_print.specs.Text.{escape_for, escaped_byte, is_plain}
 use Rattle.ly_base.specs.Trees.{Tree, leaf, node}
 use Rattle.ly_base.specs.declared.language.Language.{Language}
 use Rattle.ly_base.specs.declared.language.Language.TheVariants.{Lex, Yacc}

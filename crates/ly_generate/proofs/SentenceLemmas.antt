@@ -6,7 +6,7 @@ use Rattle.std.specs.Prelude.{Contains}
 use Rattle.std.proofs.lemmas.List.Elements.{All-cons}
 use Rattle.ly_base.specs.Lexed.{Token}
 use Rattle.ly_base.specs.Shape.{Shape}
-use Rattle.ly_base.specs.Text.{Terminal, literal, token}
+use Rattle.ly_print.specs.Text.{Terminal, literal, token}
 use Rattle.ly_base.specs.Trees.{Tree, yield_of}
 use Rattle.ly_base.specs.declared.lexeme.End.{End}
 use Rattle.ly_feed.specs.Laws.{HasOneVerdict, HasSomeVerdict}

@@ -6,7 +6,7 @@ use Rattle.std.specs.List.{AllZip}
 use Rattle.std.proofs.lemmas.List.Elements.{All-cons}
 use Rattle.std.proofs.lemmas.Option.{slice_get-get_or, slice_get_within}
 use Rattle.ly_base.specs.Lexed.{Lexed, Place, Token, place_after, token_if, tokens_from}
-use Rattle.ly_base.specs.Text.{Terminal, literal, token}
+use Rattle.ly_print.specs.Text.{Terminal, literal, token}
 use Rattle.ly_base.specs.declared.lexeme.End.{End}
 use Rattle.ly_base.specs.declared.lexeme.Lexeme.{Lexeme}
 use Rattle.ly_base.specs.declared.scan_action.Emitted.{Emitted}

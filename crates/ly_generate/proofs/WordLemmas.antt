@@ -7,7 +7,7 @@ use Rattle.std.proofs.lemmas.List.{length-map}
 use Rattle.std.proofs.lemmas.Option.{slice_get-map, slice_get_past}
 use Rattle.ly_base.specs.Bytes.{newline}
 use Rattle.ly_base.specs.Lexed.{Token}
-use Rattle.ly_base.specs.Text.{leaf_of, token}
+use Rattle.ly_print.specs.Text.{leaf_of, token}
 use Rattle.ly_feed.specs.Verdict.{Verdict, accepted, expected_line, faulty, printed, refused, syntax_line, unmatched}
 use Rattle.ly_feed.specs.Vocabularies.{constructor_in, constructor_of, name_in, vocabulary_of}
 use Rattle.ly_emit.specs.SetOf.{IsSetOf}

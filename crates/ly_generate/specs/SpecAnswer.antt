@@ -3,7 +3,7 @@ use Rattle.std.specs.Prelude.{◌≡◌, ◌↔◌, ℕ, ◌+◌, ◌<◌, List,
 use Rattle.std.specs.List.{AllZip}
 use Rattle.ly_base.specs.Lexed.{Token, start_of, tokens_from}
 use Rattle.ly_base.specs.Shape.{Shape}
-use Rattle.ly_base.specs.Text.{Terminal, literal, token}
+use Rattle.ly_print.specs.Text.{Terminal, literal, token}
 use Rattle.ly_base.specs.Trees.{Tree}
 use Rattle.ly_base.specs.declared.lexeme.End.{End}
 use Rattle.ly_base.specs.declared.lexeme.End.TheVariants.{Clean, Stuck}

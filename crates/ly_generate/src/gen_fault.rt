@@ -7,12 +7,13 @@ ghost use Rattle.ly_lexread.specs.declared.fault.LexFault.TheVariants as lex;
 ghost use Rattle.ly_lr0.specs.declared.fault.Lr0Fault.TheVariants as automaton;
 ghost use Rattle.ly_yaccread.specs.declared.fault.YaccFault.TheVariants as yacc;
 
-use ly_base::{OutOfMemory as NoMemory, StateNo, Sym, WriteFault};
+use ly_base::{OutOfMemory as NoMemory, StateNo, Sym};
 use ly_grammar::GrammarFault;
 use ly_join::JoinFault;
 use ly_lexread::LexFault;
 use ly_lr0::Lr0Fault;
 use ly_position::PosFault;
+use ly_print::WriteFault;
 use ly_subset::SubsetFault;
 use ly_tokens::ScannerFault;
 use ly_yaccread::YaccFault;

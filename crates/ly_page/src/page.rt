@@ -1,7 +1,7 @@
 ghost use Rattle.std.specs.Prelude.{◌≡◌, ℕ, List, [], ◌++◌, length, map};
 ghost use Rattle.std.specs.Prelude.{IfOk, OnOk, OnErr, IfSome};
 ghost use Rattle.std.specs.Fmt.{decimal};
-ghost use Rattle.ly_base.specs.Text.{literal, name_of};
+ghost use Rattle.ly_print.specs.Text.{literal, name_of};
 ghost use Rattle.ly_join.specs.Grammar.{symbol_of, terminal as symbol_at};
 ghost use Rattle.ly_join.specs.Terminals.{terminal_from};
 ghost use Rattle.ly_report.specs.Report.{symbol_name, terminal_name};
@@ -9,8 +9,9 @@ ghost use Rattle.ly_page.specs.Page.{body_words, counted, line_of, numbered_word
 ghost use Rattle.ly_page.specs.Page.{symbol_words};
 
 use crate::named::Named;
-use ly_base::{OutOfMemory, Sym, Terminal, push_name};
+use ly_base::{OutOfMemory, Sym};
 use ly_join::{Spec, Symbol, TerminalName};
+use ly_print::{Terminal, push_name};
 use ly_report::push_terminal;
 use std::alloc::{AllocError, Global};
 use std::fmt::Display;

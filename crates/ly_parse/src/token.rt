@@ -1,4 +1,5 @@
-use ly_base::{Front, Sym};
+use ly_base::Sym;
+use ly_print::Front;
 
 /// A token, as a parser is fed with it.
 #[derive(Drop)]

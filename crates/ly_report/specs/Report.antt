@@ -5,7 +5,7 @@ use Rattle.std.specs.Prelude.{map, reverse, slice_get, option_map, unwrap_or, Al
 use Rattle.std.specs.List.{count_by}
 use Rattle.std.specs.Fmt.{decimal}
 use Rattle.ly_base.specs.Bytes.{newline, space}
-use Rattle.ly_base.specs.Text as text
+use Rattle.ly_print.specs.Text as text
 use Rattle.ly_join.specs.Grammar.{Grammar, IsRule, GrammarRule, Symbol, nonterminal, terminal}
 use Rattle.ly_join.specs.Joined.{Spec}
 use Rattle.ly_join.specs.Terminals.{TerminalName, byte, end, token, undefined}

@@ -1,7 +1,8 @@
 ghost use Rattle.std.specs.Prelude.{◌≡◌};
 ghost use Rattle.ly_report.specs.declared.fault.ReportFault.TheVariants.{OutOfMemory, Write};
 
-use ly_base::{OutOfMemory as NoMemory, WriteFault};
+use ly_base::OutOfMemory as NoMemory;
+use ly_print::WriteFault;
 use thiserror::Error;
 
 /// Why a report wasn't written whole.

@@ -5,8 +5,8 @@ ghost use Rattle.ly_join.specs.Terminals.{terminal_from};
 ghost use Rattle.ly_report.specs.Report.{behind_spaces, spaced, symbol_name, terminal_name};
 ghost use Rattle.ly_report.specs.Private.Symbols.{IsNamed};
 
-use ly_base::{Terminal, push_name};
 use ly_join::{Spec, Symbol, TerminalName};
+use ly_print::{Terminal, push_name};
 use std::alloc::AllocError;
 
 /// Appends the name of a symbol.

@@ -1,6 +1,6 @@
 ghost use Rattle.std.specs.Prelude.{◌≡◌, ◌<◌, ◌++◌, ℕ, List, length, take, map, All, Err, IfOk, IsErrOf, OnOk};
 ghost use Rattle.std.specs.Io.KnownBytes.{Appends};
-ghost use Rattle.ly_base.specs.Device.{next_count};
+ghost use Rattle.ly_print.specs.Device.{next_count};
 ghost use Rattle.ly_grammar.specs.Reduction.{KeepsUseful};
 ghost use Rattle.ly_join.specs.Grammar.{IsGrammar};
 ghost use Rattle.ly_resolve.specs.Values.{conflict_from};
@@ -10,10 +10,11 @@ ghost use Rattle.ly_report.specs.Private.Symbols.{IsTellable};
 use crate::counts::{ConflictCounts, push_counts};
 use crate::fault::ReportFault;
 use crate::line::{push_conflict, push_decimal, push_removed};
-use ly_base::{OutOfMemory, Sink, write_whole};
+use ly_base::OutOfMemory;
 use ly_grammar::Reduced;
 use ly_join::{Grammar, Spec};
 use ly_lr0::Lr0;
+use ly_print::{Sink, write_whole};
 use ly_resolve::{Conflict, Resolved};
 use std::alloc::{AllocError, Global};
 

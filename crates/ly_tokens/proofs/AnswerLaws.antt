@@ -4,8 +4,8 @@ use Rattle.std.proofs.Common.{◌+◌, subst, take, drop}
 use Rattle.std.specs.Prelude.{slice_index}
 use Rattle.ly_ere.specs.Names.{defined}
 use Rattle.ly_base.specs.Lexed.{start_of, token_if, tokens_from}
-use Rattle.ly_base.specs.Text.{Terminal}
-use Rattle.ly_base.specs.Text as text
+use Rattle.ly_print.specs.Text.{Terminal}
+use Rattle.ly_print.specs.Text as text
 use Rattle.ly_base.specs.declared.lexeme.Lexeme.{Lexeme}
 use Rattle.ly_lexread.specs.Action.{Meaning, nothing, token, literal_of, first_byte, meaning_of}
 use Rattle.ly_lexread.specs.LexText.{AreSameActions}

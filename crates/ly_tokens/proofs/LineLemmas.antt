@@ -3,8 +3,8 @@ use Rattle.std.proofs.Common.{◌≡◌, ◌<◌, ◌≤◌, ◌+◌, ◌*◌, �
 use Rattle.std.proofs.Common.{◌∙◌, ◌-◌, ap, arith, drop, length-drop, length-take-le, sym, take}
 use Rattle.std.specs.Prelude.{slice_index}
 use Rattle.std.proofs.Math.Nat.{add-mul}
-use Rattle.ly_base.proofs.RoomLemmas.{line_len}
-use Rattle.ly_base.specs.Text.{literal, token}
+use Rattle.ly_print.proofs.RoomLemmas.{line_len}
+use Rattle.ly_print.specs.Text.{literal, token}
 use Rattle.ly_lexread.specs.declared.action.LexAction.{LexAction}
 use Rattle.ly_lexread.specs.declared.action.Returned.{Returned}
 use Rattle.ly_lexread.specs.declared.action.Returned.TheVariants.{Nothing, Token, Literal, FirstByte}

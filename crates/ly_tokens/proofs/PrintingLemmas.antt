@@ -3,12 +3,12 @@ use Rattle.std.proofs.Common.{◌≡◌, ◌∙◌, ℕ, List, [], ◌∷◌, �
 use Rattle.std.proofs.Common.{◌≤◌, Err, append_assoc, append-nil, arith, length}
 use Rattle.std.proofs.Common.{zero, suc, false, true, map, slice_get}
 use Rattle.ly_base.specs.Lexed.{Place, LexedTo, Lexed, Token, moved, start_of, token_if, tokens_from}
-use Rattle.ly_base.specs.Text.{Terminal, leaf_line}
+use Rattle.ly_print.specs.Text.{Terminal, leaf_line}
 use Rattle.ly_base.specs.declared.lexeme.End.{End}
 use Rattle.ly_base.specs.declared.lexeme.Lexeme.{Lexeme}
-use Rattle.ly_base.specs.TextWriter.{IsAppended, IsCutShort, Outgoing}
-use Rattle.ly_base.specs.declared.whole.WriteFault.{WriteFault}
-use Rattle.ly_base.proofs.TextWriterLemmas.{cut_from, cut_more}
+use Rattle.ly_print.specs.TextWriter.{IsAppended, IsCutShort, Outgoing}
+use Rattle.ly_print.specs.declared.whole.WriteFault.{WriteFault}
+use Rattle.ly_print.proofs.TextWriterLemmas.{cut_from, cut_more}
 use Rattle.ly_base.proofs.LexedLemmas.{leads_more, leads_on, tokens_more}
 use Rattle.ly_lexread.specs.declared.action.LexAction.{LexAction}
 use Rattle.ly_lexread.specs.declared.action.Returned.{Returned}

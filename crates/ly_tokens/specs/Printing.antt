@@ -1,7 +1,7 @@
 -- What `tokens` writes: a line for each token, and a last one where no rule matches.
 use Rattle.std.specs.Prelude.{ℕ, List, [], slice_get, slice_index, Option, Some, None, option_and_then, flat_map}
 use Rattle.ly_base.specs.Lexed.{Token}
-use Rattle.ly_base.specs.Text.{Terminal, token, literal, leaf_line, no_rule_line}
+use Rattle.ly_print.specs.Text.{Terminal, token, literal, leaf_line, no_rule_line}
 use Rattle.ly_base.specs.declared.lexeme.End.{End}
 use Rattle.ly_base.specs.declared.lexeme.End.TheVariants.{Clean, Stuck, BadCut}
 use Rattle.ly_lexread.specs.declared.action.LexAction.{LexAction}

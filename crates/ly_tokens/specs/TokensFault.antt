@@ -1,7 +1,7 @@
 -- The faults of the parts as faults of the whole.
 use Rattle.ly_base.specs.Limits.{Sizes}
-use Rattle.ly_base.specs.declared.whole.ReadFault.{ReadFault}
-use Rattle.ly_base.specs.declared.whole.ReadFault.TheVariants as read
+use Rattle.ly_print.specs.declared.whole.ReadFault.{ReadFault}
+use Rattle.ly_print.specs.declared.whole.ReadFault.TheVariants as read
 use Rattle.ly_lexread.specs.declared.fault.LexFault.{LexFault}
 use Rattle.ly_lexread.specs.declared.fault.LexFault.TheVariants as lex
 use Rattle.ly_lexread.specs.declared.file.LexFile.{LexFile}

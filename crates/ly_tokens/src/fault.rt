@@ -3,9 +3,10 @@ ghost use Rattle.ly_tokens.specs.TokensFault.{fault_of_lex, fault_of_read, fault
 ghost use Rattle.ly_tokens.specs.declared.fault.TokensFault.TheVariants.{OutOfMemory, Write};
 
 use crate::scanner_fault::ScannerFault;
-use ly_base::{OutOfMemory as NoMemory, ReadFault, WriteFault};
+use ly_base::OutOfMemory as NoMemory;
 use ly_lexread::LexFault;
 use ly_position::PosFault;
+use ly_print::{ReadFault, WriteFault};
 use ly_subset::SubsetFault;
 use std::alloc::AllocError;
 use thiserror::Error;

@@ -1,11 +1,12 @@
 ghost use Rattle.std.specs.Prelude.{◌≡◌, ◌<◌, length, IfOk, option_map};
 ghost use Rattle.std.proofs.Props.{props};
-ghost use Rattle.ly_base.specs.Text.{before_leaf};
+ghost use Rattle.ly_print.specs.Text.{before_leaf};
 ghost use Rattle.ly_tokens.specs.Printing.{naming};
 ghost use Rattle.ly_tokens.specs.Private.Labels.{label_for, AreLabels, AreLiteralLabels, AreRuleLabels};
 
-use ly_base::{Label, OutOfMemory, RuleNo, Terminal};
+use ly_base::{OutOfMemory, RuleNo};
 use ly_lexread::{LexAction, Returned};
+use ly_print::{Label, Terminal};
 use std::alloc::Global;
 
 /// How the lines of a rule's tokens begin.

@@ -2,18 +2,19 @@ ghost use Rattle.std.specs.Prelude.{◌≡◌, ◌<◌, ◌≤◌, ◌+◌, ◌^
 ghost use Rattle.std.specs.Prelude.{IfOk, IfErr, OnOk, OnErr};
 ghost use Rattle.std.specs.Bool.{OnTrue};
 ghost use Rattle.std.specs.Io.KnownBytes.{Appends};
-ghost use Rattle.ly_base.specs.Device.{next_count};
+ghost use Rattle.ly_print.specs.Device.{next_count};
 ghost use Rattle.ly_base.specs.Lexed.{start_of};
-ghost use Rattle.ly_base.specs.Text.{named, no_rule_line};
-ghost use Rattle.ly_base.specs.TextWriter.{bytes_of, IsAppended, IsCutShort};
+ghost use Rattle.ly_print.specs.Text.{named, no_rule_line};
+ghost use Rattle.ly_print.specs.TextWriter.{bytes_of, IsAppended, IsCutShort};
 ghost use Rattle.ly_scan.specs.Lexers.{scanner_of};
 ghost use Rattle.ly_tokens.specs.Printing.{condition_set, end_line, line_if, naming};
 ghost use Rattle.ly_tokens.specs.Private.RunEnd.{EndsSo};
 ghost use Rattle.ly_tokens.specs.Private.TokenLines.{is_passed, name_len, AreCountable, AreLines};
 
 use crate::labels::RuleLabels;
-use ly_base::{End, Front, Place, RuleNo, Sink, TextWriter, WriteFault};
+use ly_base::{End, Place, RuleNo};
 use ly_lexread::{LexAction, Returned};
+use ly_print::{Front, Sink, TextWriter, WriteFault};
 use ly_scan::{KnownWalks, Lexer};
 use std::alloc::Global;
 

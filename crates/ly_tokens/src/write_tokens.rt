@@ -1,9 +1,9 @@
 ghost use Rattle.std.specs.Prelude.{◌≡◌, ℕ, ◌<◌, ◌≤◌, List, length, map, take, Err, IfOk, IfErr, IsErrOf, OnOk};
 ghost use Rattle.std.specs.Io.KnownBytes.{Appends, IsAtEnd};
 ghost use Rattle.ly_ere.specs.Names.{defined};
-ghost use Rattle.ly_base.specs.Device.{next_count};
+ghost use Rattle.ly_print.specs.Device.{next_count};
 ghost use Rattle.ly_base.specs.Limits.{version_2};
-ghost use Rattle.ly_base.specs.TextWriter.{IsCutShort};
+ghost use Rattle.ly_print.specs.TextWriter.{IsCutShort};
 ghost use Rattle.ly_base.specs.declared.lexeme.End.{End};
 ghost use Rattle.ly_lexread.specs.Faults.{IsOfText, IsTooHeavy};
 ghost use Rattle.ly_lexread.specs.LexText.{IsHeavyText, IsLight, LexText};
@@ -29,8 +29,9 @@ use crate::labels::RuleLabels;
 use crate::outcome::TokenEnd;
 use crate::run_end::run_end;
 use crate::token_lines::{are_countable, write_token_lines};
-use ly_base::{End, Limits, Sink, Source, TextWriter, read_whole};
+use ly_base::{End, Limits};
 use ly_lexread::{LexFile, read_lex};
+use ly_print::{Sink, Source, TextWriter, read_whole};
 use ly_scan::Lexer;
 use std::alloc::Global;
 

@@ -5,10 +5,10 @@ use Rattle.std.proofs.lemmas.List.Sums.{sum_by-cons}
 use Rattle.std.specs.Borrow.{Bor}
 use Rattle.std.specs.Option.{SomeIff}
 use Rattle.std.specs.Prelude.{codes, sum, IfSome, IsSome, Option}
-use Rattle.ly_base.proofs.RoomLemmas.{escaped_len}
-use Rattle.ly_base.proofs.TextLemmas.{quoted_leaf}
+use Rattle.ly_print.proofs.RoomLemmas.{escaped_len}
+use Rattle.ly_print.proofs.TextLemmas.{quoted_leaf}
 use Rattle.ly_base.specs.Bytes.{double_quote, newline}
-use Rattle.ly_base.specs.Text.{before_leaf, escaped, token}
+use Rattle.ly_print.specs.Text.{before_leaf, escaped, token}
 use Rattle.ly_base.specs.declared.numbers.Sym.{Sym}
 use Rattle.ly_tree.proofs.CostLemmas.{length-terms_from}
 use Rattle.ly_tree.specs.Costs.{budget, bytes_in, cost, costs, IsPaid}

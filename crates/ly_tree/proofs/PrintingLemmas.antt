@@ -6,11 +6,11 @@ use Rattle.std.specs.Borrow.{Bor}
 use Rattle.std.proofs.lemmas.List.Elements.{All-push}
 use Rattle.std.proofs.Math.ListN.{get_or-append}
 use Rattle.std.proofs.Math.Seq.{get_or-append_seam}
-use Rattle.ly_base.proofs.TextWriterLemmas.{all_there, appended_twice, cut_from, cut_more, underway_from}
+use Rattle.ly_print.proofs.TextWriterLemmas.{all_there, appended_twice, cut_from, cut_more, underway_from}
 use Rattle.ly_base.specs.Bytes.{double_quote, newline}
-use Rattle.ly_base.specs.Text.{escaped}
-use Rattle.ly_base.specs.TextWriter.{IsAppended, IsCutShort, IsUnderway, Outgoing, bytes_of}
-use Rattle.ly_base.specs.declared.whole.WriteFault.{WriteFault}
+use Rattle.ly_print.specs.Text.{escaped}
+use Rattle.ly_print.specs.TextWriter.{IsAppended, IsCutShort, IsUnderway, Outgoing, bytes_of}
+use Rattle.ly_print.specs.declared.whole.WriteFault.{WriteFault}
 use Rattle.ly_tree.proofs.StandLemmas.{known_front, known_rest}
 use Rattle.ly_tree.specs.Costs.{cost}
 use Rattle.ly_tree.specs.Forest.{terms_of, Grown, StandsFor}

@@ -1,6 +1,6 @@
 -- Terms as printed text.
 use Rattle.std.specs.Prelude.{ℕ, List, [], ◌++◌, codes}
-use Rattle.ly_base.specs.Text.{leaf_of, token}
+use Rattle.ly_print.specs.Text.{leaf_of, token}
 use Rattle.ly_tree.specs.Term.{Term, Terms, nothing, leaf, built, none, more}
 
 -- the printed names of terminals, and the constructors of rules

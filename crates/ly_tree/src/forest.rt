@@ -7,7 +7,8 @@ use crate::headed::Headed;
 use crate::numbers::{number_of, parts_of};
 use crate::refers::Refers;
 use crate::span::Span;
-use ly_base::{Front, OutOfMemory, RuleNo, Sym, Texts};
+use ly_base::{OutOfMemory, RuleNo, Sym};
+use ly_print::{Front, Texts};
 use std::alloc::Global;
 use std::marker::Model;
 

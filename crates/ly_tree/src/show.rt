@@ -2,9 +2,9 @@ ghost use Rattle.std.specs.Prelude.{◌≡◌, ◌<◌, ◌+◌, ◌++◌, ◌^�
 ghost use Rattle.std.specs.Prelude.{OnOk, Some, vec_capacity};
 ghost use Rattle.std.specs.Io.KnownBytes.{Appends};
 ghost use Rattle.ly_base.specs.Bytes.{newline};
-ghost use Rattle.ly_base.specs.Device.{next_count};
-ghost use Rattle.ly_base.specs.Text.{leaf_of, token};
-ghost use Rattle.ly_base.specs.TextWriter.{bytes_of, IsAppended, IsCutShort};
+ghost use Rattle.ly_print.specs.Device.{next_count};
+ghost use Rattle.ly_print.specs.Text.{leaf_of, token};
+ghost use Rattle.ly_print.specs.TextWriter.{bytes_of, IsAppended, IsCutShort};
 ghost use Rattle.ly_tree.specs.Costs.{IsPaid};
 ghost use Rattle.ly_tree.specs.Forest.{term_of, Grown, StandsFor};
 ghost use Rattle.ly_tree.specs.Private.Printing.{left_text, next_text, opening, term_at, term_text, HasChildren};
@@ -14,7 +14,8 @@ ghost use Rattle.ly_tree.specs.Term.{Term};
 
 use crate::forest::{Forest, TermRef};
 use crate::words::Words;
-use ly_base::{Front, MemSink, OutOfMemory, RuleNo, Sink, Sym, TextWriter, WriteFault};
+use ly_base::{OutOfMemory, RuleNo, Sym};
+use ly_print::{Front, MemSink, Sink, TextWriter, WriteFault};
 use std::alloc::Global;
 use std::marker::Model;
 

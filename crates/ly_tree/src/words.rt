@@ -1,7 +1,8 @@
 ghost use Rattle.std.specs.Prelude.{◌≡◌, ◌≤◌, ◌++◌, ℕ, List, codes, length};
-ghost use Rattle.ly_base.specs.Text.{before_leaf, token};
+ghost use Rattle.ly_print.specs.Text.{before_leaf, token};
 
-use ly_base::{Label, RuleNo, Sym};
+use ly_base::{RuleNo, Sym};
+use ly_print::Label;
 
 /// The names by which terms are printed. Every number has one.
 pub trait Words {

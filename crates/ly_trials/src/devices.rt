@@ -1,6 +1,6 @@
 //! Reading all of a source and writing all of an answer, with devices that fail and that don't.
 
-use ly_base::{MemSink, MemSource, ReadFault, WriteFault, read_whole, write_whole};
+use ly_print::{MemSink, MemSource, ReadFault, WriteFault, read_whole, write_whole};
 use std::alloc::{AllocError, Global};
 use std::test::Fail;
 

@@ -1,7 +1,7 @@
 //! Want of memory: `tokens` answers rightly, or that memory ran out, and nothing else.
 
-use ly_base::{Counted, MemSource};
 use ly_engine::{TokenEnd, TokensFault, tokens};
+use ly_print::{Counted, MemSource};
 use std::alloc::{AllocError, Global};
 use std::test::Fail;
 

@@ -9,10 +9,11 @@ ghost use Rattle.ly_pack.specs.Steady.{IsSteady};
 ghost use Rattle.std.specs.Prelude.{◌≡◌, ◌<◌};
 
 use crate::rows::{by_hand, laid_by_hand};
-use ly_base::{Front, OutOfMemory, StateNo, Sym};
+use ly_base::{OutOfMemory, StateNo, Sym};
 use ly_loop::steady;
 use ly_pack::{Machine, Rows, TableAction};
 use ly_parse::{ParseFault, Parser, Step, Token};
+use ly_print::Front;
 use ly_tree::TermRef;
 use std::alloc::Global;
 use std::test::Fail;

@@ -1,7 +1,8 @@
 //! Reports of two files: what is written, what is answered, which part refuses them, and limits that are met exactly.
 
-use ly_base::{Limits, MemSink};
+use ly_base::Limits;
 use ly_engine::{GenFault, generate_report};
+use ly_print::MemSink;
 use std::alloc::Global;
 
 /// Each byte returns its literal.

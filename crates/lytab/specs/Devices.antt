@@ -1,6 +1,6 @@
 -- Which failures of devices are told: by how often they had failed before a call and after it.
 use Rattle.std.specs.Prelude.{◌≡◌, ◌⊎◌, ℕ, IfErr, MatchResult, OnOk, Result}
-use Rattle.ly_base.specs.Device.{next_count}
+use Rattle.ly_print.specs.Device.{next_count}
 use Rattle.lytab.specs.Failure.{IsOfReader, IsOfWriter}
 use Rattle.lytab.specs.declared.completion.Completion.{Completion}
 use Rattle.lytab.specs.declared.failure.Failure.{Failure}

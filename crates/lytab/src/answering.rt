@@ -13,9 +13,9 @@ ghost use Rattle.lytab.specs.declared.completion.Completion.TheVariants as compl
 use crate::completion::Completion;
 use crate::failure::Failure;
 use crate::files::{STANDARD, open};
-use ly_base::{Counted, Sink, Source};
 use ly_drive::{DriveFault, drive};
 use ly_engine::{AnswerFault, GenFault, TokensFault, answer, tokens};
+use ly_print::{Counted, Sink, Source};
 use std::alloc::Global;
 use std::rt::Files;
 

@@ -7,7 +7,7 @@ ghost use Rattle.lytab.specs.Devices.{IsOutputTold};
 use crate::completion::Completion;
 use crate::failure::Failure;
 use crate::files::read_file;
-use ly_base::Sink;
+use ly_print::Sink;
 use ly_tables::{SetCounts, TableFault, counts, read_tables};
 use std::alloc::{AllocError, Global};
 use std::fmt::Write;

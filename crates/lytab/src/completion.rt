@@ -7,8 +7,8 @@ ghost use Rattle.lytab.specs.declared.completion.Completion.TheVariants as compl
 
 use crate::failure::Failure;
 use crate::files::{STANDARD, write_to};
-use ly_base::Sink;
 use ly_engine::{Outcome, TokenEnd};
+use ly_print::Sink;
 
 /// How a command is completed where nothing fails.
 #[derive(Clone, Copy)]

@@ -1,9 +1,9 @@
 //! Files, read and written whole.
 ghost use Rattle.std.specs.Prelude.{◌≡◌, ◌⊎◌, ◌<◌, ℕ, IfErr, length, OnErr, OnOk, take};
 ghost use Rattle.std.specs.Io.KnownBytes.{Appends};
-ghost use Rattle.ly_base.specs.Device.{next_count};
+ghost use Rattle.ly_print.specs.Device.{next_count};
 
-use ly_base::{Counted, ReadFault, Sink, read_whole, write_whole};
+use ly_print::{Counted, ReadFault, Sink, read_whole, write_whole};
 use std::alloc::Global;
 use std::fs;
 use std::rt::Files;

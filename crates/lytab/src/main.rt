@@ -14,7 +14,7 @@ mod failure;
 mod files;
 mod perform;
 
-use ly_base::Counted;
+use ly_print::Counted;
 use std::env;
 use std::process::ExitCode;
 

@@ -12,7 +12,7 @@ use crate::completion::Completion;
 use crate::explaining::explain_files;
 use crate::failure::{Failure, told};
 use crate::files::read_file;
-use ly_base::{Sink, Source};
+use ly_print::{Sink, Source};
 use ly_words::{Command, CommandFault, read_command};
 use std::alloc::Global;
 use std::io::Write;

@@ -1,6 +1,6 @@
 -- The labels of a table set, by the numbers of its terminals and rules.
 use Rattle.std.specs.Prelude.{ℕ, List, [], ◌∷◌, ◌++◌, codes, map}
-use Rattle.ly_base.specs.Text.{before_leaf, token}
+use Rattle.ly_print.specs.Text.{before_leaf, token}
 use Rattle.ly_feed.specs.Vocabularies.{constructor_of}
 use Rattle.ly_pack.specs.Machine.{TableRule}
 

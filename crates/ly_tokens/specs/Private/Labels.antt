@@ -1,7 +1,7 @@
 -- The labels of tokens: what stands before their texts in their lines.
 use Rattle.std.specs.Prelude.{◌≡◌, ◌<◌, ℕ, List, slice_get, slice_index, Option, Some, None}
 use Rattle.std.specs.Prelude.{map, option_and_then, option_map}
-use Rattle.ly_base.specs.Text.{before_leaf, literal, token}
+use Rattle.ly_print.specs.Text.{before_leaf, literal, token}
 use Rattle.ly_lexread.specs.declared.action.LexAction.{LexAction}
 use Rattle.ly_lexread.specs.declared.action.Returned.{Returned}
 use Rattle.ly_lexread.specs.declared.action.Returned.TheVariants as returned

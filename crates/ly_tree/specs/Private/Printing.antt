@@ -2,9 +2,9 @@
 use Rattle.std.specs.Prelude.{◌≡◌, ◌≤◌, ◌+◌, ℕ, List, [], ◌∷◌, ◌++◌, All, IfSome, IsSome, Option, None, Some, Result}
 use Rattle.std.specs.Prelude.{Ok, Err, codes, length, unwrap_or}
 use Rattle.std.specs.Borrow.{Bor}
-use Rattle.ly_base.specs.Text.{leaf_of, token}
-use Rattle.ly_base.specs.TextWriter.{IsAppended, Outgoing}
-use Rattle.ly_base.specs.declared.whole.WriteFault.{WriteFault}
+use Rattle.ly_print.specs.Text.{leaf_of, token}
+use Rattle.ly_print.specs.TextWriter.{IsAppended, Outgoing}
+use Rattle.ly_print.specs.declared.whole.WriteFault.{WriteFault}
 use Rattle.ly_tree.specs.Costs.{cost, costs}
 use Rattle.ly_tree.specs.Forest.{term_of, terms_of, Grown, StandsFor}
 use Rattle.ly_tree.specs.Private.Grown.{AllKnown}

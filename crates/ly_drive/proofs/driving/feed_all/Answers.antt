@@ -1,6 +1,6 @@
 use Rattle.std.proofs.Common.{◌≡◌, ◌∙◌, ◌<◌, [], Err, Ok, Some, ap, length, refl, subst, sym, take}
 use Rattle.std.specs.Io.KnownBytes.{Appends}
-use Rattle.ly_base.specs.TextWriter.{IsCutShort}
+use Rattle.ly_print.specs.TextWriter.{IsCutShort}
 use Rattle.ly_drive.proofs.FaultLemmas.{cut_short, other_fault, same_count, tables_of, write_of}
 use Rattle.ly_drive.proofs.SoFarLemmas.{as_needed, at_fault, begins, ended_as_needed, ended_so, ends}
 use Rattle.ly_drive.proofs.SoFarLemmas.{given_by, goes_on, settles}

@@ -1,6 +1,6 @@
 use Rattle.std.proofs.Common.{Err, ap, refl, subst, sym}
 use Rattle.std.specs.Io.KnownBytes.{Appends}
-use Rattle.ly_base.specs.TextWriter.{IsCutShort}
+use Rattle.ly_print.specs.TextWriter.{IsCutShort}
 use Rattle.ly_feed.proofs.FaultLemmas.{same_fault}
 use Rattle.ly_feed.proofs.LineLemmas.{term_printed}
 use Rattle.ly_feed.specs.Private.Running.{IsVerdictOf, words_of}

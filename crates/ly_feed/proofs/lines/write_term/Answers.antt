@@ -1,7 +1,7 @@
 use Rattle.std.proofs.Common.{◌∙◌, ◌++◌, ◌∷◌, [], ap, subst}
 use Rattle.std.specs.Io.KnownBytes.{Appends}
 use Rattle.ly_base.specs.Bytes.{newline}
-use Rattle.ly_base.specs.TextWriter.{IsCutShort}
+use Rattle.ly_print.specs.TextWriter.{IsCutShort}
 use Rattle.ly_feed.specs.Private.Running.{words_of}
 use Rattle.ly_feed.specs.declared.finish_fault.FinishFault.TheVariants.{Write}
 use Rattle.ly_feed.proofs.FaultLemmas.{same_count, same_fault}

@@ -1,6 +1,6 @@
 use Rattle.std.proofs.Common.{◌∙◌, [], ◌∷◌, ap, arith, length, length-append}
 use Rattle.std.specs.Prelude.{slice_get}
-use Rattle.ly_base.specs.Text.{before_leaf, literal}
+use Rattle.ly_print.specs.Text.{before_leaf, literal}
 use Rattle.ly_tokens.proofs.LabelLemmas.{listed_more}
 use Rattle.ly_tokens.proofs.labels.literal_labels.Goals as goal
 

@@ -1,6 +1,6 @@
 use Rattle.std.proofs.Common.{◌≡◌, ◌<◌, ℕ, Some, length}
 use Rattle.std.specs.Prelude.{slice_get}
-use Rattle.ly_base.specs.Text.{before_leaf, literal}
+use Rattle.ly_print.specs.Text.{before_leaf, literal}
 use Rattle.ly_tokens.proofs.labels.literal_labels.Given as goal
 
 -- there are the labels of the bytes so far

@@ -1,6 +1,6 @@
 use Rattle.std.proofs.Common.{arith}
 use Rattle.std.proofs.lemmas.Result.{on_ok_weaker}
-use Rattle.ly_base.proofs.RoomLemmas.{no_rule_len}
+use Rattle.ly_print.proofs.RoomLemmas.{no_rule_len}
 use Rattle.ly_tokens.proofs.token_lines.push_stuck.Goals as goal
 
 pub push_no_rule_line-requires : goal.push_no_rule_line-requires

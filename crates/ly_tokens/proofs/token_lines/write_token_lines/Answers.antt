@@ -2,9 +2,9 @@ use Rattle.std.proofs.Common.{◌∙◌, ◌*◌, ◌++◌, [], Err, Ok, ap, app
 use Rattle.std.proofs.Common.{sym, take}
 use Rattle.std.specs.Prelude.{true}
 use Rattle.std.proofs.Math.Nat.{mul-le-mul_right}
-use Rattle.ly_base.specs.TextWriter.{IsUnderway, bytes_of}
+use Rattle.ly_print.specs.TextWriter.{IsUnderway, bytes_of}
 use Rattle.ly_base.specs.Lexed.{Place, moved, start_of}
-use Rattle.ly_base.proofs.TextWriterLemmas.{appended_twice, cut_from, err_is, underway_from}
+use Rattle.ly_print.proofs.TextWriterLemmas.{appended_twice, cut_from, err_is, underway_from}
 use Rattle.ly_scan.proofs.PieceLemmas.{answered, end_at, lexeme_at}
 use Rattle.ly_scan.specs.KnownWalks.{AreKnown}
 use Rattle.ly_scan.specs.Lexers.{scanner_of}

@@ -1,6 +1,6 @@
 use Rattle.std.proofs.Common.{◌≡◌, ◌≤◌, ◌+◌, ◌*◌, ℕ, List, All, Ok, length, true}
 use Rattle.ly_base.specs.Lexed.{start_of}
-use Rattle.ly_base.specs.TextWriter.{bytes_of, IsAppended}
+use Rattle.ly_print.specs.TextWriter.{bytes_of, IsAppended}
 use Rattle.ly_lexread.specs.declared.action.LexAction.{LexAction}
 use Rattle.ly_scan.specs.KnownWalks.{AreKnown}
 use Rattle.ly_scan.specs.Lexers.{scanner_of}

@@ -1,7 +1,7 @@
 use Rattle.std.proofs.Common.{◌≡◌, ◌∙◌, Err, Result, subst, sym}
 use Rattle.std.proofs.lemmas.Result.{err_from_is_err_and}
 use Rattle.ly_ere.specs.Names.{defined}
-use Rattle.ly_base.specs.TextWriter.{IsCutShort}
+use Rattle.ly_print.specs.TextWriter.{IsCutShort}
 use Rattle.ly_base.specs.declared.lexeme.End.{End}
 use Rattle.ly_tokens.specs.Answering.{IsAnswer}
 use Rattle.ly_tokens.specs.declared.fault.TokensFault.{TokensFault}

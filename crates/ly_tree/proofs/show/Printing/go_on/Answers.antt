@@ -1,7 +1,7 @@
 use Rattle.std.proofs.Common.{◌∙◌, ◌∷◌, [], ◌++◌, ap, append_assoc, append-nil, codes, sym, subst, arith}
 use Rattle.std.proofs.Common.{length, length-append, Err, Ok, None}
 use Rattle.std.specs.Prelude.{vec_capacity}
-use Rattle.ly_base.proofs.TextWriterLemmas.{appended_twice}
+use Rattle.ly_print.proofs.TextWriterLemmas.{appended_twice}
 use Rattle.ly_tree.specs.Private.Printing.{left_text, term_text, IsOpen}
 use Rattle.ly_tree.proofs.PrintingLemmas.{alone_inside, end_text, open_inside, open_sibling}
 use Rattle.ly_tree.proofs.PrintingLemmas.{printed_fails, sibling_text}

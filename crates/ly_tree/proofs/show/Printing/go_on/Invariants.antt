@@ -1,5 +1,5 @@
 use Rattle.std.proofs.Common.{◌≡◌, ◌≤◌, ◌+◌, ◌++◌, ℕ, List, None, Ok, length, vec_capacity, vec_len}
-use Rattle.ly_base.specs.TextWriter.{bytes_of, IsAppended}
+use Rattle.ly_print.specs.TextWriter.{bytes_of, IsAppended}
 use Rattle.ly_tree.specs.Forest.{Grown}
 use Rattle.ly_tree.specs.Private.Printing.{left_text, IsAlone, IsOpen}
 use Rattle.ly_tree.specs.Shown.{Vocabulary}

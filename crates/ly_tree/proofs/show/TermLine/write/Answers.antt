@@ -1,5 +1,5 @@
 use Rattle.std.proofs.Common.{◌∙◌, ◌++◌, ◌∷◌, [], ap, arith, length, sym, Ok}
-use Rattle.ly_base.proofs.TextWriterLemmas.{err_is}
+use Rattle.ly_print.proofs.TextWriterLemmas.{err_is}
 use Rattle.ly_base.specs.Bytes.{newline}
 use Rattle.ly_tree.specs.Private.Printing.{left_text, next_text, term_text}
 use Rattle.ly_tree.specs.Shown.{Vocabulary}

@@ -1,6 +1,6 @@
 use Rattle.std.proofs.Common.{◌≡◌, ◌++◌, ◌∷◌, ℕ, List, [], None, Ok, length, vec_capacity}
 use Rattle.ly_base.specs.Bytes.{newline}
-use Rattle.ly_base.specs.TextWriter.{IsAppended}
+use Rattle.ly_print.specs.TextWriter.{IsAppended}
 use Rattle.ly_tree.specs.Private.Printing.{left_text, next_text, IsOpen}
 use Rattle.ly_tree.specs.Shown.{Vocabulary}
 use Rattle.ly_tree.proofs.show.TermLine.write.Given as goal

@@ -1,0 +1,5 @@
+mod BlockLemmas
+pub mod DeviceLemmas
+pub mod RoomLemmas
+pub mod TextLemmas
+pub mod TextWriterLemmas

@@ -1,0 +1,7 @@
+pub mod Counted
+pub mod Device
+pub mod MemSink
+pub mod MemSource
+pub mod Private
+pub mod Text
+pub mod TextWriter

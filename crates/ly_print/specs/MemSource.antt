@@ -1,0 +1,15 @@
+-- What a MemSource holds.
+use Rattle.std.specs.Prelude.{ℕ, List, Option}
+use Rattle.ly_print.specs.declared.memory.MemSource.{MemSource}
+
+-- the bytes that are not read yet
+abbrev pub unread : MemSource → List ℕ
+unread s = s.rest.now
+
+-- how many bytes it gives before it fails, if it will
+abbrev pub gives_at_most : MemSource → Option ℕ
+gives_at_most s = s.left
+
+-- how many calls failed
+abbrev pub read_failures : MemSource → ℕ
+read_failures s = s.failures

@@ -1,0 +1,269 @@
+ghost use Rattle.std.specs.Prelude.{◌≡◌, ◌<◌, ◌≤◌, ◌+◌, ◌*◌, ◌++◌, [], ◌∷◌, false, length, take, IfSome, None};
+ghost use Rattle.std.specs.Bool.{OnTrue};
+ghost use Rattle.std.specs.Fmt.{digit_glyph};
+ghost use Rattle.std.specs.List.{prefix_len};
+ghost use Rattle.ly_base.specs.Bytes.{double_quote};
+ghost use Rattle.ly_print.specs.Text.{escape_for, escaped, is_plain, no_rule_line, quoted};
+ghost use lib.Lanes.{put_chunk};
+ghost use Rattle.ly_print.specs.Private.Room.{quoted_room};
+
+use crate::front::{BLOCK, Front};
+use crate::label::Label;
+use crate::text::is_plain;
+use itoa::Buffer;
+use std::simd::prelude::*;
+
+/// How many bytes a label and a text take at most that are printed as a block each, with a quote and a newline.
+pub(crate) const SHORT_ROOM: usize = 34;
+
+/// How many bytes the line has at most that says at which byte no rule matches.
+pub(crate) const NO_RULE_ROOM: usize = 45;
+
+/// How many bytes a label or a text has at most that is printed into a room at once.
+const SHORT: usize = 512;
+
+/// Whether so many bytes are room for a label and a text behind it, each of so many bytes, and for a byte behind both.
+/// It may say no where they are.
+pub(crate) fn fits(left: usize, label: usize, text: usize) -> bool
+    ensures { OnTrue result (quoted_room label text + 1 ≤ left) }
+{
+    label <= SHORT && text <= SHORT && 5 * SHORT + BLOCK + 2 <= left
+}
+
+/// Writes a label and a text behind it from a place on, and answers where they end.
+#[inline(always)] // a call would cost a tenth of a short text
+pub(crate) fn put_quoted(room: &mut [u8], at: usize, label: &Front<'_>, text: &Front<'_>) -> usize
+    requires { at + quoted_room (length label.now) (length text.now) ≤ length room.old }
+    ensures bytes { take result room.new ≡ take at room.old ++ quoted label.now text.now }
+    ensures within { result ≤ at + quoted_room (length label.now) (length text.now) }
+    ensures room { length room.new ≡ length room.old }
+{
+    let labelled = put_front(room, at, label);
+    let end = put_text(room, labelled, text);
+    put(room, end, b'"')
+}
+
+/// Writes a label and a text behind it from a place on, where both are short and all bytes of the text stand for
+/// themselves, and answers where they end. So each is one block. Otherwise what stands before the place is kept.
+#[inline(always)] // as `put_quoted`
+pub(crate) fn put_short(
+    room: &mut [u8],
+    at: usize,
+    label: &Label,
+    text: &Front<'_>,
+) -> Option<usize>
+    requires { at + 33 ≤ length room.old }
+    ensures bytes { IfSome result (λ end. take end room.new ≡ take at room.old ++ quoted label.now text.now) }
+    ensures within { IfSome result (λ end. end ≤ at + 33) }
+    ensures kept { result ≡ None → take at room.new ≡ take at room.old }
+    ensures room { length room.new ≡ length room.old }
+{
+    if BLOCK < text.count {
+        return None;
+    }
+    let Some(block) = label.block() else {
+        return None;
+    };
+    put_block(room, at, block);
+    let labelled = at + label.len();
+    if text.bytes.len() < BLOCK || plain_run(text.bytes) < text.count {
+        return None;
+    }
+    put_block(room, labelled, text.bytes);
+    Some(put(room, labelled + text.count, b'"'))
+}
+
+/// Writes a front from a place on as it is, and answers where it ends. A short one is one block.
+#[inline(always)]
+fn put_front(room: &mut [u8], at: usize, front: &Front<'_>) -> usize
+    requires { at + length front.now + 16 ≤ length room.old }
+    ensures bytes { take result room.new ≡ take at room.old ++ front.now }
+    ensures end { result ≡ at + length front.now }
+    ensures room { length room.new ≡ length room.old }
+{
+    let Some(block) = front.block() else {
+        return put_bytes(room, at, front.bytes());
+    };
+    put_front_of(room, at, block, front.len())
+}
+
+/// Writes a text from a place on as it stands between double quotes, and answers where it ends. So that a short text is
+/// one block, a processor has no length to guess.
+#[inline(always)]
+fn put_text(room: &mut [u8], at: usize, text: &Front<'_>) -> usize
+    requires { at + 4 * length text.now + 16 ≤ length room.old }
+    ensures bytes { take result room.new ≡ take at room.old ++ escaped double_quote text.now }
+    ensures within { result ≤ at + 4 * length text.now }
+    ensures room { length room.new ≡ length room.old }
+{
+    let run = put_plain(room, at, text.bytes, text.count);
+    if run == text.count {
+        return at + run;
+    }
+    put_runs(room, at + run, &text.bytes[run..], text.count - run)
+}
+
+/// Writes the first so many bytes from a place on as they stand between double quotes, run after run of those that
+/// stand for themselves, and answers where they end.
+fn put_runs(room: &mut [u8], at: usize, bytes: &[u8], count: usize) -> usize
+    requires within { count ≤ length bytes.now }
+    requires room { at + 4 * count + 16 ≤ length room.old }
+    ensures bytes { take result room.new ≡ take at room.old ++ escaped double_quote (take count bytes.now) }
+    ensures within { result ≤ at + 4 * count }
+    ensures room { length room.new ≡ length room.old }
+{
+    let mut end = at;
+    let mut done = 0;
+    while done < count {
+        let run = put_plain(room, end, &bytes[done..], count - done);
+        end += run;
+        done += run;
+        if done < count {
+            end = put_escaped(room, end, b'"', &[bytes[done]]);
+            done += 1;
+        }
+    }
+    end
+}
+
+/// Copies those of the first bytes that stand for themselves between double quotes to a place, so many at most and no
+/// more than a block has, and answers how many they are. They are none where no block is left.
+#[inline(always)]
+fn put_plain(room: &mut [u8], at: usize, bytes: &[u8], most: usize) -> usize
+    requires { at + 16 ≤ length room.old }
+    ensures bytes { take (at + result) room.new ≡ take at room.old ++ escaped double_quote (take result bytes.now) }
+    ensures most { result ≤ most }
+    ensures within { result ≤ length bytes.now }
+    ensures room { length room.new ≡ length room.old }
+{
+    if bytes.len() < BLOCK {
+        return 0;
+    }
+    // looked at before it is copied, the block is loaded once
+    let run = plain_run(bytes);
+    put_block(room, at, bytes);
+    run.min(most)
+}
+
+/// Copies a block to a place, and answers where so many of its bytes end.
+pub(crate) fn put_front_of(room: &mut [u8], at: usize, block: &[u8], count: usize) -> usize
+    requires block { length block.now ≡ 16 }
+    requires within { at + 16 ≤ length room.old }
+    requires count { count ≤ 16 }
+    ensures bytes { take result room.new ≡ take at room.old ++ take count block.now }
+    ensures end { result ≡ at + count }
+    ensures room { length room.new ≡ length room.old }
+{
+    put_block(room, at, block);
+    at + count
+}
+
+/// Copies a block to a place.
+fn put_block(room: &mut [u8], at: usize, bytes: &[u8])
+    requires block { 16 ≤ length bytes.now }
+    requires within { at + 16 ≤ length room.old }
+    ensures { room.new ≡ put_chunk at room.old (take 16 bytes.now) }
+{
+    u8x16::from_slice(bytes).copy_to_slice(&mut room[at..]);
+}
+
+/// How many bytes at the front of a block stand for themselves between double quotes.
+fn plain_run(bytes: &[u8]) -> usize
+    requires { 16 ≤ length bytes.now }
+    ensures { result ≡ prefix_len (is_plain double_quote) (take 16 bytes.now) }
+{
+    let block = u8x16::from_slice(bytes);
+    let special = block.simd_lt(u8x16::splat(b' '))
+        | block.simd_gt(u8x16::splat(b'~'))
+        | block.simd_eq(u8x16::splat(b'\\'))
+        | block.simd_eq(u8x16::splat(b'"'));
+    BLOCK.min(special.to_bitmask().trailing_zeros() as usize)
+}
+
+/// Writes bytes from a place on as they stand between quotes, and answers where they end.
+pub(crate) fn put_escaped(room: &mut [u8], at: usize, quote: u8, bytes: &[u8]) -> usize
+    requires { at + 4 * length bytes.now ≤ length room.old }
+    ensures bytes { take result room.new ≡ take at room.old ++ escaped quote bytes.now }
+    ensures within { result ≤ at + 4 * length bytes.now }
+    ensures room { length room.new ≡ length room.old }
+{
+    let mut end = at;
+    for byte in bytes {
+        if is_plain(quote, *byte) {
+            end = put(room, end, *byte);
+        } else {
+            end = put_escape(room, end, *byte);
+        }
+    }
+    end
+}
+
+/// Writes a byte that doesn't stand for itself from a place on, and answers where it ends.
+#[cold]
+pub(crate) fn put_escape(room: &mut [u8], at: usize, byte: u8) -> usize
+    requires { at + 4 ≤ length room.old }
+    ensures escape { take result room.new ≡ take at room.old ++ escape_for byte }
+    ensures within { result ≤ at + 4 }
+    ensures room { length room.new ≡ length room.old }
+{
+    match byte {
+        b'\n' => put_bytes(room, at, b"\\n"),
+        b'\t' => put_bytes(room, at, b"\\t"),
+        32..=126 => put_bytes(room, at, &[b'\\', byte]),
+        _ => put_bytes(
+            room,
+            at,
+            &[b'\\', b'x', hex_digit(byte / 16), hex_digit(byte % 16)],
+        ),
+    }
+}
+
+/// The lower-case hexadecimal digit of a number below 16.
+fn hex_digit(value: u8) -> u8
+    requires { value < 16 }
+    ensures { result ≡ digit_glyph false value }
+{
+    if value < 10 {
+        b'0' + value
+    } else {
+        b'a' + (value - 10)
+    }
+}
+
+/// Writes the line that says at which byte no rule matches, counted from 0, from a place on, and answers where it ends.
+pub(crate) fn put_no_rule_line(room: &mut [u8], at: usize, byte: u64) -> usize
+    requires { at + 45 ≤ length room.old }
+    ensures bytes { take result room.new ≡ take at room.old ++ no_rule_line byte }
+    ensures within { result ≤ at + 45 }
+    ensures room { length room.new ≡ length room.old }
+{
+    let mut digits = Buffer::new();
+    let said = put_bytes(room, at, b"no rule matches at byte ");
+    let counted = put_bytes(room, said, digits.format(byte).as_bytes());
+    put(room, counted, b'\n')
+}
+
+/// Writes bytes from a place on as they are, and answers where they end.
+pub(crate) fn put_bytes(room: &mut [u8], at: usize, bytes: &[u8]) -> usize
+    requires { at + length bytes.now ≤ length room.old }
+    ensures bytes { take result room.new ≡ take at room.old ++ bytes.now }
+    ensures end { result ≡ at + length bytes.now }
+    ensures room { length room.new ≡ length room.old }
+{
+    let mut end = at;
+    for byte in bytes {
+        end = put(room, end, *byte);
+    }
+    end
+}
+
+/// Writes a byte at a place, and answers the next one.
+pub(crate) fn put(room: &mut [u8], at: usize, byte: u8) -> usize
+    requires { at + 1 ≤ length room.old }
+    ensures byte { take result room.new ≡ take at room.old ++ byte ∷ [] }
+    ensures end { result ≡ at + 1 }
+    ensures room { length room.new ≡ length room.old }
+{
+    room[at] = byte;
+    at + 1
+}

@@ -1,0 +1,346 @@
+ghost use Rattle.std.specs.Prelude.{◌≡◌, ◌<◌, ◌≤◌, ◌+◌, ◌^◌, ℕ, List, [], ◌∷◌, Option, length, take};
+ghost use Rattle.std.specs.Prelude.{IfOk, IfErr, OnOk, OnErr, MatchResult};
+ghost use Rattle.std.specs.Io.KnownBytes.{Appends};
+ghost use Rattle.ly_print.specs.Device.{next_count};
+ghost use Rattle.ly_print.specs.Text.{escaped, no_rule_line, quoted, quoted_line};
+ghost use Rattle.ly_print.specs.TextWriter.{bytes_of, IsAppended, IsCutShort, IsUnderway};
+
+use crate::device::Sink;
+use crate::front::Front;
+use crate::label::Label;
+use crate::room::{
+    NO_RULE_ROOM, SHORT_ROOM, fits, put, put_bytes, put_escaped, put_front_of, put_no_rule_line,
+    put_quoted, put_short,
+};
+use crate::whole::{WriteFault, write_whole};
+use std::alloc::{AllocError, Global};
+use std::marker::Model;
+
+/// How many bytes the room has.
+const ROOM: usize = 65_536;
+
+/// Printed text on its way to a writer. The last of it is held back in a room of fixed length, and goes out when that
+/// is full. So printing takes no memory once the room is made, and what was printed before takes none.
+#[derive(Drop)]
+pub struct TextWriter {
+    /// The text that is held back stands in its first `used` bytes.
+    room: Vec<u8>,
+    /// How many bytes of the room are text.
+    used: usize,
+    /// How many bytes went out.
+    sent: usize,
+}
+
+impl Model for TextWriter {
+    ghost use Rattle.std.specs.Prelude.{◌≡◌, ◌≤◌, take, length};
+    ghost use Rattle.ly_print.specs.TextWriter.{Outgoing};
+
+    ghost Value = { Outgoing };
+
+    ghost view = { λ w. record { sent = w.sent; held = take w.used w.room.items } };
+
+    ghost invariant = { λ w. (length w.room.items ≡ 65536) × (w.used ≤ 65536) };
+}
+
+impl TextWriter {
+    /// No text, or that the room is refused.
+    pub fn new(alloc: Global) -> Result<Self, AllocError>
+        ensures { IfOk result (λ w. w ≡ record { sent = 0; held = [] }) }
+    {
+        Ok(TextWriter {
+            room: vec![in alloc; 0; ROOM]?,
+            used: 0,
+            sent: 0,
+        })
+    }
+
+    /// Appends a byte.
+    ///
+    /// It fails where the writer does.
+    #[inline(always)] // a call would cost more than the store
+    pub fn push<W: Sink>(&mut self, writer: &mut W, byte: u8) -> Result<(), WriteFault>
+        requires countable { bytes_of self.old + 1 < 2 ^ 64 }
+        ensures text { IsAppended self.old self.new (W.contents writer.old) (W.contents writer.new) (byte ∷ []) result }
+        ensures counted { OnOk result (bytes_of self.new ≡ bytes_of self.old + 1) }
+        ensures no_failure { OnOk result (W.failures writer.new ≡ W.failures writer.old) }
+        ensures failed { OnErr result (W.failures writer.new ≡ next_count (W.failures writer.old)) }
+    {
+        if self.used == self.room.len() {
+            return self.push_behind(writer, &[byte]);
+        }
+        self.used = put(&mut self.room, self.used, byte);
+        Ok(())
+    }
+
+    /// Appends bytes, which are best a short run.
+    ///
+    /// It fails where the writer does.
+    pub fn push_bytes<W: Sink>(&mut self, writer: &mut W, bytes: &[u8]) -> Result<(), WriteFault>
+        requires countable { bytes_of self.old + length bytes.now < 2 ^ 64 }
+        ensures text { IsAppended self.old self.new (W.contents writer.old) (W.contents writer.new) bytes.now result }
+        ensures counted { OnOk result (bytes_of self.new ≡ bytes_of self.old + length bytes.now) }
+        ensures no_failure { OnOk result (W.failures writer.new ≡ W.failures writer.old) }
+        ensures failed { OnErr result (W.failures writer.new ≡ next_count (W.failures writer.old)) }
+    {
+        if bytes.len() > self.room.len() - self.used {
+            return self.push_behind(writer, bytes);
+        }
+        self.used = put_bytes(&mut self.room, self.used, bytes);
+        Ok(())
+    }
+
+    /// Appends a label.
+    ///
+    /// It fails where the writer does.
+    #[inline(always)] // as `push`
+    pub fn push_label<W: Sink>(&mut self, writer: &mut W, label: &Label) -> Result<(), WriteFault>
+        requires countable { bytes_of self.old + length label.now < 2 ^ 64 }
+        ensures text { IsAppended self.old self.new (W.contents writer.old) (W.contents writer.new) label.now result }
+        ensures counted { OnOk result (bytes_of self.new ≡ bytes_of self.old + length label.now) }
+        ensures no_failure { OnOk result (W.failures writer.new ≡ W.failures writer.old) }
+        ensures failed { OnErr result (W.failures writer.new ≡ next_count (W.failures writer.old)) }
+    {
+        if self.used <= ROOM - SHORT_ROOM {
+            if let Some(block) = label.block() {
+                self.used = put_front_of(&mut self.room, self.used, block, label.len());
+                return Ok(());
+            }
+        }
+        self.push_long_label(writer, label)
+    }
+
+    /// Appends a label and a text behind it, as it stands between double quotes, with the quote that closes it: a
+    /// leaf, if the label is what stands before its text.
+    ///
+    /// It fails where the writer does.
+    #[inline(always)] // as `push`
+    pub fn push_quoted<W: Sink>(
+        &mut self,
+        writer: &mut W,
+        label: &Label,
+        text: &Front<'_>,
+    ) -> Result<(), WriteFault>
+        requires countable { bytes_of self.old + length (quoted label.now text.now) < 2 ^ 64 }
+        ensures text { IsAppended self.old self.new (W.contents writer.old) (W.contents writer.new)
+            (quoted label.now text.now) result }
+        ensures counted { OnOk result (bytes_of self.new ≡ bytes_of self.old + length (quoted label.now text.now)) }
+        ensures no_failure { OnOk result (W.failures writer.new ≡ W.failures writer.old) }
+        ensures failed { OnErr result (W.failures writer.new ≡ next_count (W.failures writer.old)) }
+    {
+        if self.used <= ROOM - SHORT_ROOM {
+            if let Some(end) = put_short(&mut self.room, self.used, label, text) {
+                self.used = end;
+                return Ok(());
+            }
+        }
+        self.push_long(writer, label, text.bytes, text.count)
+    }
+
+    /// Appends a line: a label and a text behind it, as it stands between double quotes, with the quote that closes
+    /// it. It is a leaf's line, if the label is what stands before its text.
+    ///
+    /// It fails where the writer does.
+    pub fn push_quoted_line<W: Sink>(
+        &mut self,
+        writer: &mut W,
+        label: &Label,
+        text: &Front<'_>,
+    ) -> Result<(), WriteFault>
+        requires countable { bytes_of self.old + length (quoted_line label.now text.now) < 2 ^ 64 }
+        ensures text { IsAppended self.old self.new (W.contents writer.old) (W.contents writer.new)
+            (quoted_line label.now text.now) result }
+        ensures counted { OnOk result (bytes_of self.new
+            ≡ bytes_of self.old + length (quoted_line label.now text.now)) }
+        ensures no_failure { OnOk result (W.failures writer.new ≡ W.failures writer.old) }
+        ensures failed { OnErr result (W.failures writer.new ≡ next_count (W.failures writer.old)) }
+    {
+        if self.used <= ROOM - SHORT_ROOM {
+            if let Some(end) = put_short(&mut self.room, self.used, label, text) {
+                self.used = put(&mut self.room, end, b'\n');
+                return Ok(());
+            }
+        }
+        self.push_long_line(writer, label, text.bytes, text.count)
+    }
+
+    /// Appends the line that says at which byte no rule matches, counted from 0.
+    ///
+    /// It fails where the writer does.
+    pub fn push_no_rule_line<W: Sink>(
+        &mut self,
+        writer: &mut W,
+        byte: u64,
+    ) -> Result<(), WriteFault>
+        requires countable { bytes_of self.old + length (no_rule_line byte) < 2 ^ 64 }
+        ensures text { IsAppended self.old self.new (W.contents writer.old) (W.contents writer.new)
+            (no_rule_line byte) result }
+        ensures counted { OnOk result (bytes_of self.new ≡ bytes_of self.old + length (no_rule_line byte)) }
+        ensures no_failure { OnOk result (W.failures writer.new ≡ W.failures writer.old) }
+        ensures failed { OnErr result (W.failures writer.new ≡ next_count (W.failures writer.old)) }
+    {
+        let mut room = [0u8; NO_RULE_ROOM];
+        let end = put_no_rule_line(&mut room, 0, byte);
+        self.push_bytes(writer, &room[..end])
+    }
+
+    /// Writes what is held back: the end of the text.
+    ///
+    /// It fails where the writer does.
+    pub fn finish<W: Sink>(self, writer: &mut W) -> Result<(), WriteFault>
+        requires countable { bytes_of self < 2 ^ 64 }
+        ensures text { (before : Option (List ℕ)) (text : List ℕ)
+            → IsUnderway before (W.contents writer.old) self text
+            → MatchResult result (λ _. Appends before (W.contents writer.new) text)
+            (λ fault. IsCutShort before (W.contents writer.new) fault.written text) }
+        ensures no_failure { OnOk result (W.failures writer.new ≡ W.failures writer.old) }
+        ensures failed { OnErr result (W.failures writer.new ≡ next_count (W.failures writer.old)) }
+    {
+        let mut sent = self.sent;
+        send(&mut sent, writer, &self.room[..self.used])
+    }
+
+    /// Appends a label, however long it is.
+    #[inline(never)] // so that a short one has the registers
+    fn push_long_label<W: Sink>(&mut self, writer: &mut W, label: &Label) -> Result<(), WriteFault>
+        requires countable { bytes_of self.old + length label.now < 2 ^ 64 }
+        ensures text { IsAppended self.old self.new (W.contents writer.old) (W.contents writer.new) label.now result }
+        ensures counted { OnOk result (bytes_of self.new ≡ bytes_of self.old + length label.now) }
+        ensures no_failure { OnOk result (W.failures writer.new ≡ W.failures writer.old) }
+        ensures failed { OnErr result (W.failures writer.new ≡ next_count (W.failures writer.old)) }
+    {
+        self.push_bytes(writer, label.bytes())
+    }
+
+    /// Appends a label and the first so many of these bytes as `push_quoted` does, however long they are and whether or
+    /// not they stand for themselves.
+    #[inline(never)] // so that a short text has the registers
+    fn push_long<W: Sink>(
+        &mut self,
+        writer: &mut W,
+        label: &Label,
+        bytes: &[u8],
+        count: usize,
+    ) -> Result<(), WriteFault>
+        requires within { count ≤ length bytes.now }
+        requires countable { bytes_of self.old + length (quoted label.now (take count bytes.now)) < 2 ^ 64 }
+        ensures text { IsAppended self.old self.new (W.contents writer.old) (W.contents writer.new)
+            (quoted label.now (take count bytes.now)) result }
+        ensures counted { OnOk result (bytes_of self.new
+            ≡ bytes_of self.old + length (quoted label.now (take count bytes.now))) }
+        ensures no_failure { OnOk result (W.failures writer.new ≡ W.failures writer.old) }
+        ensures failed { OnErr result (W.failures writer.new ≡ next_count (W.failures writer.old)) }
+    {
+        let text = Front::new(bytes, count);
+        if !fits(self.room.len() - self.used, label.len(), count) {
+            return self.push_quoted_behind(writer, label.bytes(), text.bytes());
+        }
+        self.used = put_quoted(&mut self.room, self.used, &label.front(), &text);
+        Ok(())
+    }
+
+    /// Appends a line of a label and the first so many of these bytes as `push_quoted_line` does, however long they are
+    /// and whether or not they stand for themselves.
+    #[inline(never)] // so that a short text has the registers
+    fn push_long_line<W: Sink>(
+        &mut self,
+        writer: &mut W,
+        label: &Label,
+        bytes: &[u8],
+        count: usize,
+    ) -> Result<(), WriteFault>
+        requires within { count ≤ length bytes.now }
+        requires countable { bytes_of self.old + length (quoted_line label.now (take count bytes.now)) < 2 ^ 64 }
+        ensures text { IsAppended self.old self.new (W.contents writer.old) (W.contents writer.new)
+            (quoted_line label.now (take count bytes.now)) result }
+        ensures counted { OnOk result (bytes_of self.new
+            ≡ bytes_of self.old + length (quoted_line label.now (take count bytes.now))) }
+        ensures no_failure { OnOk result (W.failures writer.new ≡ W.failures writer.old) }
+        ensures failed { OnErr result (W.failures writer.new ≡ next_count (W.failures writer.old)) }
+    {
+        self.push_long(writer, label, bytes, count)?;
+        self.push(writer, b'\n')
+    }
+
+    /// Appends bytes for which the room has no place left. What is held back goes out, and the bytes are held back in
+    /// its place. They go out at once only where the whole room is too short for them.
+    #[cold]
+    fn push_behind<W: Sink>(&mut self, writer: &mut W, bytes: &[u8]) -> Result<(), WriteFault>
+        requires countable { bytes_of self.old + length bytes.now < 2 ^ 64 }
+        ensures text { IsAppended self.old self.new (W.contents writer.old) (W.contents writer.new) bytes.now result }
+        ensures counted { OnOk result (bytes_of self.new ≡ bytes_of self.old + length bytes.now) }
+        ensures no_failure { OnOk result (W.failures writer.new ≡ W.failures writer.old) }
+        ensures failed { OnErr result (W.failures writer.new ≡ next_count (W.failures writer.old)) }
+    {
+        send(&mut self.sent, writer, &self.room[..self.used])?;
+        self.used = 0;
+        if bytes.len() > self.room.len() {
+            return send(&mut self.sent, writer, bytes);
+        }
+        self.used = put_bytes(&mut self.room, 0, bytes);
+        Ok(())
+    }
+
+    /// Appends a label and a text behind it, for which the room may have no place left.
+    #[cold]
+    fn push_quoted_behind<W: Sink>(
+        &mut self,
+        writer: &mut W,
+        label: &[u8],
+        text: &[u8],
+    ) -> Result<(), WriteFault>
+        requires countable { bytes_of self.old + length (quoted label.now text.now) < 2 ^ 64 }
+        ensures text { IsAppended self.old self.new (W.contents writer.old) (W.contents writer.new)
+            (quoted label.now text.now) result }
+        ensures counted { OnOk result (bytes_of self.new ≡ bytes_of self.old + length (quoted label.now text.now)) }
+        ensures no_failure { OnOk result (W.failures writer.new ≡ W.failures writer.old) }
+        ensures failed { OnErr result (W.failures writer.new ≡ next_count (W.failures writer.old)) }
+    {
+        // the room holds the label at most then
+        self.push_behind(writer, label)?;
+        self.push_escaped(writer, b'"', text)?;
+        self.push(writer, b'"')
+    }
+
+    /// Appends bytes as they stand between quotes.
+    fn push_escaped<W: Sink>(
+        &mut self,
+        writer: &mut W,
+        quote: u8,
+        bytes: &[u8],
+    ) -> Result<(), WriteFault>
+        requires countable { bytes_of self.old + length (escaped quote bytes.now) < 2 ^ 64 }
+        ensures text { IsAppended self.old self.new (W.contents writer.old) (W.contents writer.new)
+            (escaped quote bytes.now) result }
+        ensures counted { OnOk result (bytes_of self.new ≡ bytes_of self.old + length (escaped quote bytes.now)) }
+        ensures no_failure { OnOk result (W.failures writer.new ≡ W.failures writer.old) }
+        ensures failed { OnErr result (W.failures writer.new ≡ next_count (W.failures writer.old)) }
+    {
+        for byte in bytes {
+            let mut room = [0u8; 4];
+            let end = put_escaped(&mut room, 0, quote, &[*byte]);
+            self.push_bytes(writer, &room[..end])?;
+        }
+        Ok(())
+    }
+}
+
+/// Writes the bytes behind those that went out, and counts them.
+fn send<W: Sink>(sent: &mut usize, writer: &mut W, bytes: &[u8]) -> Result<(), WriteFault>
+    requires countable { sent.old + length bytes.now < 2 ^ 64 }
+    ensures ok { OnOk result (Appends (W.contents writer.old) (W.contents writer.new) bytes.now) }
+    ensures counted { OnOk result (sent.new ≡ sent.old + length bytes.now) }
+    ensures partial { IfErr result (λ fault. (more : ℕ) × (fault.written ≡ sent.old + more)
+        × (more < length bytes.now) × Appends (W.contents writer.old) (W.contents writer.new) (take more bytes.now)) }
+    ensures no_failure { OnOk result (W.failures writer.new ≡ W.failures writer.old) }
+    ensures failed { OnErr result (W.failures writer.new ≡ next_count (W.failures writer.old)) }
+{
+    match write_whole(writer, bytes) {
+        Ok(()) => {
+            *sent += bytes.len();
+            Ok(())
+        }
+        Err(fault) => Err(WriteFault {
+            written: *sent + fault.written,
+        }),
+    }
+}
