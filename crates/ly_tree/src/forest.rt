@@ -1,7 +1,7 @@
 ghost use Rattle.std.specs.Prelude.{◌≡◌, ◌<◌, ◌≤◌, ◌+◌, ◌*◌, ◌^◌, ℕ, [], ◌++◌, drop, length, map, take};
 ghost use Rattle.std.specs.Prelude.{All, IfOk, IfSome, IsSome, OnErr, OnOk};
 ghost use Rattle.ly_tree.specs.Private.Headed.{ref_at};
-ghost use Rattle.ly_tree.specs.Term.{at_places, built, leaf};
+ghost use Rattle.ly_tree.specs.Term.{at_places, built, leaf, nothing};
 
 use crate::headed::Headed;
 use crate::numbers::{number_of, parts_of};
@@ -97,6 +97,13 @@ impl Forest {
             long_nodes: Vec::new(alloc),
             children: Vec::new(alloc),
         }
+    }
+
+    /// The term of nothing, which is in every forest.
+    pub fn nil(&self) -> TermRef
+        ensures { StandsFor self.now result nothing }
+    {
+        TermRef::Nothing
     }
 
     /// Adds a leaf, and answers it. After the fault the forest is as it was.

@@ -4,7 +4,7 @@
 //! takes its text alone, and a node 8 bytes for each child; a long leaf 16 bytes more, and a long node 24. Contracts
 //! see terms: what `leaf` or `node` answers stands for one, and goes on standing for it. `line` makes all room that the
 //! printed text of a term takes, so that `TermLine::write` fails only where the writer does; it has a stack of its own,
-//! so that no depth ends the program. `show` gives that line as bytes.
+//! so that no depth ends the program. `show` gives the text as bytes.
 //!
 //! Left out: what rules make which terms (a parser asks for them), and taking leaves or nodes out again.
 #![tactic(auto)]
@@ -13,13 +13,14 @@ mod forest;
 mod headed;
 mod laws;
 mod numbers;
+mod printing;
 mod refers;
-mod show;
 mod span;
+mod term_line;
 mod words;
 
 pub use forest::{Forest, TermRef};
 pub use laws::a_reference_stands_for_one;
 pub use refers::Refers;
-pub use show::TermLine;
+pub use term_line::TermLine;
 pub use words::Words;

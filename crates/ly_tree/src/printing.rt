@@ -1,153 +1,34 @@
-ghost use Rattle.std.specs.Prelude.{◌≡◌, ◌<◌, ◌+◌, ◌++◌, ◌^◌, [], ◌∷◌, length, IfErr, IfOk, IsSome, None, Ok, OnErr};
+ghost use Rattle.std.specs.Prelude.{◌≡◌, ◌<◌, ◌+◌, ◌++◌, ◌^◌, [], length, IfOk, IsSome, None, Ok, OnErr};
 ghost use Rattle.std.specs.Prelude.{OnOk, Some, vec_capacity};
-ghost use Rattle.std.specs.Io.KnownBytes.{Appends};
-ghost use Rattle.ly_base.specs.Bytes.{newline};
 ghost use Rattle.ly_print.specs.Device.{next_count};
 ghost use Rattle.ly_print.specs.Text.{leaf_of, token};
-ghost use Rattle.ly_print.specs.TextWriter.{bytes_of, IsAppended, IsCutShort};
-ghost use Rattle.ly_tree.specs.Costs.{IsPaid};
-ghost use Rattle.ly_tree.specs.Forest.{term_of, Grown, StandsFor};
+ghost use Rattle.ly_print.specs.TextWriter.{bytes_of, IsAppended};
+ghost use Rattle.ly_tree.specs.Forest.{term_of, Grown};
 ghost use Rattle.ly_tree.specs.Private.Printing.{left_text, next_text, opening, term_at, term_text, HasChildren};
 ghost use Rattle.ly_tree.specs.Private.Printing.{IsAlone, IsOpen, IsPrinted, IsPut};
-ghost use Rattle.ly_tree.specs.Shown.{shown, Vocabulary};
-ghost use Rattle.ly_tree.specs.Term.{Term};
+ghost use Rattle.ly_tree.specs.Shown.{Vocabulary};
 
 use crate::forest::{Forest, TermRef};
 use crate::words::Words;
-use ly_base::{OutOfMemory, RuleNo, Sym};
-use ly_print::{Front, MemSink, Sink, TextWriter, WriteFault};
-use std::alloc::Global;
-use std::marker::Model;
-
-/// The line of a term, ready to be written: all room that this takes is made, so that nothing but a write can fail.
-///
-/// Nothing is printed as `()`, a leaf as `NUM"12"`, and a node as `Add(NUM"1",NUM"2")`.
-#[derive(Drop)]
-pub struct TermLine<'f, W: Words> {
-    /// The term.
-    root: TermRef,
-    /// Its forest.
-    forest: &'f Forest,
-    /// The names by which it is printed.
-    words: &'f W,
-    /// What is printed, and room for children that wait.
-    printing: Printing<'f>,
-}
-
-impl<'f, W: Words> Model for TermLine<'f, W> {
-    ghost use Rattle.std.specs.Prelude.{◌≡◌, ◌<◌, ◌^◌, ◌++◌, [], ◌∷◌, List, Some, length, vec_capacity, ℕ};
-    ghost use Rattle.ly_base.specs.Bytes.{newline};
-    ghost use Rattle.ly_tree.specs.Private.Printing.{term_text, IsOpen};
-
-    ghost Value = { List ℕ };
-
-    ghost view = { λ l. term_text (record {
-      terminal = W.terminals l.words.now;
-      constructor = W.constructors l.words.now;
-    }) l.forest.now l.root ++ newline ∷ [] };
-
-    ghost invariant = { λ l. (l.printing.out ≡ record { sent = 0; held = [] }) × (l.printing.waiting.items ≡ [])
-        × IsOpen l.forest.now l.printing.waiting.items l.printing.others (Some l.root) (vec_capacity l.printing.waiting)
-        × (length (term_text (record {
-          terminal = W.terminals l.words.now;
-          constructor = W.constructors l.words.now;
-        }) l.forest.now l.root ++ newline ∷ []) < 2 ^ 64) };
-}
+use ly_base::{RuleNo, Sym};
+use ly_print::{Front, Sink, TextWriter, WriteFault};
 
 /// A term that is being printed, with a stack in place of recursion.
 #[derive(Drop)]
-struct Printing<'f> {
+pub(crate) struct Printing<'f> {
     /// The text.
-    out: TextWriter,
+    pub(crate) out: TextWriter,
     /// Of the node that was begun last and isn't ended, the children behind the one that is printed.
-    others: &'f [TermRef],
+    pub(crate) others: &'f [TermRef],
     /// The same of each node around it, the outermost first; before them all, none.
-    waiting: Vec<&'f [TermRef]>,
-}
-
-impl Forest {
-    /// The line of a term. It fails where memory runs out.
-    pub fn line<'f, W: Words>(
-        &'f self,
-        alloc: Global,
-        words: &'f W,
-        root: TermRef,
-    ) -> Result<TermLine<'f, W>, OutOfMemory>
-        requires known { IsSome (term_of self.now root) }
-        requires paid { (t : Term) → StandsFor self.now root t → IsPaid self.now t }
-        ensures { IfOk result (λ l. (t : Term) → StandsFor self.now root t → l ≡ shown
-            (record { terminal = W.terminals words.now; constructor = W.constructors words.now }) t ++ newline ∷ []) }
-    {
-        // a line is no longer than that
-        let Some(_) = self.longest_line(words.longest()) else {
-            return Err(OutOfMemory);
-        };
-        Ok(TermLine {
-            root,
-            forest: self,
-            words,
-            printing: Printing {
-                out: TextWriter::new(alloc)?,
-                others: self.no_children(),
-                waiting: Vec::with_capacity(alloc, self.most_terms())?,
-            },
-        })
-    }
-
-    /// The line of a term as bytes, its newline included. It fails where memory runs out.
-    pub fn show<W: Words>(
-        &self,
-        alloc: Global,
-        words: &W,
-        root: TermRef,
-    ) -> Result<Vec<u8>, OutOfMemory>
-        requires known { IsSome (term_of self.now root) }
-        requires paid { (t : Term) → StandsFor self.now root t → IsPaid self.now t }
-        ensures { IfOk result (λ bytes. (t : Term) → StandsFor self.now root t → bytes.items ≡ shown
-            (record { terminal = W.terminals words.now; constructor = W.constructors words.now }) t ++ newline ∷ []) }
-    {
-        let line = self.line(alloc, words, root)?;
-        let mut sink = MemSink::new(alloc);
-        // its only failure is want of memory
-        let Ok(()) = line.write(&mut sink) else {
-            return Err(OutOfMemory);
-        };
-        Ok(Vec::from_slice(alloc, sink.bytes())?)
-    }
-}
-
-impl<W: Words> TermLine<'_, W> {
-    /// Writes the line.
-    ///
-    /// It fails where the writer does.
-    pub fn write<S: Sink>(self, writer: &mut S) -> Result<(), WriteFault>
-        ensures ok { OnOk result (Appends (S.contents writer.old) (S.contents writer.new) self.entry) }
-        ensures cut_short { IfErr result (λ fault.
-            IsCutShort (S.contents writer.old) (S.contents writer.new) fault.written self.entry) }
-        ensures no_failure { OnOk result (S.failures writer.new ≡ S.failures writer.old) }
-        ensures failed { OnErr result (S.failures writer.new ≡ next_count (S.failures writer.old)) }
-    {
-        let TermLine {
-            root,
-            forest,
-            words,
-            printing,
-        } = self;
-        let mut printing = printing;
-        let mut next = Some(root);
-        while let Some(term) = next {
-            next = printing.print(writer, forest, words, term)?;
-        }
-        printing.out.push(writer, b'\n')?;
-        printing.out.finish(writer)
-    }
+    pub(crate) waiting: Vec<&'f [TermRef]>,
 }
 
 impl<'f> Printing<'f> {
     /// Prints a term as far as its first child, and answers that. A term without children is printed whole, with what
     /// stands before the next term, which is then answered, if there is one.
     #[inline(always)] // so that the loop over terms has the registers
-    fn print<W: Words, S: Sink>(
+    pub(crate) fn print<W: Words, S: Sink>(
         &mut self,
         writer: &mut S,
         forest: &'f Forest,

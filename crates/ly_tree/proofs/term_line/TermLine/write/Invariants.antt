@@ -3,7 +3,7 @@ use Rattle.ly_base.specs.Bytes.{newline}
 use Rattle.ly_print.specs.TextWriter.{IsAppended}
 use Rattle.ly_tree.specs.Private.Printing.{left_text, next_text, IsOpen}
 use Rattle.ly_tree.specs.Shown.{Vocabulary}
-use Rattle.ly_tree.proofs.show.TermLine.write.Given as goal
+use Rattle.ly_tree.proofs.term_line.TermLine.write.Given as goal
 
 -- what was printed, what is left and a newline are the whole line
 abbrev pub invariant-loop-next : goal.invariant-loop-next

@@ -6,7 +6,7 @@ use Rattle.ly_tree.specs.Shown.{Vocabulary}
 use Rattle.ly_tree.proofs.PrintingLemmas.{child_text, childless_text, left_text-long, no_longer, open_around}
 use Rattle.ly_tree.proofs.PrintingLemmas.{open_sibling, opening_long, printed_fails, printed_on, whole_text}
 use Rattle.ly_tree.proofs.PrintingLemmas.{opened_before, shorter}
-use Rattle.ly_tree.proofs.show.Printing.print.Goals as goal
+use Rattle.ly_tree.proofs.printing.Printing.print.Goals as goal
 
 pub returns-in_err-children-clause-printed : goal.returns-in_err-children-clause-printed
 returns-in_err-children-clause-printed g c =

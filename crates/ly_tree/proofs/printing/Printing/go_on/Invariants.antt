@@ -3,7 +3,7 @@ use Rattle.ly_print.specs.TextWriter.{bytes_of, IsAppended}
 use Rattle.ly_tree.specs.Forest.{Grown}
 use Rattle.ly_tree.specs.Private.Printing.{left_text, IsAlone, IsOpen}
 use Rattle.ly_tree.specs.Shown.{Vocabulary}
-use Rattle.ly_tree.proofs.show.Printing.go_on.Given as goal
+use Rattle.ly_tree.proofs.printing.Printing.go_on.Given as goal
 
 -- what was printed and what is left are what was left
 abbrev pub invariant-loop-next : goal.invariant-loop-next

@@ -6,7 +6,7 @@ use Rattle.ly_tree.specs.Private.Printing.{left_text, term_text, IsOpen}
 use Rattle.ly_tree.proofs.PrintingLemmas.{alone_inside, end_text, open_inside, open_sibling}
 use Rattle.ly_tree.proofs.PrintingLemmas.{printed_fails, sibling_text}
 use Rattle.std.proofs.lemmas.List.{nil_from_length}
-use Rattle.ly_tree.proofs.show.Printing.go_on.Goals as goal
+use Rattle.ly_tree.proofs.printing.Printing.go_on.Goals as goal
 
 pub returns-in_err-push-clause-printed : goal.returns-in_err-push-clause-printed
 returns-in_err-push-clause-printed g c v f =

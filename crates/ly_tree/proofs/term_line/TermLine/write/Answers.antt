@@ -6,7 +6,7 @@ use Rattle.ly_tree.specs.Shown.{Vocabulary}
 use Rattle.ly_tree.proofs.PrintingLemmas.{line_counted, line_cut, line_goes_on, line_underway}
 use Rattle.ly_tree.proofs.PrintingLemmas.{newline_cut, newline_left}
 use Rattle.ly_tree.proofs.PrintingLemmas.{where_err, where_ok}
-use Rattle.ly_tree.proofs.show.TermLine.write.Goals as goal
+use Rattle.ly_tree.proofs.term_line.TermLine.write.Goals as goal
 
 pub returns-in_err-next-clause-cut_short : goal.returns-in_err-next-clause-cut_short
 returns-in_err-next-clause-cut_short g c =

@@ -1,0 +1,133 @@
+ghost use Rattle.std.specs.Prelude.{◌≡◌, ◌++◌, [], ◌∷◌, IfErr, IfOk, IsSome, OnErr, OnOk};
+ghost use Rattle.std.specs.Io.KnownBytes.{Appends};
+ghost use Rattle.ly_base.specs.Bytes.{newline};
+ghost use Rattle.ly_print.specs.Device.{next_count};
+ghost use Rattle.ly_print.specs.TextWriter.{IsCutShort};
+ghost use Rattle.ly_tree.specs.Costs.{IsPaid};
+ghost use Rattle.ly_tree.specs.Forest.{term_of, StandsFor};
+ghost use Rattle.ly_tree.specs.Shown.{shown};
+ghost use Rattle.ly_tree.specs.Term.{Term};
+
+use crate::forest::{Forest, TermRef};
+use crate::printing::Printing;
+use crate::words::Words;
+use ly_base::OutOfMemory;
+use ly_print::{MemSink, Sink, TextWriter, WriteFault};
+use std::alloc::Global;
+use std::marker::Model;
+
+/// The line of a term, ready to be written: all room that this takes is made, so that nothing but a write can fail.
+///
+/// Nothing is printed as `()`, a leaf as `NUM"12"`, and a node as `Add(NUM"1",NUM"2")`.
+#[derive(Drop)]
+pub struct TermLine<'f, W: Words> {
+    /// The term.
+    root: TermRef,
+    /// Its forest.
+    forest: &'f Forest,
+    /// The names by which it is printed.
+    words: &'f W,
+    /// What is printed, and room for children that wait.
+    printing: Printing<'f>,
+}
+
+impl<'f, W: Words> Model for TermLine<'f, W> {
+    ghost use Rattle.std.specs.Prelude.{◌≡◌, ◌<◌, ◌^◌, ◌++◌, [], ◌∷◌, List, Some, length, vec_capacity, ℕ};
+    ghost use Rattle.ly_base.specs.Bytes.{newline};
+    ghost use Rattle.ly_tree.specs.Private.Printing.{term_text, IsOpen};
+
+    ghost Value = { List ℕ };
+
+    ghost view = { λ l. term_text (record {
+      terminal = W.terminals l.words.now;
+      constructor = W.constructors l.words.now;
+    }) l.forest.now l.root ++ newline ∷ [] };
+
+    ghost invariant = { λ l. (l.printing.out ≡ record { sent = 0; held = [] }) × (l.printing.waiting.items ≡ [])
+        × IsOpen l.forest.now l.printing.waiting.items l.printing.others (Some l.root) (vec_capacity l.printing.waiting)
+        × (length (term_text (record {
+          terminal = W.terminals l.words.now;
+          constructor = W.constructors l.words.now;
+        }) l.forest.now l.root ++ newline ∷ []) < 2 ^ 64) };
+}
+
+impl Forest {
+    /// The line of a term. It fails where memory runs out.
+    pub fn line<'f, W: Words>(
+        &'f self,
+        alloc: Global,
+        words: &'f W,
+        root: TermRef,
+    ) -> Result<TermLine<'f, W>, OutOfMemory>
+        requires known { IsSome (term_of self.now root) }
+        requires paid { (t : Term) → StandsFor self.now root t → IsPaid self.now t }
+        ensures { IfOk result (λ l. (t : Term) → StandsFor self.now root t → l ≡ shown
+            (record { terminal = W.terminals words.now; constructor = W.constructors words.now }) t ++ newline ∷ []) }
+    {
+        // a line is no longer than that
+        let Some(_) = self.longest_line(words.longest()) else {
+            return Err(OutOfMemory);
+        };
+        Ok(TermLine {
+            root,
+            forest: self,
+            words,
+            printing: Printing {
+                out: TextWriter::new(alloc)?,
+                others: self.no_children(),
+                waiting: Vec::with_capacity(alloc, self.most_terms())?,
+            },
+        })
+    }
+
+    /// The printed text of a term. It fails where memory runs out.
+    pub fn show<W: Words>(
+        &self,
+        alloc: Global,
+        words: &W,
+        root: TermRef,
+    ) -> Result<Vec<u8>, OutOfMemory>
+        requires known { IsSome (term_of self.now root) }
+        requires paid { (t : Term) → StandsFor self.now root t → IsPaid self.now t }
+        ensures { IfOk result (λ bytes. (t : Term) → StandsFor self.now root t → bytes.items ≡ shown
+            (record { terminal = W.terminals words.now; constructor = W.constructors words.now }) t) }
+    {
+        let line = self.line(alloc, words, root)?;
+        let mut sink = MemSink::new(alloc);
+        // its only failure is want of memory
+        let Ok(()) = line.write(&mut sink) else {
+            return Err(OutOfMemory);
+        };
+        let mut text = Vec::from_slice(alloc, sink.bytes())?;
+        // the line's newline
+        text.pop();
+        Ok(text)
+    }
+}
+
+impl<W: Words> TermLine<'_, W> {
+    /// Writes the line.
+    ///
+    /// It fails where the writer does.
+    pub fn write<S: Sink>(self, writer: &mut S) -> Result<(), WriteFault>
+        ensures ok { OnOk result (Appends (S.contents writer.old) (S.contents writer.new) self.entry) }
+        ensures cut_short { IfErr result (λ fault.
+            IsCutShort (S.contents writer.old) (S.contents writer.new) fault.written self.entry) }
+        ensures no_failure { OnOk result (S.failures writer.new ≡ S.failures writer.old) }
+        ensures failed { OnErr result (S.failures writer.new ≡ next_count (S.failures writer.old)) }
+    {
+        let TermLine {
+            root,
+            forest,
+            words,
+            printing,
+        } = self;
+        let mut printing = printing;
+        let mut next = Some(root);
+        while let Some(term) = next {
+            next = printing.print(writer, forest, words, term)?;
+        }
+        printing.out.push(writer, b'\n')?;
+        printing.out.finish(writer)
+    }
+}
