@@ -14,7 +14,7 @@ ghost use Rattle.ly_generate.specs.declared.gen_fault.GenFault.TheVariants as ge
 use crate::answer_fault::AnswerFault;
 use ly_base::{Limits, Version};
 use ly_drive::{DriveFault, Outcome, run};
-use ly_generate::{Report, generated};
+use ly_generate::{Report, file_tables};
 use ly_print::{Sink, Source};
 use std::alloc::Global;
 
@@ -49,7 +49,7 @@ pub fn answer<R: Source, W: Sink>(
     ensures writer_held { OnOk result (W.failures writer.new ≡ W.failures writer.old) }
     ensures untouched { IfErr result (λ e. IsBeforeWriting e → writer.new ≡ writer.old) }
 {
-    let generated = generated(alloc, lex, yacc, &Limits::V2, Version::V2, Report::Unwanted)?;
+    let generated = file_tables(alloc, lex, yacc, &Limits::V2, Version::V2, Report::Unwanted)?;
     let answered = run(alloc, &generated.set, reader, writer);
     drop(generated);
     match answered {

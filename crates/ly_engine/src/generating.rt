@@ -9,7 +9,7 @@ ghost use Rattle.ly_tables.specs.TableSet.{TableSet as Tables};
 ghost use Rattle.ly_tables.specs.TableText.{TableText};
 
 use ly_base::{Limits, OutOfMemory, Version};
-use ly_generate::{GenFault, Report, generated};
+use ly_generate::{GenFault, Report, file_tables};
 use ly_report::ConflictCounts;
 use ly_tables::{FormatFault, TableSet, write_tables};
 use std::alloc::Global;
@@ -28,7 +28,7 @@ pub struct Built {
 /// The bytes of the table file of a lex file and a yacc file (POSIX, XCU lex and yacc) in a version: what a driver
 /// answers by it is what they say of a text.
 ///
-/// A limit above that of the version counts as that. Its faults are those of `GenFault` but `Write`.
+/// A limit above that of the version counts as that. Its faults are those of `GenFault`.
 pub fn generate(
     alloc: Global,
     lex: &[u8],
@@ -41,7 +41,7 @@ pub fn generate(
         × TableText bytes.items version s) }
     ensures refused { IfErr result (IsRefusedFor (least_of limits.now (sizes_in version)) lex.now yacc.now) }
 {
-    let generated = generated(alloc, lex, yacc, limits, version, Report::Unwanted)?;
+    let generated = file_tables(alloc, lex, yacc, limits, version, Report::Unwanted)?;
     let tables = written(alloc, &generated.set, version);
     drop(generated);
     Ok(tables?)
@@ -51,7 +51,7 @@ pub fn generate(
 /// report, as `generate_report` writes it, where it is wanted. A report has a line for each conflict, so it can be much
 /// longer than the table file.
 ///
-/// A limit above that of the version counts as that. Its faults are those of `GenFault` but `Write`.
+/// A limit above that of the version counts as that. Its faults are those of `GenFault`.
 pub fn build(
     alloc: Global,
     lex: &[u8],
@@ -65,7 +65,7 @@ pub fn build(
         × TableText b.tables.items version s × AreCounts g.spec b.conflicts × IsReportIf report g.spec b.report) }
     ensures refused { IfErr result (IsRefusedFor (least_of limits.now (sizes_in version)) lex.now yacc.now) }
 {
-    let generated = generated(alloc, lex, yacc, limits, version, report)?;
+    let generated = file_tables(alloc, lex, yacc, limits, version, report)?;
     let tables = written(alloc, &generated.set, version);
     drop(generated.set);
     Ok(Built {

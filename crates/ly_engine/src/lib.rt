@@ -14,6 +14,7 @@ mod answer_fault;
 mod answering;
 mod generating;
 mod reporting;
+mod reporting_fault;
 
 pub use answer_fault::AnswerFault;
 pub use answering::answer;
@@ -21,8 +22,8 @@ pub use generating::{Built, build, generate};
 pub use ly_base::{Limits, Version};
 pub use ly_drive::{DriveFault, Feed, FeedFault, FinishFault, Need, Outcome, drive};
 pub use ly_generate::{
-    GenFault, Report, Specification, read_specification, refusal_is_exact, sentences_are_answered,
-    settle, steady_tables, tables_answer_as_specified,
+    GenFault, Report, Specification, parser_tables, read_specification, refusal_is_exact,
+    sentences_are_answered, settle, tables_answer_as_specified,
 };
 pub use ly_print::{Counted, MemSink, MemSource, Sink, Source};
 pub use ly_report::ConflictCounts;
@@ -31,3 +32,4 @@ pub use ly_tables::{
 };
 pub use ly_tokens::{TokenEnd, TokensFault, tokens};
 pub use reporting::generate_report;
+pub use reporting_fault::ReportingFault;

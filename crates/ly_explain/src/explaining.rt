@@ -11,7 +11,7 @@ ghost use Rattle.ly_explain.specs.Explained.{IsExplained, IsWellFormed};
 
 use ly_accepted::{Accepted, Explanation, Tables, Wish, survey};
 use ly_base::{Limits, OutOfMemory, Version};
-use ly_generate::{GenFault, Specification, read_specification, settle, steady_tables};
+use ly_generate::{GenFault, Specification, parser_tables, read_specification, settle};
 use ly_grammar::reduce;
 use ly_join::Spec;
 use ly_lexread::LexFile;
@@ -135,7 +135,7 @@ fn of_automaton(
     ensures unfit { IfErr result (λ fault. (limits : Sizes) → IsUnfitFor limits read.entry.spec.now fault) }
 {
     let resolved = settle(alloc, read.spec, lr0)?;
-    let tables = steady_tables(alloc, &resolved)?;
+    let tables = parser_tables(alloc, &resolved)?;
     let told = told(alloc, read, &resolved, &tables, wish);
     drop(tables);
     drop(resolved);

@@ -2,7 +2,7 @@
 use Rattle.std.proofs.Common.{◌≡◌, ◌≢◌, ◌∙◌, ℕ, Err, IfErr, IfOk, List, Ok, Result, inl, inr, subst, sym}
 use Rattle.ly_base.specs.Limits.{Sizes}
 use Rattle.ly_join.specs.Joined.{Spec}
-use Rattle.ly_generate.specs.Accepted.{IsFailedWrite, IsRefusedFor, IsUnfitFor, Specifies}
+use Rattle.ly_generate.specs.Accepted.{IsRefusedFor, IsUnfitFor, Specifies}
 use Rattle.std.specs.Result.{IsErrAnd}
 use Rattle.ly_lexread.specs.LexText.{IsLight, LexText}
 use Rattle.ly_lexread.specs.declared.file.LexFile.{LexFile}
@@ -12,7 +12,7 @@ use Rattle.ly_tokens.specs.declared.scanner_fault.ScannerFault.TheVariants as sc
 use Rattle.ly_generate.specs.GenFault.{gen_of_scanner, Becomes}
 use Rattle.ly_generate.specs.declared.gen_fault.GenFault.{GenFault}
 use Rattle.ly_generate.specs.declared.gen_fault.GenFault.TheVariants.{Automaton, Endless, Grammar as NoGrammar, Join}
-use Rattle.ly_generate.specs.declared.gen_fault.GenFault.TheVariants.{Lex, OutOfMemory, Positions, States, Write, Yacc}
+use Rattle.ly_generate.specs.declared.gen_fault.GenFault.TheVariants.{Lex, OutOfMemory, Positions, States, Yacc}
 
 -- what holds of want of memory and of a wrapped fault holds of what a fault becomes
 pub when_becomes : {T F : Type 0} (r : Result T GenFault) (memory : F) (wrap : F → GenFault) (f : F)
@@ -35,16 +35,6 @@ pub when_same : {T : Type 0} (r : Result T GenFault) (f : GenFault) (P : GenFaul
     → P f → IfErr r P
 when_same (Ok x) f P h p = tt
 when_same (Err e) f P h p = subst P (sym h) p
-
--- a fault that is handed on is the one that is answered
-pub gave_same : {T : Type 0} (r : Result T GenFault) (f g : GenFault) → IsErrAnd r (λ e. e ≡ f) → r ≡ Err g → f ≡ g
-gave_same (Ok x) f g h is = absurd h
-gave_same (Err e) f g h is = let same : e ≡ g = cc in sym h ∙ same
-
--- a failed write that is handed on went as far
-pub wrote : {T : Type 0} (r : Result T GenFault) (n written : ℕ) → IsErrAnd r (λ e. e ≡ Write n)
-    → r ≡ Err (Write written) → n ≡ written
-wrote r n written h is = let same : Write n ≡ Write written = gave_same r (Write n) (Write written) h is in cc
 
 -- what follows from what holds at Ok, or at a fault
 pub ok_weaker : {T E : Type 0} (r : Result T E) (P Q : T → Type 0) → ((x : T) → P x → Q x) → IfOk r P → IfOk r Q
@@ -71,19 +61,4 @@ unfit_refused limits lex yacc s specifies (States f) unfit = absurd unfit
 unfit_refused limits lex yacc s specifies (NoGrammar f) unfit = (s, specifies, unfit)
 unfit_refused limits lex yacc s specifies (Automaton f) unfit = (s, specifies, unfit)
 unfit_refused limits lex yacc s specifies (Endless below top t name) unfit = (s, specifies, unfit)
-unfit_refused limits lex yacc s specifies (Write written) unfit = absurd unfit
 unfit_refused limits lex yacc s specifies OutOfMemory unfit = tt
-
--- files are refused by no failed write
-pub refused_is_no_write : (limits : Sizes) (lex yacc : List ℕ) (fault : GenFault) → IsRefusedFor limits lex yacc fault
-    → IsFailedWrite fault → ⊥
-refused_is_no_write limits lex yacc (Lex f) refused is = is
-refused_is_no_write limits lex yacc (Yacc f) refused is = is
-refused_is_no_write limits lex yacc (Join f) refused is = is
-refused_is_no_write limits lex yacc (Positions f) refused is = is
-refused_is_no_write limits lex yacc (States f) refused is = is
-refused_is_no_write limits lex yacc (NoGrammar f) refused is = is
-refused_is_no_write limits lex yacc (Automaton f) refused is = is
-refused_is_no_write limits lex yacc (Endless below top t name) refused is = is
-refused_is_no_write limits lex yacc (Write written) refused is = refused
-refused_is_no_write limits lex yacc OutOfMemory refused is = is

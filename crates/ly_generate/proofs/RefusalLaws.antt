@@ -40,7 +40,7 @@ use Rattle.ly_generate.specs.Accepted.{IsFit, IsRefusedFor, IsUnfitFor, Specifie
 use Rattle.ly_generate.specs.Laws.{RefusalIsExact}
 use Rattle.ly_generate.specs.declared.gen_fault.GenFault.{GenFault}
 use Rattle.ly_generate.specs.declared.gen_fault.GenFault.TheVariants.{Automaton, Endless, Grammar as NoGrammar, Join}
-use Rattle.ly_generate.specs.declared.gen_fault.GenFault.TheVariants.{Lex, OutOfMemory, Positions, States, Write, Yacc}
+use Rattle.ly_generate.specs.declared.gen_fault.GenFault.TheVariants.{Lex, OutOfMemory, Positions, States, Yacc}
 
 -- rules that say the same weigh the same
 weight_same : (names : List Expression) (rs ss : List Rule) → AreSameRules rs ss
@@ -144,7 +144,6 @@ module _ (limits : Sizes) (lex yacc : List ℕ) (s : Spec) (is : Specifies limit
   unfit_not_fit useful fit (Join f) some unfit = unfit
   unfit_not_fit useful fit (Positions f) some unfit = unfit
   unfit_not_fit useful fit (States f) some unfit = unfit
-  unfit_not_fit useful fit (Write written) some unfit = unfit
   unfit_not_fit useful fit OutOfMemory some unfit = some refl
   unfit_not_fit useful fit (NoGrammar f) some unfit = let d = fit.reduced.start_tree in
       unfit.1 d.0 ((keeps_trees s.grammar useful fit.useful_rules d.0).1 d.1)
@@ -185,7 +184,6 @@ module _ (limits : Sizes) (lex yacc : List ℕ) (s : Spec) (is : Specifies limit
       same.conditions
       (subst (λ names. HaveMoreSets (defined names) file.rules.items file.conditions limits.scanner_states) same.names
       more)))
-  not_refused useful fit (Write written) some never = never
   not_refused useful fit OutOfMemory some h = some refl
   not_refused useful fit (NoGrammar f) some (t, other, unfit) = unfit_not_fit useful fit (NoGrammar f) some
       (subst (λ x. IsUnfitFor limits x (NoGrammar f)) (specified_one t other) unfit)

@@ -1,6 +1,6 @@
 -- Without conflicts what generated tables say of a text is what the derivations of its tokens say.
 use Rattle.std.proofs.Common.{◌≡◌, ◌≢◌, ◌↔◌, ◌∙◌, ℕ, List, [], ◌∷◌, ◌++◌, All, Some, ap, append-nil, arith}
-use Rattle.std.proofs.Common.{inl, inr, refl, slice_get, sym}
+use Rattle.std.proofs.Common.{inl, inr, refl, slice_get, subst, sym}
 use Rattle.std.specs.List.{AllZip}
 use Rattle.std.specs.Prelude.{Contains}
 use Rattle.std.proofs.lemmas.List.Elements.{All-cons}
@@ -9,12 +9,13 @@ use Rattle.ly_base.specs.Shape.{Shape}
 use Rattle.ly_print.specs.Text.{Terminal, literal, token}
 use Rattle.ly_base.specs.Trees.{Tree, yield_of}
 use Rattle.ly_base.specs.declared.lexeme.End.{End}
+use Rattle.ly_base.specs.declared.lexeme.End.TheVariants.{Clean}
 use Rattle.ly_feed.specs.Laws.{HasOneVerdict, HasSomeVerdict}
 use Rattle.ly_feed.specs.TableAnswer.{end_of}
 use Rattle.ly_feed.specs.Verdict.{Verdict, accepted, faulty, refused, unmatched}
 use Rattle.ly_emit.specs.Tables.{shape_in}
-use Rattle.ly_generate.specs.SentenceAnswer.{AnswersSentences, AreContinuing, IsOnlyDerivation}
-use Rattle.ly_generate.specs.SentenceAnswer.{IsSentenceVerdict}
+use Rattle.ly_generate.specs.SentenceAnswer.{AnswersSentences, AreContinuing, IsDerivation, IsOnlyDerivation}
+use Rattle.ly_generate.specs.SentenceAnswer.{IsSentenceVerdict, TreesAreOfTexts}
 use Rattle.ly_generate.specs.SpecAnswer.{AreNext, AreTokensOf, IsMachineVerdict, IsNumberOf, IsNumberedToken}
 use Rattle.ly_generate.specs.SpecAnswer.{IsSpecVerdict}
 use Rattle.ly_tables.specs.Ranges.{counts_of, width_of}
@@ -58,35 +59,40 @@ none_end terminals (t ∷ ts) (u ∷ us) first zip = All-cons (λ x. x.terminal 
 first_is_end : (x : Scanning) (w : Written) (s : Spec) → Joined x w s → slice_get s.terminals 0 ≡ Some end
 first_is_end x w s j = ap (λ ts. slice_get ts 0) j.terminals
 
+same_front : (a b : List (Token ℕ)) (x y : Token ℕ) → a ++ x ∷ [] ≡ b ++ y ∷ [] → a ≡ b
+same_front [] [] x y e = refl
+same_front [] (u ∷ []) x y e = absurd (let off : x ∷ [] ≡ u ∷ y ∷ [] → ⊥ = λ k. cc in off e)
+same_front [] (u ∷ v ∷ b) x y e = absurd (let off : x ∷ [] ≡ u ∷ v ∷ (b ++ y ∷ []) → ⊥ = λ k. cc in off e)
+same_front (u ∷ []) [] x y e = absurd (let off : u ∷ x ∷ [] ≡ y ∷ [] → ⊥ = λ k. cc in off e)
+same_front (u ∷ v ∷ a) [] x y e = absurd (let off : u ∷ v ∷ (a ++ x ∷ []) ≡ y ∷ [] → ⊥ = λ k. cc in off e)
+same_front (u ∷ a) (v ∷ b) x y e =
+    let heads : u ≡ v = cc in
+    let tails : a ++ x ∷ [] ≡ b ++ y ∷ [] = cc in
+    let rest = same_front a b x y tails in
+    cc
+
+-- what is accepted, also with conflicts, is a derivation of all tokens before the end
+derived : (G : Grammar) (judge : Judge) → IsAugmented G → (text : List ℕ) (tokens : List (Token ℕ))
+    → All (λ t. t.terminal ≢ 0) tokens → (d : Tree) → AcceptsWith G judge (tokens ++ end_of text ∷ []) d
+    → IsDerivation G tokens d
+derived G judge augmented text tokens ends d run =
+    let w = accepts_trees G judge augmented (tokens ++ end_of text ∷ []) d run in
+    let none_behind = end_is_last tokens (yield_of d) w.2 (end_of text) w.1 ends w.3 w.4 in
+    let whole : tokens ++ end_of text ∷ [] ≡ yield_of d ++ w.1 ∷ []
+    = w.4 ∙ ap (λ b. yield_of d ++ w.1 ∷ b) none_behind in
+    record { is_tree = w.0; yields = sym (same_front tokens (yield_of d) (end_of text) w.1 whole) }
+
 module _ (G : Grammar) (judge : Judge) (augmented : IsAugmented G) (reduced : IsReduced G)
     (free : IsConflictFree G) (text : List ℕ) (tokens : List (Token ℕ)) (ends : All (λ t. t.terminal ≢ 0) tokens) where
   -- what is accepted is the only derivation
   only : (d : Tree) → AcceptsWith G judge (tokens ++ end_of text ∷ []) d → IsOnlyDerivation G tokens d
   only d run =
-      let w = accepts_trees G judge augmented (tokens ++ end_of text ∷ []) d run in
-      let none_behind = end_is_last tokens (yield_of d) w.2 (end_of text) w.1 ends w.3 w.4 in
-      let whole : tokens ++ end_of text ∷ [] ≡ yield_of d ++ w.1 ∷ []
-      = w.4 ∙ ap (λ b. yield_of d ++ w.1 ∷ b) none_behind in
-      let yields = same_front tokens (yield_of d) (end_of text) w.1 whole in
+      let is = derived G judge augmented text tokens ends d run in
       record {
-        is_tree = w.0;
-        yields = sym yields;
-        only = λ other is same. unambiguous G augmented free d other w.0 is (sym yields ∙ sym same);
+        is = is;
+        only = λ other is_tree same. unambiguous G augmented free d other is.is_tree is_tree
+            (is.yields ∙ sym same);
       }
-    where
-      same_front : (a b : List (Token ℕ)) (x y : Token ℕ) → a ++ x ∷ [] ≡ b ++ y ∷ [] → a ≡ b
-      same_front [] [] x y e = refl
-      same_front [] (u ∷ []) x y e = absurd (let off : x ∷ [] ≡ u ∷ y ∷ [] → ⊥ = λ k. cc in off e)
-      same_front [] (u ∷ v ∷ b) x y e
-          = absurd (let off : x ∷ [] ≡ u ∷ v ∷ (b ++ y ∷ []) → ⊥ = λ k. cc in off e)
-      same_front (u ∷ []) [] x y e = absurd (let off : u ∷ x ∷ [] ≡ y ∷ [] → ⊥ = λ k. cc in off e)
-      same_front (u ∷ v ∷ a) [] x y e
-          = absurd (let off : u ∷ v ∷ (a ++ x ∷ []) ≡ y ∷ [] → ⊥ = λ k. cc in off e)
-      same_front (u ∷ a) (v ∷ b) x y e =
-          let heads : u ≡ v = cc in
-          let tails : a ++ x ∷ [] ≡ b ++ y ∷ [] = cc in
-          let rest = same_front a b x y tails in
-          cc
 
   -- what it would read next continues a sentence
   continuing : (before : List (Token ℕ)) (ts : List ℕ) → AreNext G judge before ts → AreContinuing G before ts
@@ -138,4 +144,25 @@ answers_sentences one some version limits lex yacc set g free text =
         sentences_say useful (judge_of spec) g.generated.is_automaton.augmented g.fit.reduced free text tokens ends
             (shape_in spec) said.1 v.0 said.3,
       ),
+    )
+
+-- a term that such a set answers is built of a derivation of the text's tokens
+pub trees_of_texts : TreesAreOfTexts
+trees_of_texts version limits lex yacc set g text term is =
+    let file = g.specifies.file in
+    let spec = g.spec in
+    let useful = g.generated.automaton.grammar in
+    let said : IsSpecVerdict file spec useful text (accepted term)
+    = tables_answer version file g.specifies.written spec set g.generated text (accepted term) is in
+    let tokens = said.0 in
+    let verdict = said.3 in
+    let clean : said.1 ≡ Clean = verdict.0 in
+    let are : AreTokensOf file spec text tokens said.1 = said.2 in
+    let ends = none_end spec.terminals _ tokens
+    (first_is_end _ g.specifies.written spec g.specifies.joined) are.numbered in (
+      tokens,
+      subst (AreTokensOf file spec text tokens) clean are,
+      verdict.1,
+      derived useful (judge_of spec) g.generated.is_automaton.augmented text tokens ends verdict.1 verdict.2,
+      verdict.3,
     )

@@ -32,7 +32,7 @@ use Rattle.ly_report.specs.Report.{terminal_name}
 use Rattle.ly_tokens.specs.Answers.{AreTooHeavy, HaveTooManyStates}
 use Rattle.ly_generate.specs.declared.gen_fault.GenFault.{GenFault}
 use Rattle.ly_generate.specs.declared.gen_fault.GenFault.TheVariants.{Automaton, Endless, Grammar as NoGrammar, Join}
-use Rattle.ly_generate.specs.declared.gen_fault.GenFault.TheVariants.{Lex, OutOfMemory, Positions, States, Write, Yacc}
+use Rattle.ly_generate.specs.declared.gen_fault.GenFault.TheVariants.{Lex, OutOfMemory, Positions, States, Yacc}
 
 -- The bytes of a lex file and of a yacc file say this specification, and are within the limits of files and scanners.
 pub record Specifies (limits : Sizes) (lex yacc : List ℕ) (s : Spec) : Type 0 where
@@ -99,11 +99,5 @@ IsRefusedFor limits lex yacc (Join fault) = (fault ≢ join_fault.OutOfMemory)
     × IsAtFault limits (scanning_of file) w fault
 IsRefusedFor limits lex yacc (Positions fault) = (fault ≡ TooManyPositions) × AreTooHeavy limits lex
 IsRefusedFor limits lex yacc (States fault) = (fault ≡ TooManyStates) × HaveTooManyStates limits lex
-IsRefusedFor limits lex yacc (Write written) = ⊥
 IsRefusedFor limits lex yacc OutOfMemory = Unit {0}
 IsRefusedFor limits lex yacc fault = (s : Spec) × Specifies limits lex yacc s × IsUnfitFor limits s fault
-
--- a write failed
-abbrev pub IsFailedWrite : GenFault → Type 0
-IsFailedWrite (Write written) = Unit {0}
-IsFailedWrite _ = ⊥

@@ -1,7 +1,16 @@
--- The faults of the parts as faults of generating.
-use Rattle.std.specs.Prelude.{◌≡◌, ◌≢◌, ◌⊎◌}
+-- The faults of the parts as faults of generating, and the numbers and names that they are printed with.
+use Rattle.std.specs.Prelude.{◌≡◌, ◌≢◌, ◌⊎◌, ℕ, List, Option, Some, None, codes}
 use Rattle.ly_generate.specs.declared.gen_fault.GenFault.{GenFault}
-use Rattle.ly_generate.specs.declared.gen_fault.GenFault.TheVariants.{OutOfMemory, Positions, States}
+use Rattle.ly_generate.specs.declared.gen_fault.GenFault.TheVariants.{Lex, Yacc, Join, Positions, States, Automaton}
+use Rattle.ly_generate.specs.declared.gen_fault.GenFault.TheVariants.{Endless, OutOfMemory}
+use Rattle.ly_generate.specs.declared.gen_fault.GenFault.TheVariants as gen
+use Rattle.ly_grammar.specs.FaultNames.{grammar_name, grammar_number}
+use Rattle.ly_join.specs.FaultNames.{join_name, join_number}
+use Rattle.ly_lexread.specs.Faults.{lex_name, lex_number}
+use Rattle.ly_lr0.specs.FaultNames.{lr0_name, lr0_number}
+use Rattle.ly_position.specs.FaultNames.{position_name, position_number}
+use Rattle.ly_subset.specs.FaultNames.{subset_name, subset_number}
+use Rattle.ly_yaccread.specs.Faults.{yacc_name, yacc_number}
 use Rattle.ly_tokens.specs.declared.scanner_fault.ScannerFault.{ScannerFault}
 use Rattle.ly_tokens.specs.declared.scanner_fault.ScannerFault.TheVariants as scanner
 
@@ -14,3 +23,27 @@ abbrev pub gen_of_scanner : ScannerFault → GenFault
 gen_of_scanner (scanner.Positions fault) = Positions fault
 gen_of_scanner (scanner.States fault) = States fault
 gen_of_scanner scanner.OutOfMemory = OutOfMemory
+
+-- the number that a fault is printed with: its part's; want of memory has none
+abbrev pub gen_number : GenFault → Option ℕ
+gen_number (Lex fault) = lex_number fault
+gen_number (Yacc fault) = yacc_number fault
+gen_number (Join fault) = join_number fault
+gen_number (Positions fault) = position_number fault
+gen_number (States fault) = subset_number fault
+gen_number (gen.Grammar fault) = grammar_number fault
+gen_number (Automaton fault) = lr0_number fault
+gen_number (Endless below top token name) = Some 70
+gen_number OutOfMemory = None
+
+-- the name that a fault is printed with
+abbrev pub gen_name : GenFault → List ℕ
+gen_name (Lex fault) = lex_name fault
+gen_name (Yacc fault) = yacc_name fault
+gen_name (Join fault) = join_name fault
+gen_name (Positions fault) = position_name fault
+gen_name (States fault) = subset_name fault
+gen_name (gen.Grammar fault) = grammar_name fault
+gen_name (Automaton fault) = lr0_name fault
+gen_name (Endless below top token name) = codes "Endless"
+gen_name OutOfMemory = codes "OutOfMemory"

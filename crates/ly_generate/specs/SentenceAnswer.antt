@@ -1,4 +1,4 @@
--- What a grammar without conflicts says of a text, by its derivations alone: no machine is spoken of.
+-- What a grammar says of a text by its derivations alone: no machine is spoken of.
 use Rattle.std.specs.Prelude.{◌≡◌, ◌↔◌, ℕ, ◌+◌, ◌<◌, List, ◌∷◌, ◌++◌, AllPairs, Contains, length}
 use Rattle.ly_base.specs.Lexed.{Token}
 use Rattle.ly_base.specs.Limits.{Sizes}
@@ -19,12 +19,16 @@ use Rattle.ly_lexread.specs.declared.file.LexFile.{LexFile}
 use Rattle.ly_resolve.specs.Actions.{IsConflictFree}
 use Rattle.ly_resolve.specs.Laws.{Continues, IsFirstWrong}
 use Rattle.ly_tables.specs.TableSet.{TableSet}
-use Rattle.ly_tree.specs.Term.{build}
+use Rattle.ly_tree.specs.Term.{Term, build}
 
--- The tree is a derivation of the tokens from the start symbol, and they have no other.
-pub record IsOnlyDerivation (G : Grammar) (tokens : List (Token ℕ)) (d : Tree) : Type 0 where
+-- The tree is a derivation of the tokens from the start symbol.
+pub record IsDerivation (G : Grammar) (tokens : List (Token ℕ)) (d : Tree) : Type 0 where
   pub is_tree : IsTree G (nonterminal G.start) d
   pub yields : yield_of d ≡ tokens
+
+-- It is, and they have no other.
+pub record IsOnlyDerivation (G : Grammar) (tokens : List (Token ℕ)) (d : Tree) : Type 0 where
+  pub is : IsDerivation G tokens d
   pub only : (other : Tree) → IsTree G (nonterminal G.start) other → yield_of other ≡ tokens → d ≡ other
 
 -- The list rises, and has the terminals that continue a sentence behind these tokens and no others.
@@ -56,3 +60,11 @@ AnswersSentences = (version : Version) (limits : Sizes) (lex yacc : List ℕ) (s
     (g : IsGenerated version limits lex yacc set) → IsConflictFree g.generated.automaton.grammar → (text : List ℕ)
     → (v : Verdict) × IsVerdict set text v × ((u : Verdict) → IsVerdict set text u → v ≡ u)
     × IsSaidBySentences g.specifies.file g.spec g.generated.automaton.grammar text v
+
+-- Whatever conflicts there are, the term that such a set answers to a text is built of a derivation of the text's tokens,
+-- all of them, by the useful rules.
+abbrev pub TreesAreOfTexts : Type 0
+TreesAreOfTexts = (version : Version) (limits : Sizes) (lex yacc : List ℕ) (set : TableSet)
+    (g : IsGenerated version limits lex yacc set) (text : List ℕ) (term : Term) → IsVerdict set text (accepted term)
+    → (tokens : List (Token ℕ)) × AreTokensOf g.specifies.file g.spec text tokens Clean
+    × (d : Tree) × IsDerivation g.generated.automaton.grammar tokens d × (term ≡ build (shape_in g.spec) d)

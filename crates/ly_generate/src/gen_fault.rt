@@ -13,39 +13,37 @@ use ly_join::JoinFault;
 use ly_lexread::LexFault;
 use ly_lr0::Lr0Fault;
 use ly_position::PosFault;
-use ly_print::WriteFault;
 use ly_subset::SubsetFault;
 use ly_tokens::ScannerFault;
 use ly_yaccread::YaccFault;
 use std::alloc::AllocError;
 use thiserror::Error;
 
-/// Why a lex file and a yacc file aren't accepted, or a report wasn't written whole.
+/// Why a lex file and a yacc file aren't accepted. Nothing is handed out then.
 #[derive(Debug, Drop, Error)]
 pub enum GenFault {
-    /// The lex file is refused. Nothing was written.
+    /// The lex file is refused.
     #[error("lex file, {0}")]
     Lex(LexFault),
-    /// The yacc file is refused. Nothing was written.
+    /// The yacc file is refused.
     #[error("yacc file, {0}")]
     Yacc(YaccFault),
-    /// The files make no specification. Nothing was written.
+    /// The files make no specification.
     #[error("{0}")]
     Join(JoinFault),
-    /// The patterns are too heavy together. Nothing was written.
+    /// The patterns are too heavy together.
     #[error("{0}")]
     Positions(PosFault),
-    /// The scanner has too many states before it is made smallest. Nothing was written.
+    /// The scanner has too many states before it is made smallest.
     #[error("{0}")]
     States(SubsetFault),
-    /// The start symbol derives no text. Nothing was written.
+    /// The start symbol derives no text.
     #[error("{0}")]
     Grammar(GrammarFault),
-    /// The parser has too many states. Nothing was written.
+    /// The parser has too many states.
     #[error("{0}")]
     Automaton(Lr0Fault),
-    /// A run of the parser's tables makes too many reductions before a token. It is the first such run. Nothing was
-    /// written.
+    /// A run of the parser's tables makes too many reductions before a token. It is the first such run.
     #[error("a run of the parser makes too many reductions")]
     Endless {
         /// The state below on the stack.
@@ -57,15 +55,47 @@ pub enum GenFault {
         /// The terminal's printed name.
         name: Vec<u8>,
     },
-    /// The writer failed in this call, and just the first `written` bytes went out.
-    #[error("the report could not be written after {written} bytes")]
-    Write {
-        /// How many bytes went out.
-        written: usize,
-    },
-    /// A growth was refused. Nothing was written.
+    /// A growth was refused.
     #[error("out of memory")]
     OutOfMemory,
+}
+
+impl GenFault {
+    ghost use Rattle.ly_generate.specs.GenFault.{gen_name, gen_number};
+
+    /// The number that the fault is printed with; want of memory has none.
+    pub fn number(&self) -> Option<u8>
+        ensures { result ≡ gen_number self.now }
+    {
+        match self {
+            GenFault::Lex(fault) => fault.number(),
+            GenFault::Yacc(fault) => fault.number(),
+            GenFault::Join(fault) => fault.number(),
+            GenFault::Positions(fault) => fault.number(),
+            GenFault::States(fault) => fault.number(),
+            GenFault::Grammar(fault) => fault.number(),
+            GenFault::Automaton(fault) => fault.number(),
+            GenFault::Endless { .. } => Some(70),
+            GenFault::OutOfMemory => None,
+        }
+    }
+
+    /// The name that the fault is printed with.
+    pub fn name(&self) -> &'static str
+        ensures { result.now ≡ gen_name self.now }
+    {
+        match self {
+            GenFault::Lex(fault) => fault.name(),
+            GenFault::Yacc(fault) => fault.name(),
+            GenFault::Join(fault) => fault.name(),
+            GenFault::Positions(fault) => fault.name(),
+            GenFault::States(fault) => fault.name(),
+            GenFault::Grammar(fault) => fault.name(),
+            GenFault::Automaton(fault) => fault.name(),
+            GenFault::Endless { .. } => "Endless",
+            GenFault::OutOfMemory => "OutOfMemory",
+        }
+    }
 }
 
 impl From<AllocError> for GenFault {
@@ -147,16 +177,6 @@ impl From<Lr0Fault> for GenFault {
         match fault {
             Lr0Fault::OutOfMemory => GenFault::OutOfMemory,
             fault => GenFault::Automaton(fault),
-        }
-    }
-}
-
-impl From<WriteFault> for GenFault {
-    ghost from_gives = { λ f e. e ≡ fault.Write f.written };
-
-    fn from(fault: WriteFault) -> GenFault {
-        GenFault::Write {
-            written: fault.written,
         }
     }
 }

@@ -1,6 +1,6 @@
 ghost use Rattle.ly_generate.specs.Headline.{AnswersAreOfSpecification, TablesAnswerAsSpecified};
 ghost use Rattle.ly_generate.specs.Laws.{RefusalIsExact};
-ghost use Rattle.ly_generate.specs.SentenceAnswer.{AnswersSentences};
+ghost use Rattle.ly_generate.specs.SentenceAnswer.{AnswersSentences, TreesAreOfTexts};
 
 use ly_feed::{a_text_has_a_verdict, a_text_has_one_verdict};
 
@@ -23,3 +23,8 @@ pub fn sentences_are_answered()
     a_text_has_one_verdict();
     a_text_has_a_verdict();
 }
+
+/// The tree of a text is a derivation of its tokens, all of them, whatever conflicts the grammar has.
+pub fn trees_are_of_texts()
+    ensures { TreesAreOfTexts }
+{}

@@ -43,7 +43,7 @@ pub struct SpecParser {
 /// The parser of a specification, whose states are within the limits.
 ///
 /// Its faults are `Grammar`, `Automaton`, `Endless` and `OutOfMemory` of `GenFault`.
-pub fn parser_of(
+pub fn specification_parser(
     alloc: Global,
     spec: &Spec,
     limits: &Limits,
@@ -55,28 +55,16 @@ pub fn parser_of(
 {
     let reduced = reduce(alloc, spec.grammar())?;
     let lr0 = automaton(alloc, &reduced, limits)?;
-    parser_over(alloc, spec, &lr0, report)
-}
-
-/// The parser of a specification over its automaton.
-fn parser_over(
-    alloc: Global,
-    spec: &Spec,
-    lr0: &Lr0<'_>,
-    report: Report,
-) -> Result<SpecParser, GenFault>
-    requires shapes { AreShapesWithin spec.now }
-    requires lawful { parser.IsLr0Automaton lr0.now }
-    requires useful { KeepsUseful spec.now.grammar lr0.now.grammar }
-    ensures parser { IfOk result (IsParserOver spec.now lr0.now report) }
-    ensures unfit { IfErr result (λ fault. (limits : Sizes) → IsUnfitFor limits spec.now fault) }
-{
-    let resolved = settle(alloc, spec, lr0)?;
-    parser_by(alloc, &resolved, report)
+    let resolved = settle(alloc, spec, &lr0)?;
+    settled_parser(alloc, &resolved, report)
 }
 
 /// The parser that does what is settled.
-fn parser_by(alloc: Global, resolved: &Resolved<'_>, report: Report) -> Result<SpecParser, GenFault>
+fn settled_parser(
+    alloc: Global,
+    resolved: &Resolved<'_>,
+    report: Report,
+) -> Result<SpecParser, GenFault>
     requires shapes { AreShapesWithin resolved.now.spec }
     requires lawful { parser.IsLr0Automaton resolved.now.automaton }
     requires useful { KeepsUseful resolved.now.spec.grammar resolved.now.automaton.grammar }
@@ -84,7 +72,7 @@ fn parser_by(alloc: Global, resolved: &Resolved<'_>, report: Report) -> Result<S
     ensures parser { IfOk result (IsParserOver resolved.now.spec resolved.now.automaton report) }
     ensures unfit { IfErr result (λ fault. (limits : Sizes) → IsUnfitFor limits resolved.now.spec fault) }
 {
-    let machine = steady_tables(alloc, resolved)?;
+    let machine = parser_tables(alloc, resolved)?;
     let report = report_if(alloc, resolved, report)?;
     Ok(SpecParser {
         machine,
@@ -96,8 +84,8 @@ fn parser_by(alloc: Global, resolved: &Resolved<'_>, report: Report) -> Result<S
 
 /// The parser of the specification that a lex file and a yacc file say together, for what makes no table file.
 ///
-/// A limit above that of version 2 of the table file counts as that. Its faults are those of `GenFault` but `Write`.
-pub fn parser_of_files(
+/// A limit above that of version 2 of the table file counts as that. Its faults are those of `GenFault`.
+pub fn file_parser(
     alloc: Global,
     lex: &[u8],
     yacc: &[u8],
@@ -111,7 +99,7 @@ pub fn parser_of_files(
 {
     let limits = limits.within(Version::V2);
     let given = read_specification(alloc, lex, yacc, &limits)?;
-    parser_of(alloc, &given.spec, &limits, report)
+    specification_parser(alloc, &given.spec, &limits, report)
 }
 
 /// The bytes of a report, where it is wanted.
@@ -146,7 +134,7 @@ pub fn settle<'a>(
 /// The tables of a parser, of which every run ends.
 ///
 /// Its faults are `Endless` and `OutOfMemory` of `GenFault`.
-pub fn steady_tables(
+pub fn parser_tables(
     alloc: Global,
     resolved: &Resolved<'_>,
 ) -> Result<Machine<Dense<TableAction>, Dense<StateNo>>, GenFault>

@@ -5,7 +5,6 @@ use ly_base::OutOfMemory;
 use ly_generate::GenFault;
 use ly_join::{JoinFault, Limit};
 use ly_page::{Named, Page};
-use std::fmt::Display;
 
 /// What stands before each line of a file and what is said under it.
 const MARGIN: &[u8] = b"    ";
@@ -66,45 +65,36 @@ fn is_of_lex(fault: &GenFault) -> bool {
     )
 }
 
-/// Says a fault by its number, its name, what it names and what it is.
+/// Says a fault by its number, its name, what is at fault and what it is.
 fn say_heading(page: &mut Page, fault: &GenFault) {
-    match fault {
-        GenFault::Lex(fault) => say_words(page, fault.number(), fault.name(), fault),
-        GenFault::Yacc(fault) => say_words(page, fault.number(), fault.name(), fault),
-        GenFault::Join(fault) => say_join_heading(page, fault),
-        GenFault::Positions(fault) => say_words(page, fault.number(), fault.name(), fault),
-        GenFault::States(fault) => say_words(page, fault.number(), fault.name(), fault),
-        GenFault::Grammar(fault) => say_words(page, fault.number(), fault.name(), fault),
-        GenFault::Automaton(fault) => say_words(page, fault.number(), fault.name(), fault),
-        GenFault::Endless { name, .. } => {
-            page.say(b"70 Endless before ");
-            page.say(name);
-            page.say(b": ");
-            page.say_words(fault);
-        }
-        GenFault::Write { .. } | GenFault::OutOfMemory => page.say_words(fault),
-    }
-}
-
-/// Says a fault by its number, its name and what it is.
-fn say_words<F: Display>(page: &mut Page, number: Option<u8>, name: &str, fault: &F) {
-    say_name(page, number, name);
-    page.say(b": ");
-    page.say_words(fault);
-}
-
-/// Says the number and the name of a fault.
-fn say_name(page: &mut Page, number: Option<u8>, name: &str) {
-    if let Some(number) = number {
+    if let Some(number) = fault.number() {
         page.say_number(u64::from(number));
         page.say(b" ");
     }
-    page.say(name.as_bytes());
+    page.say(fault.name().as_bytes());
+    match fault {
+        GenFault::Join(fault) => say_at_fault(page, fault),
+        GenFault::Endless { name, .. } => {
+            page.say(b" before ");
+            page.say(name);
+        }
+        _ => {}
+    }
+    page.say(b": ");
+    say_words(page, fault);
 }
 
-/// Says a fault of both files by its number, its name, what it names and what it is.
-fn say_join_heading(page: &mut Page, fault: &JoinFault) {
-    say_name(page, fault.number(), fault.name());
+/// Says what a fault is.
+fn say_words(page: &mut Page, fault: &GenFault) {
+    match fault {
+        GenFault::Lex(fault) => page.say_words(fault),
+        GenFault::Yacc(fault) => page.say_words(fault),
+        fault => page.say_words(fault),
+    }
+}
+
+/// Says what is at fault in both files.
+fn say_at_fault(page: &mut Page, fault: &JoinFault) {
     match fault {
         JoinFault::UndefinedSymbol(name)
         | JoinFault::TokenOnLeft(name)
@@ -124,8 +114,6 @@ fn say_join_heading(page: &mut Page, fault: &JoinFault) {
         }
         JoinFault::NoRules | JoinFault::OutOfMemory => {}
     }
-    page.say(b": ");
-    page.say_words(fault);
 }
 
 /// Says the line of a place, or the part of it round the place where it is long, and under it a caret.

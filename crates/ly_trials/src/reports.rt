@@ -92,7 +92,8 @@ fn reports_are_written_whole(rt: HostRuntime) {
 fn tells_of_a_failed_write(alloc: Global) -> bool {
     let mut sink = MemSink::failing_after(alloc, 9);
     let free = report_into(alloc, BYTES, DANGLING_ELSE, &Limits::V2, &mut sink);
-    matches!(free, Err(GenFault::Write { written: 9 })) && sink.bytes() == b"removed r".as_slice()
+    matches!(free, Err(ReportingFault::Write { written: 9 }))
+        && sink.bytes() == b"removed r".as_slice()
 }
 
 #[test]
@@ -105,7 +106,8 @@ fn refusal(alloc: Global, lex: &[u8], yacc: &[u8], limits: &Limits) -> u8 {
     let mut sink = MemSink::new(alloc);
     match report_into(alloc, lex, yacc, limits, &mut sink) {
         Ok(_) => b'-',
-        Err(fault) => letter(&fault),
+        Err(ReportingFault::Files(fault)) => letter(&fault),
+        Err(ReportingFault::Write { .. }) => b'w',
     }
 }
 
@@ -120,7 +122,6 @@ fn letter(fault: &GenFault) -> u8 {
         GenFault::Grammar(_) => b'g',
         GenFault::Automaton(_) => b'a',
         GenFault::Endless { .. } => b'e',
-        GenFault::Write { .. } => b'w',
         GenFault::OutOfMemory => b'm',
     }
 }

@@ -1,10 +1,9 @@
 ghost use Rattle.std.specs.Prelude.{◌≡◌, IfErr, IfOk, IsSome, OnOk, Some, [], map, option_and_then, option_map};
 ghost use Rattle.std.specs.Prelude.{MatchResult, string_bytes, true};
 ghost use Rattle.clap.specs.Words.{first_value, found_of, kind_of, subcommand_rows_of};
-ghost use Rattle.ly_words.specs.CommandLine.{build_by, check_by, explain_by, line_faults, line_takes, request_by};
+ghost use Rattle.ly_words.specs.CommandLine.{build_by, check_by, explain_by, line_faults, line_takes, request_by, Mean};
 ghost use Rattle.ly_words.specs.CommandLine.{request_of, run_by, subcommand_in, tokens_by, try_by, version_by};
 ghost use Rattle.ly_words.specs.Command.{said};
-ghost use Rattle.ly_words.specs.Paths.{AskFor};
 ghost use Rattle.ly_words.specs.Request.{Request};
 
 use crate::command::{Command, CommandFault, ExplainPaths, Paths};
@@ -28,7 +27,7 @@ pub fn read_command<'a>(alloc: Global, words: &'a [String]) -> Result<Command<'a
     ensures faultless { OnOk result (line_faults (map string_bytes words.entry.now) ≡ []) }
     ensures refused { IfErr result (λ e. line_takes (map string_bytes words.entry.now) ≡ true
         → IsSome (request_of (map string_bytes words.entry.now)) → e ≡ CommandFault.OutOfMemory) }
-    ensures taken { (request : Request) → AskFor (map string_bytes words.entry.now) request
+    ensures taken { (request : Request) → Mean (map string_bytes words.entry.now) request
         → MatchResult result (λ c. said c ≡ request) (λ e. e ≡ CommandFault.OutOfMemory) }
 {
     let matches = matched(alloc, words)?;

@@ -1,12 +1,19 @@
--- What a command that is completed has written to standard output, for what the files of its words hold: nothing is
--- known of that, so it is said of some bytes.
-use Rattle.std.specs.Prelude.{◌≡◌, ◌⊎◌, ◌++◌, ℕ, List, MatchBool, Option, codes, length}
+-- What a command has written to standard output, or why it failed, and what it read of standard input, for what the files
+-- of its words hold: nothing is known of that, so it is said of some bytes.
+use Rattle.std.specs.Prelude.{◌≡◌, ◌⊎◌, ◌++◌, ℕ, IfErr, IfOk, IsSome, List, MatchBool, MatchResult, None, OnOk, Option, Some}
+use Rattle.std.specs.Prelude.{Result, codes, length}
 use Rattle.std.specs.Fmt.{decimal}
-use Rattle.std.specs.Io.KnownBytes.{Appends}
+use Rattle.std.specs.Io.KnownBytes.{Appends, IsAtEnd}
+use Rattle.std.specs.declared.alloc.Global.{Global}
+use Rattle.std.specs.declared.vec.Vec.{Vec}
 use Rattle.ly_base.specs.Limits.{Sizes, least_of, sizes_in, version_2}
 use Rattle.ly_base.specs.declared.version.Version.{Version}
+use Rattle.ly_base.specs.declared.version.Version.TheVariants.{V1, V2}
 use Rattle.ly_explain.specs.Explained.{IsExplained}
 use Rattle.ly_generate.specs.Generated.{IsGenerated}
+use Rattle.ly_generate.specs.Parser.{IsReportIf}
+use Rattle.ly_generate.specs.declared.report.Report.{Report}
+use Rattle.ly_generate.specs.declared.report.Report.TheVariants.{Unwanted, Wanted}
 use Rattle.ly_report.specs.Counts.{AreCounts}
 use Rattle.ly_report.specs.Report.{counts_line}
 use Rattle.ly_report.specs.declared.counts.ConflictCounts.{ConflictCounts}
@@ -14,34 +21,44 @@ use Rattle.ly_accepted.specs.declared.surveying.Explanation.{Explanation}
 use Rattle.ly_tables.specs.TableSet.{TableSet}
 use Rattle.ly_tables.specs.TableText.{TableText}
 use Rattle.ly_tables.specs.declared.set_counts.SetCounts.{SetCounts}
-use Rattle.ly_words.specs.Command.{said}
-use Rattle.ly_words.specs.Request.{Request}
-use Rattle.ly_words.specs.declared.command.Command.{Command}
-use Rattle.ly_words.specs.declared.command.Command.TheVariants as command
+use Rattle.ly_words.specs.Request.{Request, build, check, explain, run, tokens, try}
 use Rattle.lytab.specs.Answering.{IsAnsweredByFiles, IsAnsweredByTables, AreTokensPrinted, text_from}
 use Rattle.lytab.specs.Completion.{completion_status}
-use Rattle.lytab.specs.Devices.{IsLeftOrFailed}
-use Rattle.lytab.specs.Failure.{failure_status}
+use Rattle.lytab.specs.Devices.{IsOutputTold}
+use Rattle.lytab.specs.Failure.{failure_status, IsOfDevice}
+use Rattle.lytab.specs.Files.{HasTaken, IsWrittenIf}
+use Rattle.lytab.specs.Reading.{IsOfRules, IsReadByFiles, IsReadByTables}
+use Rattle.lytab.specs.Refusal.{IsRefusalOfBuild, IsRefusalOfCheck, IsRefusalOfFiles, IsRefusalOfLex, IsRefusalOfTables}
 use Rattle.lytab.specs.declared.completion.Completion.{Completion}
 use Rattle.lytab.specs.declared.completion.Completion.TheVariants.{Done, FilesRefused}
 use Rattle.lytab.specs.declared.failure.Failure.{Failure}
 
--- how many conflicts the specification has that a lex file and a yacc file say within limits, of which a table set was
--- made
-pub record IsBuildTold (limits : Sizes) (version : Version) (before after : Option (List ℕ)) (c : Completion) : Type 0
-  where
-    pub lex : List ℕ
-    pub yacc : List ℕ
-    pub set : TableSet
-    pub generated : IsGenerated version (least_of limits (sizes_in version)) lex yacc set
-    pub counts : ConflictCounts
-    pub are_counts : AreCounts generated.spec counts
-    pub line : Appends before after (counts_line counts.shift_reduce counts.reduce_reduce)
-    pub done : c ≡ Done
+-- a report is wanted where a file is named for it
+abbrev pub wanted_for : {A : Type 0} → Option A → Report
+wanted_for (Some path) = Wanted
+wanted_for None = Unwanted
 
--- what the table set is made of that the bytes of a table file spell
-pub record HasCounts (bytes : List ℕ) (counts : SetCounts) : Type 0 where
-  pub version : Version
+-- A table set was made of the specification that a lex file and a yacc file say within limits. Its table file was
+-- written, and the specification's report where a file is named for it; and it is told how many conflicts there are.
+pub record IsBuildTold {D A : Type 0} (contents : D → Option (List ℕ)) (limits : Sizes) (version : Version)
+    (report_path : Option A) (before after : Option (List ℕ)) (c : Completion) : Type 0 where
+  pub lex : List ℕ
+  pub yacc : List ℕ
+  pub set : TableSet
+  pub generated : IsGenerated version (least_of limits (sizes_in version)) lex yacc set
+  pub tables : List ℕ
+  pub spelled : TableText tables version set
+  pub tables_written : HasTaken contents tables
+  pub report : Option (Vec ℕ Global)
+  pub is_report : IsReportIf (wanted_for report_path) generated.spec report
+  pub report_written : IsWrittenIf contents report_path report
+  pub counts : ConflictCounts
+  pub are_counts : AreCounts generated.spec counts
+  pub line : Appends before after (counts_line counts.shift_reduce counts.reduce_reduce)
+  pub done : c ≡ Done
+
+-- what the table set is made of that the bytes of a table file of a version spell
+pub record HasCounts (bytes : List ℕ) (version : Version) (counts : SetCounts) : Type 0 where
   pub set : TableSet
   pub spelled : TableText bytes version set
   pub terminals : counts.terminals ≡ length set.terminals
@@ -51,64 +68,100 @@ pub record HasCounts (bytes : List ℕ) (counts : SetCounts) : Type 0 where
   pub rules : counts.rules ≡ length set.rules
   pub parser_states : counts.parser_states ≡ length set.defaults
 
--- the line that says how many there are
-abbrev pub set_line : SetCounts → List ℕ
-set_line counts = codes "tables: " ++ (decimal counts.terminals ++ codes " terminals, ")
+-- the end of the line that names a version
+abbrev pub version_words : Version → List ℕ
+version_words V1 = codes "version 1\n"
+version_words V2 = codes "version 2\n"
+
+-- the line that says how many there are, and which version the file has
+abbrev pub set_line : SetCounts → Version → List ℕ
+set_line counts version = codes "tables: " ++ (decimal counts.terminals ++ codes " terminals, ")
     ++ (decimal counts.nonterminals ++ codes " nonterminals, ")
     ++ (decimal counts.scanner_rules ++ codes " scanner rules, ")
     ++ (decimal counts.scanner_states ++ codes " scanner states, ")
-    ++ (decimal counts.rules ++ codes " rules, ") ++ (decimal counts.parser_states ++ codes " parser states\n")
+    ++ (decimal counts.rules ++ codes " rules, ") ++ (decimal counts.parser_states ++ codes " parser states, ")
+    ++ version_words version
 
 -- that line was written
 pub record IsCheckTold (before after : Option (List ℕ)) (c : Completion) : Type 0 where
   pub bytes : List ℕ
+  pub version : Version
   pub counts : SetCounts
-  pub has : HasCounts bytes counts
-  pub line : Appends before after (set_line counts)
+  pub has : HasCounts bytes version counts
+  pub line : Appends before after (set_line counts version)
   pub done : c ≡ Done
 
--- what there is to say of a lex file and a yacc file, and whether they are accepted
-pub record IsExplanationTold (before after : Option (List ℕ)) (c : Completion) : Type 0 where
+-- what there is to say of a lex file and a yacc file, and whether they are accepted; the states of their parser and a
+-- picture of them were written where files are named for them, as far as there are any
+pub record IsExplanationTold {D A : Type 0} (contents : D → Option (List ℕ)) (states_path graph_path : Option A)
+    (before after : Option (List ℕ)) (c : Completion) : Type 0 where
   pub lex : List ℕ
   pub yacc : List ℕ
   pub explanation : Explanation
   pub explained : IsExplained version_2 lex yacc explanation
+  pub states_written : IsWrittenIf contents states_path explanation.states
+  pub picture_written : IsWrittenIf contents graph_path explanation.picture
   pub text : Appends before after explanation.text.items
   pub completed : MatchBool explanation.accepted (c ≡ Done) (c ≡ FilesRefused)
 
--- what a command has written to standard output, where standard input had this left
-abbrev pub IsCarriedOut : Command → Option (List ℕ) → Option (List ℕ) → Option (List ℕ) → Completion → Type 0
-IsCarriedOut (command.Tokens lex text) given before after c =
-    (bytes : List ℕ) × AreTokensPrinted bytes (text_from text given) before after c
-IsCarriedOut (command.Run tables text) given before after c =
-    (bytes : List ℕ) × IsAnsweredByTables bytes (text_from text given) before after c
-IsCarriedOut (command.Try lex yacc text) given before after c =
-    (lex_bytes yacc_bytes : List ℕ) × IsAnsweredByFiles lex_bytes yacc_bytes (text_from text given) before after c
-IsCarriedOut (command.Build paths version) given before after c = IsBuildTold version_2 version before after c
-IsCarriedOut (command.Check tables) given before after c = IsCheckTold before after c
-IsCarriedOut (command.Explain paths) given before after c = IsExplanationTold before after c
+-- What a command's devices were before it and after it: standard input, what it had and has left, and what stood and
+-- stands on standard output.
+pub record Ends (R : Type 0) : Type 0 where
+  pub input_before : R
+  pub input_after : R
+  pub given : Option (List ℕ)
+  pub left : Option (List ℕ)
+  pub before : Option (List ℕ)
+  pub after : Option (List ℕ)
 
--- a command was completed that asks for this, with the status of its completion; standard output's count of failures is
--- as it was
-pub record IsCompleted (request : Request) (given before after : Option (List ℕ)) (failures new_failures status : ℕ)
-    : Type 0 where
-  pub command : Command
-  pub says : said command ≡ request
-  pub completion : Completion
-  pub carried_out : IsCarriedOut command given before after completion
-  pub is_status : status ≡ completion_status completion
-  pub held : new_failures ≡ failures
+-- Standard input is as it was where the text is a file's, and where the files are refused that the text is answered by.
+-- Where it is the text, this holds of what was read.
+pub record IsInputTold {A R : Type 0} (text : Option A) (result : Result Completion Failure) (e : Ends R)
+    (read : Type 0) : Type 0 where
+  pub elsewhere : IsSome text → e.input_after ≡ e.input_before
+  pub refused : IfErr result (λ f. IsOfRules f → e.input_after ≡ e.input_before)
+  pub as_needed : text ≡ None → read
 
--- It failed, with the status of a failure, or 3 where there is no memory for its line. Standard output and its count of
--- failures are as they were, or a write to it failed: the count went on by one, and the status is 3, that of a failed
--- write. So standard output is as it was with status 1 or 2, and with any where its count of failures is.
-pub record HasFailed (before after : Option (List ℕ)) (failures new_failures status : ℕ) : Type 0 where
-  pub failure : Failure
-  pub is_status : (status ≡ failure_status failure) ⊎ (status ≡ 3)
-  pub output : IsLeftOrFailed before after failures new_failures failure
+-- The set of a table file answers the text, and no more is read than that takes; or nothing is.
+abbrev pub IsReadForTables : {R : Type 0} → List ℕ → Result Completion Failure → Ends R → Type 0
+IsReadForTables tables result e = (e.input_after ≡ e.input_before) ⊎ IsReadByTables tables result e.given e.left
 
--- with what standard input had left, and what stood on standard output and its count of failures before and after
-abbrev pub HasPerformed : Request → Option (List ℕ) → Option (List ℕ) → Option (List ℕ) → ℕ → ℕ → ℕ → Type 0
-HasPerformed request given before after failures new_failures status =
-    IsCompleted request given before after failures new_failures status
-    ⊎ HasFailed before after failures new_failures status
+abbrev pub IsReadForFiles : {R : Type 0} → List ℕ → List ℕ → Result Completion Failure → Ends R → Type 0
+IsReadForFiles lex yacc result e = IsReadByFiles lex yacc result e.input_before e.input_after e.given e.left
+
+-- what a command did that asks for this, and how it ended, where of a file that it writes this is known
+abbrev pub IsCarriedOut : {R D : Type 0} → (D → Option (List ℕ)) → Request → Result Completion Failure → Ends R
+    → Type 0
+IsCarriedOut contents (tokens lex text) result e = (bytes : List ℕ)
+    × IfOk result (AreTokensPrinted bytes (text_from text e.given) e.before e.after)
+    × IfErr result (IsRefusalOfLex bytes) × IsInputTold text result e (OnOk result (IsAtEnd e.left))
+IsCarriedOut contents (run table_file text) result e = (bytes : List ℕ)
+    × IfOk result (IsAnsweredByTables bytes (text_from text e.given) e.before e.after)
+    × IfErr result (IsRefusalOfTables bytes (text_from text e.given))
+    × IsInputTold text result e (IsReadForTables bytes result e)
+IsCarriedOut contents (try lex yacc text) result e = (lex_bytes yacc_bytes : List ℕ)
+    × IfOk result (IsAnsweredByFiles lex_bytes yacc_bytes (text_from text e.given) e.before e.after)
+    × IfErr result (IsRefusalOfFiles lex_bytes yacc_bytes (text_from text e.given))
+    × IsInputTold text result e (IsReadForFiles lex_bytes yacc_bytes result e)
+IsCarriedOut contents (build lex yacc table_file report version) result e =
+    IfOk result (IsBuildTold contents version_2 version report e.before e.after) × IfErr result (IsRefusalOfBuild version)
+    × (e.input_after ≡ e.input_before)
+IsCarriedOut contents (check table_file) result e =
+    IfOk result (IsCheckTold e.before e.after) × IfErr result IsRefusalOfCheck × (e.input_after ≡ e.input_before)
+IsCarriedOut contents (explain lex yacc states graph) result e =
+    IfOk result (IsExplanationTold contents states graph e.before e.after) × IfErr result IsOfDevice × (e.input_after ≡ e.input_before)
+
+-- the exit status of a command that ended so; where it failed also 3, if there is no memory for the line that says why
+abbrev pub IsStatusOf : ℕ → Result Completion Failure → Type 0
+IsStatusOf status result = MatchResult result (λ c. status ≡ completion_status c)
+    (λ f. (status ≡ failure_status f) ⊎ (status ≡ 3))
+
+-- A command was carried out that asks for this, with its exit status. Where it is completed standard output's count of
+-- failures is as it was. Where it failed standard output and its count of failures are as they were, or a write to it
+-- failed: the count went on by one, and the status is 3. So standard output is as it was with status 1 or 2 of a
+-- failure, and with any where its count of failures is.
+pub record HasPerformed {R D : Type 0} (contents : D → Option (List ℕ)) (request : Request) (e : Ends R) (failures new_failures status : ℕ) : Type 0 where
+  pub result : Result Completion Failure
+  pub carried_out : IsCarriedOut contents request result e
+  pub is_status : IsStatusOf status result
+  pub output : IsOutputTold result e.before e.after failures new_failures

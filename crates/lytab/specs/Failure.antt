@@ -26,9 +26,16 @@ abbrev pub IsOfWriter : Failure → Type 0
 IsOfWriter (CannotWrite path) = Unit {0}
 IsOfWriter _ = ⊥
 
--- where a lex file and a yacc file aren't accepted: 2, and 3 where a write fails or memory runs out
+-- a device fails or memory runs out
+abbrev pub IsOfDevice : Failure → Type 0
+IsOfDevice (CannotRead path) = Unit {0}
+IsOfDevice (Unreadable path reason) = Unit {0}
+IsOfDevice (CannotWrite path) = Unit {0}
+IsOfDevice OutOfMemory = Unit {0}
+IsOfDevice _ = ⊥
+
+-- where a lex file and a yacc file aren't accepted: 2, and 3 where memory runs out
 abbrev pub refusal_status : GenFault → ℕ
-refusal_status (gen.Write written) = 3
 refusal_status gen.OutOfMemory = 3
 refusal_status _ = 2
 

@@ -1,6 +1,7 @@
 -- What a failure says of the files that a text is answered by, and of the text.
 use Rattle.std.specs.Prelude.{◌≡◌, ◌≢◌, ℕ, List, Option}
-use Rattle.ly_base.specs.Limits.{version_2}
+use Rattle.ly_base.specs.Limits.{least_of, sizes_in, version_2}
+use Rattle.ly_base.specs.declared.version.Version.{Version}
 use Rattle.ly_drive.specs.Answering.{IsDriven, IsFaultyOn, IsTooLong}
 use Rattle.ly_generate.specs.Accepted.{IsRefusedFor}
 use Rattle.ly_generate.specs.declared.gen_fault.GenFault.{GenFault}
@@ -14,6 +15,7 @@ use Rattle.ly_tables.specs.Refusal.{IsRefusedAs}
 use Rattle.ly_tables.specs.TableSet.{TableSet}
 use Rattle.ly_tables.specs.declared.fault.TableFault.TheVariants as file
 use Rattle.ly_tokens.specs.Answers.{AreTooHeavy, HaveTooManyStates}
+use Rattle.lytab.specs.Failure.{IsOfDevice}
 use Rattle.lytab.specs.declared.answering.Rules.{Rules}
 use Rattle.lytab.specs.declared.answering.Rules.TheVariants as rules
 use Rattle.lytab.specs.declared.failure.Failure.{Failure}
@@ -56,6 +58,17 @@ IsRefusalOfFiles lex yacc given (CannotRead path) = Unit {0}
 IsRefusalOfFiles lex yacc given (CannotWrite path) = Unit {0}
 IsRefusalOfFiles lex yacc given OutOfMemory = Unit {0}
 IsRefusalOfFiles lex yacc given _ = ⊥
+
+-- where a table file of a version is built of some lex file and some yacc file
+abbrev pub IsRefusalOfBuild : Version → Failure → Type 0
+IsRefusalOfBuild version (Refused fault) =
+    (lex yacc : List ℕ) × IsRefusedFor (least_of version_2 (sizes_in version)) lex yacc fault
+IsRefusalOfBuild version f = IsOfDevice f
+
+-- where it is said what some table file is made of
+abbrev pub IsRefusalOfCheck : Failure → Type 0
+IsRefusalOfCheck (Tables fault) = (tables : List ℕ) × IsRefusedAs tables fault
+IsRefusalOfCheck f = IsOfDevice f
 
 -- what a failure says of these rules, and of what a reader gave; that a device fails or memory runs out says nothing
 abbrev pub IsRefusalOf : Rules → Option (List ℕ) → Failure → Type 0

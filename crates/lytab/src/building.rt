@@ -1,16 +1,18 @@
 //! The command `build`.
-ghost use Rattle.std.specs.Prelude.{◌≡◌, IfOk};
+ghost use Rattle.std.specs.Prelude.{◌≡◌, IfErr, IfOk, OnOk, option_map};
 ghost use Rattle.ly_base.specs.Limits.{version_2};
 ghost use Rattle.ly_report.specs.Report.{counts_line};
 ghost use Rattle.lytab.specs.CarriedOut.{IsBuildTold};
 ghost use Rattle.lytab.specs.Devices.{IsOutputTold};
+ghost use Rattle.lytab.specs.Files.{HasTaken, IsWrittenIf};
+ghost use Rattle.lytab.specs.Refusal.{IsRefusalOfBuild};
 
 use crate::completion::Completion;
 use crate::failure::Failure;
 use crate::files::{FileFault, read_file, write_file};
 use ly_base::{Limits, Version};
 use ly_engine::{Built, ConflictCounts, Report, build};
-use ly_print::Sink;
+use ly_print::{Counted, Sink};
 use ly_report::push_counts;
 use ly_words::Paths;
 use std::alloc::{AllocError, Global};
@@ -26,7 +28,9 @@ pub fn build_tables<'a, F: Files, W: Sink>(
     version: Version,
     output: &mut W,
 ) -> Result<Completion, Failure<'a>>
-    ensures built { IfOk result (IsBuildTold version_2 version (W.contents output.old) (W.contents output.new)) }
+    ensures built { IfOk result (IsBuildTold ⟦<Counted<F::File> as Sink>⟧.contents version_2 version
+        (option_map (λ s. s.now) paths.report) (W.contents output.old) (W.contents output.new)) }
+    ensures refused { IfErr result (IsRefusalOfBuild version) }
     ensures devices { IsOutputTold result output.old output.new (W.failures output.old) (W.failures output.new) }
 {
     let lex = read_file(files, alloc, paths.lex)?;
@@ -56,7 +60,10 @@ fn write_files<'a, F: Files>(
     files: &F,
     paths: Paths<'a>,
     built: &Built,
-) -> Result<(), FileFault<'a>> {
+) -> Result<(), FileFault<'a>>
+    ensures tables { OnOk result (HasTaken ⟦<Counted<F::File> as Sink>⟧.contents built.now.tables.items) }
+    ensures report { OnOk result (IsWrittenIf ⟦<Counted<F::File> as Sink>⟧.contents (option_map (λ s. s.now) paths.report) built.now.report) }
+{
     write_file(files, paths.tables, &built.tables)?;
     match (paths.report, &built.report) {
         (Some(path), Some(report)) => write_file(files, path, report),

@@ -1,19 +1,23 @@
 //! The command `check`.
-ghost use Rattle.std.specs.Prelude.{◌≡◌, ◌++◌, IfOk, OnOk, string_bytes};
+ghost use Rattle.std.specs.Prelude.{◌≡◌, ◌++◌, IfErr, IfOk, OnOk, string_bytes};
 ghost use Rattle.std.specs.Fmt.{decimal};
-ghost use Rattle.lytab.specs.CarriedOut.{HasCounts, IsCheckTold, set_line};
+ghost use Rattle.lytab.specs.CarriedOut.{HasCounts, IsCheckTold, set_line, version_words};
 ghost use Rattle.lytab.specs.Devices.{IsOutputTold};
+ghost use Rattle.lytab.specs.Refusal.{IsRefusalOfCheck};
+ghost use Rattle.ly_tables.specs.Refusal.{IsRefusedAs};
 
 use crate::completion::Completion;
 use crate::failure::Failure;
 use crate::files::read_file;
+use ly_base::Version;
 use ly_print::Sink;
 use ly_tables::{SetCounts, TableFault, counts, read_tables};
 use std::alloc::{AllocError, Global};
 use std::fmt::Write;
 use std::rt::Files;
 
-/// Reads a table file, and writes to standard output how many there are of what it is made of.
+/// Reads a table file, and writes to standard output how many there are of what it is made of, and its
+/// version.
 pub fn check_tables<'a, F: Files, W: Sink>(
     files: &F,
     alloc: Global,
@@ -21,26 +25,29 @@ pub fn check_tables<'a, F: Files, W: Sink>(
     output: &mut W,
 ) -> Result<Completion, Failure<'a>>
     ensures checked { IfOk result (IsCheckTold (W.contents output.old) (W.contents output.new)) }
+    ensures refused { IfErr result IsRefusalOfCheck }
     ensures devices { IsOutputTold result output.old output.new (W.failures output.old) (W.failures output.new) }
 {
     let bytes = read_file(files, alloc, path)?;
-    let line = line_of(alloc, &counts_of(alloc, &bytes)?)?;
+    let (counts, version) = counts_of(alloc, &bytes)?;
+    let line = line_of(alloc, &counts, version)?;
     Completion::Done.said(output, line.as_bytes())
 }
 
-/// How many there are of what the table file of these bytes is made of.
-fn counts_of(alloc: Global, bytes: &[u8]) -> Result<SetCounts, TableFault>
-    ensures { IfOk result (HasCounts bytes.now) }
+/// How many there are of what the table file of these bytes is made of, and its version.
+fn counts_of(alloc: Global, bytes: &[u8]) -> Result<(SetCounts, Version), TableFault>
+    ensures counted { IfOk result (λ found. HasCounts bytes.now found.1 found.0) }
+    ensures refused { IfErr result (IsRefusedAs bytes.now) }
 {
-    let (set, _version) = read_tables(alloc, bytes)?;
+    let (set, version) = read_tables(alloc, bytes)?;
     let counted = counts(&set);
     drop(set);
-    Ok(counted)
+    Ok((counted, version))
 }
 
-/// The line that says how many there are.
-fn line_of(alloc: Global, counts: &SetCounts) -> Result<String, AllocError>
-    ensures { IfOk result (λ line. string_bytes line ≡ set_line counts.now) }
+/// The line that says how many there are, and the version of the file.
+fn line_of(alloc: Global, counts: &SetCounts, version: Version) -> Result<String, AllocError>
+    ensures { IfOk result (λ line. string_bytes line ≡ set_line counts.now version) }
 {
     let mut line = String::from_str(alloc, "tables: ")?;
     push_count(&mut line, counts.terminals, " terminals, ")?;
@@ -48,8 +55,19 @@ fn line_of(alloc: Global, counts: &SetCounts) -> Result<String, AllocError>
     push_count(&mut line, counts.scanner_rules, " scanner rules, ")?;
     push_count(&mut line, counts.scanner_states, " scanner states, ")?;
     push_count(&mut line, counts.rules, " rules, ")?;
-    push_count(&mut line, counts.parser_states, " parser states\n")?;
+    push_count(&mut line, counts.parser_states, " parser states, ")?;
+    line.push_str(version_line(version))?;
     Ok(line)
+}
+
+/// The end of that line, which names the version.
+fn version_line(version: Version) -> &'static str
+    ensures { result.now ≡ version_words version }
+{
+    match version {
+        Version::V1 => "version 1\n",
+        Version::V2 => "version 2\n",
+    }
 }
 
 /// Appends a number, and what it counts.

@@ -1,8 +1,9 @@
 //! How a command is completed.
-ghost use Rattle.std.specs.Prelude.{◌≡◌, IfOk, MatchBool};
+ghost use Rattle.std.specs.Prelude.{◌≡◌, IfErr, IfOk, MatchBool};
 ghost use Rattle.std.specs.Io.KnownBytes.{Appends};
 ghost use Rattle.lytab.specs.Completion.{completion_of_outcome, completion_of_tokens, completion_status};
 ghost use Rattle.lytab.specs.Devices.{IsOutputTold};
+ghost use Rattle.lytab.specs.Failure.{IsOfDevice};
 ghost use Rattle.lytab.specs.declared.completion.Completion.TheVariants as completion;
 
 use crate::failure::Failure;
@@ -57,6 +58,7 @@ impl Completion {
     pub fn said<'a, W: Sink>(self, output: &mut W, text: &[u8]) -> Result<Completion, Failure<'a>>
         ensures said { IfOk result (λ c. (c ≡ self)
             × Appends (W.contents output.old) (W.contents output.new) text.now) }
+        ensures failed { IfErr result IsOfDevice }
         ensures devices { IsOutputTold result output.old output.new (W.failures output.old) (W.failures output.new) }
     {
         match write_to(output, STANDARD, text) {

@@ -1,14 +1,16 @@
 //! The command `explain`.
-ghost use Rattle.std.specs.Prelude.{IfOk};
+ghost use Rattle.std.specs.Prelude.{IfErr, IfOk, OnOk, option_map};
 ghost use Rattle.lytab.specs.CarriedOut.{IsExplanationTold};
 ghost use Rattle.lytab.specs.Devices.{IsOutputTold};
+ghost use Rattle.lytab.specs.Failure.{IsOfDevice};
+ghost use Rattle.lytab.specs.Files.{IsWrittenIf};
 
 use crate::completion::Completion;
 use crate::failure::Failure;
 use crate::files::{FileFault, read_file, write_file};
 use ly_base::Limits;
 use ly_explain::{Explanation, Named, Wish, explain};
-use ly_print::Sink;
+use ly_print::{Counted, Sink};
 use ly_words::ExplainPaths;
 use std::alloc::Global;
 use std::fs;
@@ -23,7 +25,10 @@ pub fn explain_files<'a, F: Files, W: Sink>(
     paths: ExplainPaths<'a>,
     output: &mut W,
 ) -> Result<Completion, Failure<'a>>
-    ensures said { IfOk result (IsExplanationTold (W.contents output.old) (W.contents output.new)) }
+    ensures said { IfOk result (IsExplanationTold ⟦<Counted<F::File> as Sink>⟧.contents
+        (option_map (λ s. s.now) paths.states) (option_map (λ s. s.now) paths.graph) (W.contents output.old)
+        (W.contents output.new)) }
+    ensures failed { IfErr result IsOfDevice }
     ensures devices { IsOutputTold result output.old output.new (W.failures output.old) (W.failures output.new) }
 {
     let lex = read_or_say_why(files, alloc, paths.lex)?;
@@ -50,7 +55,12 @@ fn write_files<'a, F: Files>(
     files: &F,
     paths: ExplainPaths<'a>,
     explanation: &Explanation,
-) -> Result<(), FileFault<'a>> {
+) -> Result<(), FileFault<'a>>
+    ensures states { OnOk result
+        (IsWrittenIf ⟦<Counted<F::File> as Sink>⟧.contents (option_map (λ s. s.now) paths.states) explanation.now.states) }
+    ensures picture { OnOk result
+        (IsWrittenIf ⟦<Counted<F::File> as Sink>⟧.contents (option_map (λ s. s.now) paths.graph) explanation.now.picture) }
+{
     if let (Some(path), Some(states)) = (paths.states, &explanation.states) {
         write_file(files, path, states)?;
     }
@@ -65,7 +75,9 @@ fn read_or_say_why<'a, F: Files>(
     files: &F,
     alloc: Global,
     path: &'a str,
-) -> Result<Vec<u8>, Failure<'a>> {
+) -> Result<Vec<u8>, Failure<'a>>
+    ensures { IfErr result IsOfDevice }
+{
     match read_file(files, alloc, path) {
         Ok(bytes) => Ok(bytes),
         Err(FileFault::CannotRead(path)) => Err(match reason(files, path) {

@@ -107,7 +107,7 @@ fn status_of(failure: &Failure<'_>) -> u8
         Failure::CannotRead(_)
         | Failure::Unreadable(..)
         | Failure::CannotWrite(_)
-        | Failure::Refused(GenFault::Write { .. } | GenFault::OutOfMemory)
+        | Failure::Refused(GenFault::OutOfMemory)
         | Failure::Tables(TableFault::OutOfMemory)
         | Failure::OutOfMemory => DEVICE_OR_MEMORY,
         Failure::Refused(_) | Failure::Tables(_) | Failure::FaultyTables => REFUSED,
@@ -133,34 +133,23 @@ fn push_line(out: &mut Vec<u8>, failure: &Failure<'_>) -> io::Result<()> {
 /// Appends why a lex file and a yacc file are refused.
 fn push_refusal(out: &mut Vec<u8>, fault: &GenFault) -> io::Result<()> {
     match fault {
-        GenFault::Lex(fault) => {
-            push_place(out, "lex", fault.line())?;
-            push_fault(out, fault.number(), fault.name())?;
-        }
-        GenFault::Yacc(fault) => {
-            push_place(out, "yacc", fault.line())?;
-            push_fault(out, fault.number(), fault.name())?;
-        }
-        GenFault::Join(fault) => push_join_fault(out, fault)?,
-        GenFault::Positions(fault) => push_fault(out, fault.number(), fault.name())?,
-        GenFault::States(fault) => push_fault(out, fault.number(), fault.name())?,
-        GenFault::Grammar(fault) => push_fault(out, fault.number(), fault.name())?,
-        GenFault::Automaton(fault) => push_fault(out, fault.number(), fault.name())?,
+        GenFault::Lex(fault) => push_place(out, "lex", fault.line())?,
+        GenFault::Yacc(fault) => push_place(out, "yacc", fault.line())?,
+        _ => {}
+    }
+    push_fault(out, fault.number(), fault.name())?;
+    match fault {
+        GenFault::Join(fault) => push_at_fault(out, fault)?,
         GenFault::Endless {
             below,
             top,
             name,
             ..
         } => {
-            write!(
-                out,
-                "fault 70 Endless below {} top {} token ",
-                below.0, top.0
-            )?;
+            write!(out, " below {} top {} token ", below.0, top.0)?;
             out.write_all(name)?;
         }
-        GenFault::Write { .. } => write!(out, "cannot write {STANDARD}")?,
-        GenFault::OutOfMemory => write!(out, "out of memory")?,
+        _ => {}
     }
     out.write_all(b"\n")
 }
@@ -181,9 +170,8 @@ fn push_fault(out: &mut Vec<u8>, number: Option<u8>, name: &str) -> io::Result<(
     }
 }
 
-/// Appends why both files make no specification, and what is at fault.
-fn push_join_fault(out: &mut Vec<u8>, fault: &JoinFault) -> io::Result<()> {
-    push_fault(out, fault.number(), fault.name())?;
+/// Appends what is at fault where both files make no specification.
+fn push_at_fault(out: &mut Vec<u8>, fault: &JoinFault) -> io::Result<()> {
     match fault {
         JoinFault::UndefinedSymbol(name)
         | JoinFault::TokenOnLeft(name)

@@ -2,6 +2,7 @@
 ghost use Rattle.std.specs.Prelude.{◌≡◌, ◌⊎◌, ◌<◌, ℕ, IfErr, length, OnErr, OnOk, take};
 ghost use Rattle.std.specs.Io.KnownBytes.{Appends};
 ghost use Rattle.ly_print.specs.Device.{next_count};
+ghost use Rattle.lytab.specs.Files.{HasTaken};
 
 use ly_print::{Counted, ReadFault, Sink, read_whole, write_whole};
 use std::alloc::Global;
@@ -50,7 +51,8 @@ pub fn read_file<'a, F: Files>(
 
 /// Makes a file of these bytes, in place of an older one.
 pub fn write_file<'a, F: Files>(files: &F, path: &'a str, bytes: &[u8]) -> Result<(), FileFault<'a>>
-    ensures { IfErr result (λ fault. fault ≡ FileFault.CannotWrite path.entry) }
+    ensures written { OnOk result (HasTaken ⟦<Counted<F::File> as Sink>⟧.contents bytes.now) }
+    ensures failed { IfErr result (λ fault. fault ≡ FileFault.CannotWrite path.entry) }
 {
     match fs::create(files, path) {
         Ok(file) => write_to(&mut Counted::new(file), path, bytes),

@@ -1,5 +1,6 @@
-ghost use Rattle.std.specs.Prelude.{◌≡◌, ◌≤◌, IfOk, IsSome, map, string_bytes, true};
-ghost use Rattle.ly_words.specs.CommandLine.{line_takes, request_of};
+ghost use Rattle.std.specs.Prelude.{◌≡◌, ◌≤◌, IsSome, map, string_bytes, true};
+ghost use Rattle.ly_words.specs.CommandLine.{line_takes, request_of, Mean};
+ghost use Rattle.ly_words.specs.Command.{said};
 ghost use Rattle.ly_words.specs.Paths.{AskFor};
 ghost use Rattle.ly_words.specs.Request.{Request};
 ghost use Rattle.lytab.specs.CarriedOut.{HasPerformed, IsCarriedOut};
@@ -12,7 +13,7 @@ use crate::completion::Completion;
 use crate::explaining::explain_files;
 use crate::failure::{Failure, told};
 use crate::files::read_file;
-use ly_print::{Sink, Source};
+use ly_print::{Counted, Sink, Source};
 use ly_words::{Command, CommandFault, read_command};
 use std::alloc::Global;
 use std::io::Write;
@@ -41,9 +42,15 @@ pub fn perform<F: Files, R: Source, W: Sink, E: Write>(
     ensures words { line_takes (map string_bytes words.now) ≡ true → IsSome (request_of (map string_bytes words.now))
         → result ≤ 3 }
     ensures taken { (request : Request) → AskFor (map string_bytes words.now) request → result ≤ 3 }
-    ensures performed { (request : Request) → AskFor (map string_bytes words.now) request
-        → HasPerformed request (R.remaining input.old) (W.contents output.old) (W.contents output.new)
-        (W.failures output.old) (W.failures output.new) result }
+    ensures performed { (request : Request) → Mean (map string_bytes words.now) request
+        → HasPerformed ⟦<Counted<F::File> as Sink>⟧.contents request (record {
+          input_before = input.old;
+          input_after = input.new;
+          given = R.remaining input.old;
+          left = R.remaining input.new;
+          before = W.contents output.old;
+          after = W.contents output.new;
+        }) (W.failures output.old) (W.failures output.new) result }
 {
     match read_command(alloc, words) {
         Ok(command) => match carry_out(files, alloc, command, input, output) {
@@ -71,8 +78,14 @@ fn carry_out<'a, F: Files, R: Source, W: Sink>(
     input: &mut R,
     output: &mut W,
 ) -> Result<Completion, Failure<'a>>
-    ensures completed { IfOk result (IsCarriedOut command.entry (R.remaining input.old) (W.contents output.old)
-        (W.contents output.new)) }
+    ensures carried_out { IsCarriedOut ⟦<Counted<F::File> as Sink>⟧.contents (said command.entry) result (record {
+      input_before = input.old;
+      input_after = input.new;
+      given = R.remaining input.old;
+      left = R.remaining input.new;
+      before = W.contents output.old;
+      after = W.contents output.new;
+    }) }
     ensures devices { IsOutputTold result output.old output.new (W.failures output.old) (W.failures output.new) }
 {
     match command {

@@ -7,8 +7,8 @@ use Rattle.ly_generate.specs.Accepted.{IsUnfitFor}
 use Rattle.ly_generate.proofs.GenFaultLemmas.{when_same}
 use Rattle.ly_explain.proofs.explaining.of_automaton.Goals as goal
 
-pub steady_tables-requires-clause-shapes : goal.steady_tables-requires-clause-shapes
-steady_tables-requires-clause-shapes c = subst AreShapesWithin (sym c.in_ok-resolved.ensures.spec) c.requires.shapes
+pub parser_tables-requires-clause-shapes : goal.parser_tables-requires-clause-shapes
+parser_tables-requires-clause-shapes c = subst AreShapesWithin (sym c.in_ok-resolved.ensures.spec) c.requires.shapes
 
 pub returns-in_err-tables-clause-unfit : goal.returns-in_err-tables-clause-unfit
 returns-in_err-tables-clause-unfit c =

@@ -1,6 +1,6 @@
 use Rattle.std.proofs.Common.{◌↔◌, IsTrue, subst, sym}
 use Rattle.ly_resolve.specs.Actions.{IsConflictFree}
-use Rattle.ly_generate.proofs.parser.parser_by.Goals as goal
+use Rattle.ly_generate.proofs.parser.settled_parser.Goals as goal
 
 pub returns-clause-parser : goal.returns-clause-parser
 returns-clause-parser c = record {

@@ -7,7 +7,7 @@ use Rattle.ly_lr0.proofs.LawLemmas.{no_more}
 use Rattle.ly_generate.specs.Accepted.{IsUnfitFor}
 use Rattle.ly_generate.specs.Parser.{IsParserOf}
 use Rattle.ly_generate.specs.Private.Settled.{IsParserOver}
-use Rattle.ly_generate.proofs.parser.parser_of.Goals as goal
+use Rattle.ly_generate.proofs.parser.specification_parser.Goals as goal
 
 pub parser_over-requires-clause-useful : goal.parser_over-requires-clause-useful
 parser_over-requires-clause-useful c =

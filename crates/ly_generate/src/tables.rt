@@ -11,7 +11,7 @@ ghost use Rattle.ly_generate.specs.Parser.{IsReportIf};
 ghost use Rattle.ly_generate.specs.Private.Making.{FitsWith, IsMadeOf};
 
 use crate::gen_fault::GenFault;
-use crate::parser::parser_of;
+use crate::parser::specification_parser;
 use crate::report::Report;
 use crate::specification::read_specification;
 use ly_base::{Limits, Version};
@@ -26,7 +26,7 @@ use std::alloc::Global;
 
 /// What two files generate.
 #[derive(Drop)]
-pub struct Made {
+pub struct FileTables {
     /// The table set.
     pub set: TableSet,
     /// How many conflicts there are of each kind.
@@ -37,15 +37,15 @@ pub struct Made {
 
 /// What a lex file and a yacc file generate (POSIX, XCU lex and yacc), for a table file of a version.
 ///
-/// A limit above that of the version counts as that. Its faults are those of `GenFault` but `Write`.
-pub fn generated(
+/// A limit above that of the version counts as that. Its faults are those of `GenFault`.
+pub fn file_tables(
     alloc: Global,
     lex: &[u8],
     yacc: &[u8],
     limits: &Limits,
     version: Version,
     report: Report,
-) -> Result<Made, GenFault>
+) -> Result<FileTables, GenFault>
     ensures generated { IfOk result (λ m.
         (g : IsGenerated version (least_of limits.now (sizes_in version)) lex.now yacc.now m.set)
         × AreCounts g.spec m.conflicts × IsReportIf report g.spec m.report) }
@@ -56,7 +56,7 @@ pub fn generated(
     let dfa = minimise(alloc, given.subsets)?;
     // by its contract each state has a row
     let _states = dfa.len();
-    let made = made_of(alloc, &given.file, &given.spec, &dfa, &limits, report);
+    let made = specification_tables(alloc, &given.file, &given.spec, &dfa, &limits, report);
     drop(dfa);
     drop(given.spec);
     drop(given.file);
@@ -64,14 +64,14 @@ pub fn generated(
 }
 
 /// What is made of a specification and of the smallest automaton of its scanner.
-fn made_of(
+fn specification_tables(
     alloc: Global,
     file: &LexFile,
     spec: &Spec,
     dfa: &Dfa,
     limits: &Limits,
     report: Report,
-) -> Result<Made, GenFault>
+) -> Result<FileTables, GenFault>
     requires shapes { AreShapesWithin spec.now }
     requires rules { length file.now.rules.items ≡ length spec.now.scanner }
     requires starts { (conditions : ℕ) × (dfa.now.starts ≡ 2 * conditions) }
@@ -83,9 +83,9 @@ fn made_of(
     ensures reported { IfOk result (λ m. IsReportIf report spec.now m.report) }
     ensures unfit { IfErr result (IsUnfitFor limits.now spec.now) }
 {
-    let parser = parser_of(alloc, spec, limits, report)?;
+    let parser = specification_parser(alloc, spec, limits, report)?;
     let set = table_set(alloc, spec, parser.machine, &file.rules, dfa)?;
-    Ok(Made {
+    Ok(FileTables {
         set,
         conflicts: parser.conflicts,
         report: parser.report,

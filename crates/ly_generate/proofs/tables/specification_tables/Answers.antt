@@ -3,7 +3,7 @@ use Rattle.ly_base.specs.declared.version.Version.TheVariants.{V2}
 use Rattle.ly_emit.specs.FitsFile.{FitsFile}
 use Rattle.ly_emit.specs.SetOf.{IsMachineBy, IsSetOf}
 use Rattle.ly_ere.specs.declared.pattern.Rule.{Rule}
-use Rattle.ly_generate.proofs.made.made_of.Goals as goal
+use Rattle.ly_generate.proofs.tables.specification_tables.Goals as goal
 
 pub table_set-requires-clause-fits : goal.table_set-requires-clause-fits
 table_set-requires-clause-fits c =

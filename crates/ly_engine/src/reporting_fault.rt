@@ -1,0 +1,38 @@
+ghost use Rattle.std.specs.Prelude.{◌≡◌};
+ghost use Rattle.ly_engine.specs.declared.reporting_fault.ReportingFault.TheVariants as fault;
+
+use ly_generate::GenFault;
+use ly_print::WriteFault;
+use thiserror::Error;
+
+/// Why the report of a lex file and a yacc file isn't written.
+#[derive(Debug, Drop, Error)]
+pub enum ReportingFault {
+    /// The files are refused, or memory ran out before their report was known. Nothing was written.
+    #[error("{0}")]
+    Files(GenFault),
+    /// The writer failed in this call, and just the first `written` bytes of the report went out.
+    #[error("the report could not be written after {written} bytes")]
+    Write {
+        /// How many bytes went out.
+        written: usize,
+    },
+}
+
+impl From<GenFault> for ReportingFault {
+    ghost from_gives = { λ f e. e ≡ fault.Files f };
+
+    fn from(fault: GenFault) -> ReportingFault {
+        ReportingFault::Files(fault)
+    }
+}
+
+impl From<WriteFault> for ReportingFault {
+    ghost from_gives = { λ f e. e ≡ fault.Write f.written };
+
+    fn from(fault: WriteFault) -> ReportingFault {
+        ReportingFault::Write {
+            written: fault.written,
+        }
+    }
+}

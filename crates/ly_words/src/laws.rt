@@ -1,0 +1,10 @@
+ghost use Rattle.std.specs.Prelude.{List};
+ghost use Rattle.clap.specs.Words.{Text};
+ghost use Rattle.ly_words.specs.CommandLine.{Mean};
+ghost use Rattle.ly_words.specs.Paths.{AskFor};
+ghost use Rattle.ly_words.specs.Request.{Request};
+
+/// Words that ask for something, an option and its value being words of their own, mean it.
+pub fn words_that_ask_mean()
+    ensures { (words : List Text) (request : Request) → AskFor words request → Mean words request }
+{}
