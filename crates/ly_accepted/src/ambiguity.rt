@@ -2,6 +2,7 @@
 //! go on at once, until they have come to the same tokens. What is found is asked of `ly_examples` before it is said.
 use crate::bodies::{behind_dot, body_of, rest_of};
 use crate::drawing::begin;
+use crate::half::{Half, LONGEST};
 use crate::yields::{Derived, Yields, push_reversed};
 use ly_base::{OutOfMemory, Sym};
 use ly_examples::ambiguous_sentence;
@@ -12,9 +13,6 @@ use std::mem::swap;
 
 /// How many pairs of derivations are looked at, at most.
 const MOST: usize = 2_000;
-
-/// How many symbols a derivation has ahead, and how many rules it has behind it, at most.
-const LONGEST: usize = 300;
 
 /// How many symbols are derived for all sentences together, at most.
 const STEPS: usize = 10_000_000;
@@ -28,15 +26,6 @@ pub(crate) struct Ambiguity {
     pub(crate) one: Vec<usize>,
     /// Those of the second one.
     pub(crate) other: Vec<usize>,
-}
-
-/// A derivation that is under way.
-#[derive(Drop)]
-struct Half {
-    /// The rules so far.
-    rules: Vec<usize>,
-    /// The symbols that are ahead, the next one last.
-    ahead: Vec<Symbol>,
 }
 
 /// Two derivations that have come to the same tokens.
@@ -294,42 +283,5 @@ impl<'a> Finder<'a> {
             one: Vec::from_slice(alloc, one)?,
             other: Vec::from_slice(alloc, other)?,
         }))
-    }
-}
-
-impl Half {
-    /// The symbol that is ahead next.
-    fn next(&self) -> Option<Symbol> {
-        self.ahead.last().copied()
-    }
-
-    /// Whether it isn't gone on with.
-    fn is_long(&self) -> bool {
-        self.ahead.len() > LONGEST || self.rules.len() > LONGEST
-    }
-
-    /// A derivation with nothing ahead.
-    fn new(alloc: Global) -> Half {
-        Half {
-            rules: Vec::new(alloc),
-            ahead: Vec::new(alloc),
-        }
-    }
-
-    /// The derivation with the body of a rule in place of the symbol that is ahead next.
-    fn with_rule(&self, alloc: Global, rule: usize, body: &[Symbol]) -> Result<Half, AllocError> {
-        let mut half = self.copy(alloc)?;
-        half.ahead.pop();
-        half.rules.push(rule)?;
-        push_reversed(&mut half.ahead, body)?;
-        Ok(half)
-    }
-
-    /// The same derivation once more.
-    fn copy(&self, alloc: Global) -> Result<Half, AllocError> {
-        Ok(Half {
-            rules: Vec::from_slice(alloc, &self.rules)?,
-            ahead: Vec::from_slice(alloc, &self.ahead)?,
-        })
     }
 }

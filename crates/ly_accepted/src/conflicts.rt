@@ -1,8 +1,10 @@
 //! The conflicts: what is done, why precedence doesn't settle it, and an example at which both actions are possible.
 use crate::ambiguity::{Ambiguity, Finder};
 use crate::bodies::{behind_dot, body_of};
+use crate::brackets::say_way;
 use crate::decided::precedence_of;
-use crate::drawing::{Drawing, core_of, say_way};
+use crate::drawing::{Drawing, core_of};
+use crate::groups::{are_of_one_group, order_of};
 use crate::surveying::{Accepted, first_of, say_numbered};
 use crate::trees::say_ambiguity;
 use crate::yields::Yields;
@@ -62,22 +64,6 @@ pub(crate) fn say_conflicts(
         spec: files.spec,
     };
     teller.say_all(alloc, page, &mut Finder::new(lr0, &yields))
-}
-
-/// By what conflicts are put in order: the state, the kind and the rule.
-fn order_of(conflicts: &[Conflict], place: usize) -> (u32, bool, usize) {
-    match conflicts.get(place) {
-        Some(it) => (it.state.0, it.kind == ConflictKind::ReduceReduce, it.rule),
-        None => (0, false, 0),
-    }
-}
-
-/// Whether two conflicts differ in the terminal alone.
-fn are_alike(one: &Conflict, other: &Conflict) -> bool {
-    one.state == other.state
-        && one.kind == other.kind
-        && one.rule == other.rule
-        && one.choice == other.choice
 }
 
 impl Teller<'_> {
@@ -359,13 +345,5 @@ fn say_unranked(page: &mut Page, spec: &Spec, conflict: &Conflict, alike: usize)
             conflict.rule as u64,
             b" has no precedence.\n",
         );
-    }
-}
-
-/// Whether the conflicts at two places belong to one group.
-fn are_of_one_group(conflicts: &[Conflict], one: usize, other: usize) -> bool {
-    match (conflicts.get(one), conflicts.get(other)) {
-        (Some(one), Some(other)) => are_alike(one, other),
-        _ => false,
     }
 }

@@ -12,10 +12,13 @@
 
 mod ambiguity;
 mod bodies;
+mod brackets;
 mod conflicts;
 mod decided;
 mod doubts;
 mod drawing;
+mod groups;
+mod half;
 mod patterns;
 mod picture;
 mod places;
