@@ -24,7 +24,7 @@ pub(crate) struct Ambiguity {
     pub(crate) sentence: Vec<Sym>,
     /// The rules of the first tree, each in front of those below it.
     pub(crate) one: Vec<usize>,
-    /// Those of the second one.
+    /// The rules of the second tree, each in front of those below it.
     pub(crate) other: Vec<usize>,
 }
 

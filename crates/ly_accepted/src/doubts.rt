@@ -26,11 +26,11 @@ struct Teller<'a> {
 /// What is said of terminals.
 #[derive(Clone, Copy)]
 struct Said<'a> {
-    /// Of one.
+    /// What is said of one terminal, before its name.
     one: &'a [u8],
-    /// What stands behind that.
+    /// What is said of it behind its name.
     of: &'a [u8],
-    /// Of more than are told.
+    /// What is said of terminals that aren't named, since they are too many.
     more: &'a [u8],
 }
 

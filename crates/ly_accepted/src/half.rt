@@ -48,7 +48,7 @@ impl Half {
         Ok(half)
     }
 
-    /// The same derivation once more.
+    /// A copy of the derivation.
     pub(crate) fn copy(&self, alloc: Global) -> Result<Half, AllocError> {
         Ok(Half {
             rules: Vec::from_slice(alloc, &self.rules)?,

@@ -32,7 +32,8 @@ pub struct Explanation {
     pub text: Vec<u8>,
     /// The states of the parser, where they are asked for and the files are accepted.
     pub states: Option<Vec<u8>>,
-    /// Their picture, in the language of Graphviz's `dot`, likewise.
+    /// A picture of the parser's states, in the language of Graphviz's `dot`, where it is asked for and the files are
+    /// accepted.
     pub picture: Option<Vec<u8>>,
     /// Whether the files are accepted.
     pub accepted: bool,

@@ -27,7 +27,7 @@ pub(crate) struct Nonkernel {
 }
 
 impl Nonkernel {
-    /// Those of no nonterminal.
+    /// The items of no nonterminal.
     pub(crate) fn new(alloc: Global) -> Self
         ensures { (G : Grammar) → AreNonkernel G [] result }
     {
@@ -40,7 +40,8 @@ impl Nonkernel {
         }
     }
 
-    /// Those of the nonterminals that were entered. Nothing is listed anew where they are the same as before.
+    /// Makes it the items of the nonterminals that were entered. Where they are the same as before nothing is listed
+    /// anew.
     pub(crate) fn enter(
         &mut self,
         reduced: &Reduced<'_>,

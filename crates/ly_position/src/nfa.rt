@@ -34,9 +34,9 @@ pub enum Target {
 /// A run goes on at either side.
 #[derive(Clone, Copy)]
 pub struct Fork {
-    /// The one side.
+    /// Where the first side leads.
     pub first: Target,
-    /// The other side.
+    /// Where the second side leads.
     pub second: Target,
 }
 

@@ -73,7 +73,7 @@ impl Roots {
         Ok(twins)
     }
 
-    /// Another list, if it is an earlier one and kept with this one, and else this one.
+    /// Of two lists the one that is kept for the first: the second, if it is an earlier one and the same.
     fn twin(&self, number: usize, other: usize) -> usize
         requires { number < length self.now }
         ensures less { result ≤ number }

@@ -45,7 +45,7 @@ pub(crate) fn put_quoted(room: &mut [u8], at: usize, label: &Front<'_>, text: &F
 
 /// Writes a label and a text behind it from a place on, where both are short and all bytes of the text stand for
 /// themselves, and answers where they end. So each is one block. Otherwise what stands before the place is kept.
-#[inline(always)] // as `put_quoted`
+#[inline(always)] // so that the loop that prints has the registers
 pub(crate) fn put_short(
     room: &mut [u8],
     at: usize,

@@ -92,7 +92,7 @@ impl TextWriter {
     /// Appends a label.
     ///
     /// It fails where the writer does.
-    #[inline(always)] // as `push`
+    #[inline(always)] // so that the loop that prints has the registers
     pub fn push_label<W: Sink>(&mut self, writer: &mut W, label: &Label) -> Result<(), WriteFault>
         requires countable { bytes_of self.old + length label.now < 2 ^ 64 }
         ensures text { IsAppended self.old self.new (W.contents writer.old) (W.contents writer.new) label.now result }
@@ -113,7 +113,7 @@ impl TextWriter {
     /// leaf, if the label is what stands before its text.
     ///
     /// It fails where the writer does.
-    #[inline(always)] // as `push`
+    #[inline(always)] // so that the loop that prints has the registers
     pub fn push_quoted<W: Sink>(
         &mut self,
         writer: &mut W,

@@ -61,7 +61,7 @@ impl PartedRules {
         &self.solid[symbol.0 as usize]
     }
 
-    /// The others.
+    /// The rules of a nonterminal that don't begin with a terminal.
     pub(crate) fn others(&self, symbol: Sym) -> &[usize]
         requires { symbol.0 < length self.now.others }
         ensures { result.now ≡ slice_index_or self.now.others symbol.0 [] }

@@ -68,7 +68,7 @@ pub(crate) fn union_rows(words: &mut [u64], to: usize, from: usize, len: usize) 
     union_words(words, to, from, len)
 }
 
-/// The same, said of each word.
+/// Joins a row of words to another, word by word, and answers whether the other grew.
 fn union_words(words: &mut [u64], to: usize, from: usize, len: usize) -> bool
     requires to_inside { to + len ≤ length words.old }
     requires from_inside { from + len ≤ length words.old }
@@ -86,7 +86,7 @@ fn union_words(words: &mut [u64], to: usize, from: usize, len: usize) -> bool
     grew
 }
 
-/// The same for one block.
+/// Joins one block of words to another, and answers whether the other grew.
 fn union_block(words: &mut [u64], to: usize, from: usize) -> bool
     requires to_inside { to + 4 ≤ length words.old }
     requires from_inside { from + 4 ≤ length words.old }
@@ -95,7 +95,7 @@ fn union_block(words: &mut [u64], to: usize, from: usize) -> bool
     union_lanes(words, to, from)
 }
 
-/// The same, said of the vectors.
+/// Joins one block of words to another as two vectors, and answers whether the other grew.
 fn union_lanes(words: &mut [u64], to: usize, from: usize) -> bool
     requires to_inside { to + 4 ≤ length words.old }
     requires from_inside { from + 4 ≤ length words.old }

@@ -10,9 +10,9 @@ use std::alloc::{AllocError, Global};
 /// The positions of a set, in rising order. Those of a span aren't written out, since it may be as long as a pattern.
 #[derive(Drop)]
 pub(crate) enum Members {
-    /// Those of a span.
+    /// All positions of a span.
     Span(Span),
-    /// These.
+    /// The positions of a list.
     List(Vec<u32>),
 }
 

@@ -176,7 +176,7 @@ impl Forest {
     }
 
     /// Adds a long node, and answers it.
-    #[inline(never)] // so that another one has the registers
+    #[inline(never)] // so that a short node has the registers
     fn long_node<R: Refers>(
         &mut self,
         rule: RuleNo,
@@ -256,7 +256,7 @@ impl Forest {
     }
 
     /// A long node: its rule and its children.
-    #[inline(never)] // as `long_node`
+    #[inline(never)] // so that a short node has the registers
     pub(crate) fn long_node_at(&self, high: u16, low: u32) -> (RuleNo, &[TermRef])
         requires { IsSome (term_of self.now (TermRef.LongNode high low)) }
         ensures term { StandsFor self.now (TermRef.LongNode high low)

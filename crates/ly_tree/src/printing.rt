@@ -20,7 +20,7 @@ pub(crate) struct Printing<'f> {
     pub(crate) out: TextWriter,
     /// Of the node that was begun last and isn't ended, the children behind the one that is printed.
     pub(crate) others: &'f [TermRef],
-    /// The same of each node around it, the outermost first; before them all, none.
+    /// Of each node around that one, the outermost first, the children that aren't begun; before them all, no children.
     pub(crate) waiting: Vec<&'f [TermRef]>,
 }
 
@@ -76,7 +76,7 @@ impl<'f> Printing<'f> {
     }
 
     /// Prints what stands before the next term, and answers it, if there is one.
-    #[inline(always)] // as `print`
+    #[inline(always)] // so that the loop over terms has the registers
     fn go_on<S: Sink>(&mut self, writer: &mut S) -> Result<Option<TermRef>, WriteFault>
         requires alone { IsAlone self.old.waiting.items self.old.others }
         requires countable { bytes_of self.old.out + length self.old.waiting.items < 2 ^ 64 }
@@ -108,7 +108,7 @@ impl<'f> Printing<'f> {
 }
 
 /// Prints what stands before the children of a term: of one that is no node, all of it. Answers the children of a node.
-#[inline(always)] // as `print`
+#[inline(always)] // so that the loop over terms has the registers
 fn begin<'f, W: Words, S: Sink>(
     out: &mut TextWriter,
     writer: &mut S,
@@ -168,7 +168,7 @@ fn begin<'f, W: Words, S: Sink>(
 }
 
 /// Prints a leaf.
-#[inline(always)] // as `print`
+#[inline(always)] // so that the loop over terms has the registers
 fn print_leaf<W: Words, S: Sink>(
     out: &mut TextWriter,
     writer: &mut S,

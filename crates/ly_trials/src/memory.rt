@@ -98,7 +98,7 @@ fn trials(alloc: Global, blocks: &mut Vec<Vec<u8>>) -> Result<(u32, u32), Fail> 
     Ok((refused, answered))
 }
 
-/// The same, with no room at first.
+/// How many trials are refused and answered where no memory is left at first.
 fn trials_of_all_room(alloc: Global) -> Result<(u32, u32), Fail> {
     let mut blocks = small_blocks(alloc)?;
     let _held = hog(alloc);

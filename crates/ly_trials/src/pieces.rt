@@ -61,7 +61,7 @@ fn holds_what_is_not_decided(feed: &mut Feed<'_>) -> Result<bool, Fail> {
     Ok(held && refuses(&outcome, 3, 4) && lines.as_slice() == REFUSED_END)
 }
 
-/// The same of a new feed.
+/// Whether a new feed holds what isn't decided, and refuses the end.
 fn is_held(alloc: Global, set: &TableSet) -> Result<bool, Fail> {
     let mut feed = new_feed(alloc, set)?;
     let held = holds_what_is_not_decided(&mut feed);
@@ -101,7 +101,7 @@ fn is_over_once_told(feed: &mut Feed<'_>) -> bool {
     tells_of_the_refusal(feed) && is_over(feed)
 }
 
-/// The same of a new feed.
+/// Whether a new feed tells of the refusal, and is over then.
 fn is_over_behind_the_refusal(alloc: Global, set: &TableSet) -> Result<bool, OutOfMemory> {
     let mut feed = new_feed(alloc, set)?;
     let over = is_over_once_told(&mut feed);
@@ -201,7 +201,7 @@ fn refusal(taken: Option<u32>) -> usize
     }
 }
 
-/// The same, with no room at first.
+/// How a feed takes pieces where no memory is left at first, and a block is given back at each try.
 fn taken_of_all_room(
     alloc: Global,
     set: &TableSet,
@@ -212,13 +212,13 @@ fn taken_of_all_room(
     first_taken(alloc, set, blanks, &mut blocks)
 }
 
-/// The same of pieces of `SIZE` bytes.
+/// How a feed takes pieces of `SIZE` blanks where no memory is left at first.
 fn pieces_taken(alloc: Global, set: &TableSet) -> Result<(u32, [bool; 3]), Fail> {
     let blanks = vec![in alloc; b' '; SIZE]?;
     taken_of_all_room(alloc, set, &blanks)
 }
 
-/// The same by a set that passes over blanks.
+/// How a feed takes pieces of blanks by a set that passes over them, where no memory is left at first.
 fn blanks_taken(alloc: Global) -> Result<(u32, [bool; 3]), Fail> {
     let set = table_set(alloc, X, b"%%s : 'x' ;")?;
     let taken = pieces_taken(alloc, &set);

@@ -42,7 +42,7 @@ fn have_entries<R: Rows<u8>>(rows: &R) -> bool {
     same
 }
 
-/// The same rows, laid over one another.
+/// The rows of `dense`, laid over one another.
 fn laid_rows(alloc: Global, dense: &Dense<u8>) -> Result<Comb<u8>, OutOfMemory> {
     comb(alloc, dense)
 }
@@ -90,7 +90,7 @@ pub(crate) fn by_hand(
     }))
 }
 
-/// The same tables over rows that are laid over one another.
+/// The tables that are made by hand, over rows that are laid over one another.
 pub(crate) fn laid_by_hand(
     alloc: Global,
 ) -> Result<Machine<Packed<TableAction>, Packed<StateNo>>, OutOfMemory> {

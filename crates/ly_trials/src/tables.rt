@@ -35,7 +35,7 @@ fn is_too_large(alloc: Global, set: &TableSet) -> bool {
     )
 }
 
-/// The same of the set of a yacc file that declares so many tokens.
+/// Whether the set of a yacc file that declares so many tokens is too large for version 1.
 fn are_too_many(alloc: Global, count: u32) -> Result<bool, Fail> {
     let set = set_of_tokens(alloc, count)?;
     let large = is_too_large(alloc, &set);

@@ -23,7 +23,7 @@ pub enum Completion {
 }
 
 impl Completion {
-    /// That of a command that prints tokens, which end so.
+    /// How a command is completed that prints tokens, which end so.
     pub fn of_tokens(end: TokenEnd) -> Completion
         ensures { result ≡ completion_of_tokens end }
     {
@@ -33,7 +33,7 @@ impl Completion {
         }
     }
 
-    /// That of a command that answers a text so.
+    /// How a command is completed that answers a text so.
     pub fn of_outcome(outcome: &Outcome) -> Completion
         ensures { result ≡ completion_of_outcome outcome.now }
     {
@@ -43,7 +43,7 @@ impl Completion {
         }
     }
 
-    /// That of a command that explains files, which are accepted or refused.
+    /// How a command is completed that explains files, which are accepted or refused.
     pub fn of_files(are_accepted: bool) -> Completion
         ensures { MatchBool are_accepted (result ≡ completion.Done) (result ≡ completion.FilesRefused) }
     {

@@ -15,9 +15,9 @@ pub const STANDARD: &str = "-";
 /// Why a file, or a device of that name, isn't read or written.
 #[derive(Clone, Copy)]
 pub enum FileFault<'a> {
-    /// That of this path can't be read.
+    /// The file of this path can't be read.
     CannotRead(&'a str),
-    /// That of this path can't be written.
+    /// The file of this path can't be written.
     CannotWrite(&'a str),
     /// A growth was refused.
     OutOfMemory,
