@@ -1,19 +1,20 @@
-use Rattle.std.proofs.Common.{refl, subst, sym}
+use Rattle.std.proofs.Common.{IfErr, IfOk, refl, subst, sym}
 use Rattle.std.proofs.lemmas.Result.{IfErr-weaker, IfOk-weaker}
 use Rattle.ly_base.specs.Limits.{Sizes}
 use Rattle.ly_grammar.specs.Reduction.{KeepsUseful}
+use Rattle.ly_emit.specs.Tables.{AreShapesWithin}
 use Rattle.ly_join.specs.Grammar.{Grammar}
+use Rattle.ly_join.specs.Joined.{Spec}
+use Rattle.ly_lr0.specs.Automaton.{Lr0Automaton}
 use Rattle.ly_lr0.proofs.LawLemmas.{no_more}
 use Rattle.ly_generate.specs.Accepted.{IsUnfitFor}
 use Rattle.ly_generate.specs.Parser.{IsParserOf}
 use Rattle.ly_generate.specs.Private.Settled.{IsParserOver}
 use Rattle.ly_generate.proofs.parser.specification_parser.Goals as goal
 
-pub parser_over-requires-clause-useful : goal.parser_over-requires-clause-useful
-parser_over-requires-clause-useful c =
-    subst (λ (G : Grammar). KeepsUseful G c.in_ok-lr0.lr0.grammar) c.grammar.ensures.grammar
-    (subst (λ (R : Grammar). KeepsUseful c.grammar.result.now R) (sym c.in_ok-lr0.ensures.grammar)
-    c.in_ok-reduced.ensures.ok.keeps)
+pub settled_parser-requires-clause-shapes : goal.settled_parser-requires-clause-shapes
+settled_parser-requires-clause-shapes c =
+    subst AreShapesWithin (sym c.in_ok-resolved.ensures.spec) c.requires
 
 pub returns-clause-parser : goal.returns-clause-parser
 returns-clause-parser c =
@@ -22,7 +23,9 @@ returns-clause-parser c =
     let limits = c.args.limits.now in
     let lawful = c.in_ok-lr0.ensures.automaton in
     let few = c.in_ok-lr0.ensures.few in
-    IfOk-weaker c.parser_over.result (IsParserOver s M c.args.report) (IsParserOf limits s c.args.report)
+    let resolved = c.in_ok-resolved.ensures in
+    let report = c.args.report in
+    IfOk-weaker c.settled_parser.result (IsParserOver s M report) (IsParserOf limits s report)
     (λ p is. record {
       automaton = M;
       is_automaton = lawful;
@@ -48,9 +51,13 @@ returns-clause-parser c =
       free = is.free;
       reported = is.reported;
     })
-    c.parser_over.ensures.parser
+    (subst (λ (A : Lr0Automaton). IfOk c.settled_parser.result (IsParserOver s A report)) resolved.automaton
+    (subst (λ (t : Spec). IfOk c.settled_parser.result (IsParserOver t c.in_ok-resolved.resolved.automaton report))
+    resolved.spec c.settled_parser.ensures.parser))
 
 pub returns-clause-unfit : goal.returns-clause-unfit
-returns-clause-unfit c = IfErr-weaker c.parser_over.result
+returns-clause-unfit c = IfErr-weaker c.settled_parser.result
     (λ fault. (limits : Sizes) → IsUnfitFor limits c.args.spec.now fault) (IsUnfitFor c.args.limits.now c.args.spec.now)
-    (λ fault unfit. unfit c.args.limits.now) c.parser_over.ensures.unfit
+    (λ fault unfit. unfit c.args.limits.now)
+    (subst (λ (s : Spec). IfErr c.settled_parser.result (λ fault. (limits : Sizes) → IsUnfitFor limits s fault))
+    c.in_ok-resolved.ensures.spec c.settled_parser.ensures.unfit)
