@@ -1,8 +1,8 @@
 //! What all of lytab shares: from bytes to sets, escapes and literals, and from a text to its places.
 //!
-//! `Place` says where a run over a text stands, and `locate` on which line and in which column an offset of a file is;
-//! `Limits` holds the sizes that are accepted, by the version of the table file (`Version`). Escapes, literals, gaps and
-//! names are those of both input languages.
+//! `Place` says where a run over a text stands, and `locate` on which line and in which column an offset of a file is.
+//! `Limits` holds the sizes that are accepted, by the version of the table file (`Version`). Escapes, literals, gaps
+//! and names are those of both input languages.
 //!
 //! Left out: what is printed and written, which `ly_print` has.
 #![tactic(auto)]

@@ -61,8 +61,8 @@ AnswersSentences = (version : Version) (limits : Sizes) (lex yacc : List ℕ) (s
     → (v : Verdict) × IsVerdict set text v × ((u : Verdict) → IsVerdict set text u → v ≡ u)
     × IsSaidBySentences g.specifies.file g.spec g.generated.automaton.grammar text v
 
--- Whatever conflicts there are, the term that such a set answers to a text is built of a derivation of the text's tokens,
--- all of them, by the useful rules.
+-- Whatever conflicts there are, the term that such a set answers to a text is built of a derivation of all the text's
+-- tokens by the useful rules.
 abbrev pub TreesAreOfTexts : Type 0
 TreesAreOfTexts = (version : Version) (limits : Sizes) (lex yacc : List ℕ) (set : TableSet)
     (g : IsGenerated version limits lex yacc set) (text : List ℕ) (term : Term) → IsVerdict set text (accepted term)

@@ -1,7 +1,7 @@
 //! From a lex file and a yacc file to their table set: `file_tables`. That tables so made answer what both files say is
 //! part of what it promises (`IsGenerated`), by a law (`tables_answer_as_specified`); without conflicts that is what
-//! the derivations of the text's tokens say (`sentences_are_answered`), and with conflicts too a tree is one of the text's
-//! tokens (`trees_are_of_texts`).
+//! the derivations of the text's tokens say (`sentences_are_answered`), and with conflicts too a tree is one of all the
+//! text's tokens (`trees_are_of_texts`).
 //!
 //! The steps of the way are public too. `read_specification` says what both files say together; `specification_parser`
 //! makes the parser of a specification, counts the conflicts and reports them where that is wanted, and `file_parser`

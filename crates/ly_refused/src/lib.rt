@@ -1,5 +1,5 @@
-//! From two files that are refused to the faults of them that can be told apart, as they are said: `say_faults`. What is
-//! said of accepted files is in `ly_accepted`.
+//! From two files that are refused to the faults of them that can be told apart, as they are said: `say_faults`. What
+//! is said of accepted files is in `ly_accepted`.
 //!
 //! A file is read; where it is refused, what the fault stands in is mended in a copy, and the copy is read, until it
 //! says something or so many faults are found. Then both files are joined, and what is at fault there is mended in

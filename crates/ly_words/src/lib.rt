@@ -1,7 +1,7 @@
 //! From the words of the command line to what they ask for: a `Command`.
 //!
-//! `line` has the line as `clap` knows it; `read_command` finds the command that the words mean (`Mean`). Words in their
-//! plain form (`AskFor`), an option and its value being two words, mean what they say (`words_that_ask_mean`).
+//! `line` has the line as `clap` knows it; `read_command` finds the command that the words mean (`Mean`). Words in
+//! their plain form (`AskFor`), an option and its value being two words, mean what they say (`words_that_ask_mean`).
 //!
 //! Left out: what a command does, which is the program's.
 #![tactic(auto)]

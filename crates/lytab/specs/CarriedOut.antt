@@ -1,7 +1,7 @@
--- What a command has written to standard output, or why it failed, and what it read of standard input, for what the files
--- of its words hold: nothing is known of that, so it is said of some bytes.
-use Rattle.std.specs.Prelude.{◌≡◌, ◌⊎◌, ◌++◌, ℕ, IfErr, IfOk, IsSome, List, MatchBool, MatchResult, None, OnOk, Option, Some}
-use Rattle.std.specs.Prelude.{Result, codes, length}
+-- What a command has written, or why it failed, and what it read of standard input. Of what the files of its words hold
+-- nothing is known, so it is said for some bytes.
+use Rattle.std.specs.Prelude.{◌≡◌, ◌⊎◌, ◌++◌, ℕ, IfErr, IfOk, IsSome, List, MatchBool, MatchResult}
+use Rattle.std.specs.Prelude.{None, OnOk, Option, Result, Some, codes, length}
 use Rattle.std.specs.Fmt.{decimal}
 use Rattle.std.specs.Io.KnownBytes.{Appends, IsAtEnd}
 use Rattle.std.specs.declared.alloc.Global.{Global}
@@ -144,12 +144,14 @@ IsCarriedOut contents (try lex yacc text) result e = (lex_bytes yacc_bytes : Lis
     × IfErr result (IsRefusalOfFiles lex_bytes yacc_bytes (text_from text e.given))
     × IsInputTold text result e (IsReadForFiles lex_bytes yacc_bytes result e)
 IsCarriedOut contents (build lex yacc table_file report version) result e =
-    IfOk result (IsBuildTold contents version_2 version report e.before e.after) × IfErr result (IsRefusalOfBuild version)
+    IfOk result (IsBuildTold contents version_2 version report e.before e.after)
+    × IfErr result (IsRefusalOfBuild version)
     × (e.input_after ≡ e.input_before)
 IsCarriedOut contents (check table_file) result e =
     IfOk result (IsCheckTold e.before e.after) × IfErr result IsRefusalOfCheck × (e.input_after ≡ e.input_before)
 IsCarriedOut contents (explain lex yacc states graph) result e =
-    IfOk result (IsExplanationTold contents states graph e.before e.after) × IfErr result IsOfDevice × (e.input_after ≡ e.input_before)
+    IfOk result (IsExplanationTold contents states graph e.before e.after) × IfErr result IsOfDevice
+    × (e.input_after ≡ e.input_before)
 
 -- the exit status of a command that ended so; where it failed also 3, if there is no memory for the line that says why
 abbrev pub IsStatusOf : ℕ → Result Completion Failure → Type 0
@@ -160,7 +162,8 @@ IsStatusOf status result = MatchResult result (λ c. status ≡ completion_statu
 -- failures is as it was. Where it failed standard output and its count of failures are as they were, or a write to it
 -- failed: the count went on by one, and the status is 3. So standard output is as it was with status 1 or 2 of a
 -- failure, and with any where its count of failures is.
-pub record HasPerformed {R D : Type 0} (contents : D → Option (List ℕ)) (request : Request) (e : Ends R) (failures new_failures status : ℕ) : Type 0 where
+pub record HasPerformed {R D : Type 0} (contents : D → Option (List ℕ)) (request : Request) (e : Ends R)
+    (failures new_failures status : ℕ) : Type 0 where
   pub result : Result Completion Failure
   pub carried_out : IsCarriedOut contents request result e
   pub is_status : IsStatusOf status result

@@ -57,9 +57,11 @@ fn write_files<'a, F: Files>(
     explanation: &Explanation,
 ) -> Result<(), FileFault<'a>>
     ensures states { OnOk result
-        (IsWrittenIf ⟦<Counted<F::File> as Sink>⟧.contents (option_map (λ s. s.now) paths.states) explanation.now.states) }
+        (IsWrittenIf ⟦<Counted<F::File> as Sink>⟧.contents (option_map (λ s. s.now) paths.states)
+        explanation.now.states) }
     ensures picture { OnOk result
-        (IsWrittenIf ⟦<Counted<F::File> as Sink>⟧.contents (option_map (λ s. s.now) paths.graph) explanation.now.picture) }
+        (IsWrittenIf ⟦<Counted<F::File> as Sink>⟧.contents (option_map (λ s. s.now) paths.graph)
+        explanation.now.picture) }
 {
     if let (Some(path), Some(states)) = (paths.states, &explanation.states) {
         write_file(files, path, states)?;

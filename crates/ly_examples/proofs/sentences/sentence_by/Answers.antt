@@ -6,7 +6,8 @@ use Rattle.ly_join.specs.Grammar.{nonterminal}
 use Rattle.ly_join.specs.declared.symbol.Symbol.TheVariants.{Nonterminal}
 use Rattle.ly_examples.specs.Sentences.{numbers_of}
 use Rattle.ly_examples.specs.Private.Leftmost.{ahead_of, IsUnderWay}
-use Rattle.ly_examples.proofs.SentenceLemmas.{at_start, next_rule, no_rule_kept, one_sentence, rule_kept, rule_left_same}
+use Rattle.ly_examples.proofs.SentenceLemmas.{at_start, next_rule, no_rule_kept, one_sentence, rule_kept}
+use Rattle.ly_examples.proofs.SentenceLemmas.{rule_left_same}
 use Rattle.ly_examples.proofs.SentenceLemmas.{way_end, way_next, way_on, way_other, way_out}
 use Rattle.ly_examples.proofs.SentenceLemmas.{way_over, way_short, way_taken}
 use Rattle.ly_examples.proofs.sentences.sentence_by.Goals as goal

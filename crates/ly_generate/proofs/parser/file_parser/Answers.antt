@@ -29,6 +29,7 @@ returns-clause-refused c =
     let spec = c.in_ok-given.given.spec in
     subst (λ (l : Sizes). IfErr c.specification_parser.result (IsRefusedFor l c.args.lex.now c.args.yacc.now))
     c.within-limits.ensures.least
-    (err_weaker c.specification_parser.result (IsUnfitFor limits spec) (IsRefusedFor limits c.args.lex.now c.args.yacc.now)
+    (err_weaker c.specification_parser.result (IsUnfitFor limits spec)
+    (IsRefusedFor limits c.args.lex.now c.args.yacc.now)
     (unfit_refused limits c.args.lex.now c.args.yacc.now spec c.in_ok-given.ensures.says.specifies)
     c.specification_parser.ensures.unfit)

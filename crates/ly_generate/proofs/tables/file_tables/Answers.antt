@@ -66,8 +66,10 @@ returns-clause-generated c =
     dfa.ensures.order dfa.ensures.class_of dfa.ensures.classes dfa.ensures.starts
     (made c.args.version fits) (λ s. AreCounts s m.conflicts) (λ s. IsReportIf c.args.report s m.report) told.0 told.1)
     c.specification_tables-made.ensures.made
-    (ok_both c.specification_tables-made.result (λ m. AreCounts spec m.conflicts) (λ m. IsReportIf c.args.report spec m.report) _
-    (λ m counted reported. (counted, reported)) c.specification_tables-made.ensures.counted c.specification_tables-made.ensures.reported))
+    (ok_both c.specification_tables-made.result (λ m. AreCounts spec m.conflicts)
+    (λ m. IsReportIf c.args.report spec m.report) _
+    (λ m counted reported. (counted, reported)) c.specification_tables-made.ensures.counted
+    c.specification_tables-made.ensures.reported))
 
 pub returns-clause-refused : goal.returns-clause-refused
 returns-clause-refused c =
@@ -75,6 +77,7 @@ returns-clause-refused c =
     let spec = c.in_ok-given.given.spec in
     subst (λ (l : Sizes). IfErr c.specification_tables-made.result (IsRefusedFor l c.args.lex.now c.args.yacc.now))
     c.within-limits.ensures.least
-    (err_weaker c.specification_tables-made.result (IsUnfitFor limits spec) (IsRefusedFor limits c.args.lex.now c.args.yacc.now)
+    (err_weaker c.specification_tables-made.result (IsUnfitFor limits spec)
+    (IsRefusedFor limits c.args.lex.now c.args.yacc.now)
     (unfit_refused limits c.args.lex.now c.args.yacc.now spec c.in_ok-given.ensures.says.specifies)
     c.specification_tables-made.ensures.unfit)
