@@ -6,7 +6,7 @@ use crate::patterns::{Surprise, surprises};
 use crate::places::Places;
 use crate::scanner::say_other_bytes;
 use crate::surveying::{Accepted, first_of, say_numbered};
-use ly_base::{OutOfMemory, Sym};
+use ly_base::{OutOfMemory, Sym, locate};
 use ly_examples::{unmatched_rules, unreduced_rules, unreturned_terminals, unused_terminals};
 use ly_page::{Named, Page};
 use std::alloc::Global;
@@ -46,7 +46,6 @@ pub(crate) fn say_doubts(
     alloc: Global,
     page: &mut Page,
     files: &Accepted<'_>,
-    conditions: &[&[u8]],
     places: &Places,
 ) -> Result<(), OutOfMemory>
     requires { IsBreadthFirst files.now.dfa.now }
@@ -61,7 +60,7 @@ pub(crate) fn say_doubts(
     if page.len() == before {
         page.say(b"No doubts.\n");
     }
-    say_other_bytes(alloc, page, files, conditions)
+    say_other_bytes(alloc, page, files)
 }
 
 impl Teller<'_> {
@@ -87,8 +86,7 @@ impl Teller<'_> {
 
     /// Says the place of a rule of the lex file.
     fn say_lex_rule(&self, page: &mut Page, rule: usize) {
-        let line = self.files.file.lines.get(rule).copied().unwrap_or(1);
-        page.say_line_of(self.files.lex, line);
+        page.say_line_of(self.files.lex, self.files.line_of_lex_rule(rule));
     }
 
     /// Says the place of a rule of the yacc file, and its number.
@@ -107,9 +105,11 @@ impl Teller<'_> {
 
     /// Says what in the patterns of the lex file means something else than it may seem to.
     fn say_surprises(&self, alloc: Global, page: &mut Page) -> Result<(), OutOfMemory> {
-        for line in &self.files.file.lines {
-            if let Some(bytes) = self.files.lex.line(*line) {
-                say_surprise(page, self.files.lex, *line, surprises(alloc, bytes)?);
+        let lex = self.files.lex;
+        for start in &self.files.file.rule_starts {
+            let found = surprises(alloc, line_from(lex.bytes, *start))?;
+            if found.letter.is_some() || found.interval {
+                say_surprise(page, lex, locate(lex.bytes, *start).line, found);
             }
         }
         Ok(())
@@ -248,6 +248,12 @@ impl Teller<'_> {
             page.say(so);
         }
     }
+}
+
+/// The line of a text that begins at an offset, without its newline.
+fn line_from(text: &[u8], start: usize) -> &[u8] {
+    let rest = text.get(start..).unwrap_or(b"");
+    rest.split(|byte| *byte == b'\n').next().unwrap_or(rest)
 }
 
 /// Says what is surprising in the pattern on a line of the lex file.

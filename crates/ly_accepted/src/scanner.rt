@@ -72,13 +72,12 @@ pub(crate) fn say_other_bytes(
     alloc: Global,
     page: &mut Page,
     files: &Accepted<'_>,
-    names: &[&[u8]],
 ) -> Result<(), OutOfMemory> {
     for condition in 0..files.file.conditions {
         let others = other_bytes(alloc, files.dfa, condition)?;
         if others.contains(&true) {
             page.say(b"In ");
-            say_name(page, names, condition);
+            say_name(page, files, condition);
             page.say(b" no match begins with");
             say_bytes(page, &others);
             page.say(b"\n");
@@ -106,10 +105,10 @@ fn begins(dfa: &Dfa, condition: u32, line: bool, byte: u8) -> bool {
     }
 }
 
-/// Says the name of a condition, or its number where that isn't known.
-fn say_name(page: &mut Page, names: &[&[u8]], condition: u32) {
-    match names.get(condition as usize) {
-        Some(name) => page.say(name),
+/// Says the name of a condition, or its number where it has none.
+fn say_name(page: &mut Page, files: &Accepted<'_>, condition: u32) {
+    match files.file.start_conditions.get(condition as usize) {
+        Some(found) => page.say(&found.name),
         None => say_numbered(page, b"condition ", condition as u64, b""),
     }
 }
@@ -138,7 +137,7 @@ fn say_state(page: &mut Page, files: &Accepted<'_>, state: u32)
     let dfa = files.dfa;
     say_numbered(page, b"\nScanner state ", state as u64, b"\n");
     if let Some(rule) = dfa.rule(state) {
-        let line = files.file.lines.get(rule.0 as usize).copied().unwrap_or(1);
+        let line = files.line_of_lex_rule(rule.0 as usize);
         page.say(b"    rule of ");
         page.say(files.lex.name.as_bytes());
         say_numbered(page, b":", line, b"\n");

@@ -8,7 +8,7 @@ use crate::places::Places;
 use crate::rules::say_rules;
 use crate::scanner::say_scanner;
 use crate::states::{Tables, say_states};
-use ly_base::OutOfMemory;
+use ly_base::{OutOfMemory, locate};
 use ly_join::Spec;
 use ly_lexread::LexFile;
 use ly_page::{Named, Page};
@@ -58,15 +58,21 @@ pub struct Accepted<'a> {
     pub indented: &'a [u64],
 }
 
+impl Accepted<'_> {
+    /// The line of the lex file on which a rule begins, by its number; the first one, where there is no such rule.
+    pub(crate) fn line_of_lex_rule(&self, rule: usize) -> u64 {
+        let start = self.file.rule_starts.get(rule).copied().unwrap_or(0);
+        locate(self.lex.bytes, start).line
+    }
+}
+
 /// Says of two files that are accepted what is doubtful, where their conflicts are, and which rule has which number;
-/// and the states and their picture, where they are asked for. Start conditions are named by their numbers, as far as
-/// names are given.
+/// and the states and their picture, where they are asked for.
 ///
 /// `OutOfMemory` comes where a growth was refused.
 pub fn survey(
     alloc: Global,
     files: Accepted<'_>,
-    conditions: &[&[u8]],
     tables: &Tables,
     wish: Wish,
 ) -> Result<Explanation, OutOfMemory>
@@ -74,7 +80,7 @@ pub fn survey(
     ensures { IfOk result (λ e. e.accepted ≡ true) }
 {
     Ok(Explanation {
-        text: text_of(alloc, &files, conditions)?,
+        text: text_of(alloc, &files)?,
         states: states_if(alloc, &files, tables, wish.states)?,
         picture: picture_if(alloc, &files, wish.picture)?,
         accepted: true,
@@ -85,13 +91,12 @@ pub fn survey(
 fn text_of(
     alloc: Global,
     files: &Accepted<'_>,
-    conditions: &[&[u8]],
 ) -> Result<Vec<u8>, OutOfMemory>
     requires { IsBreadthFirst files.now.dfa.now }
 {
     let places = Places::of(alloc, files.yacc.bytes)?;
     let mut page = Page::new(alloc);
-    let said = say_all(alloc, &mut page, files, conditions, &places);
+    let said = say_all(alloc, &mut page, files, &places);
     drop(places);
     said?;
     page.finish()
@@ -102,13 +107,12 @@ fn say_all(
     alloc: Global,
     page: &mut Page,
     files: &Accepted<'_>,
-    conditions: &[&[u8]],
     places: &Places,
 ) -> Result<(), OutOfMemory>
     requires { IsBreadthFirst files.now.dfa.now }
 {
     say_sizes(page, files);
-    say_doubts(alloc, page, files, conditions, places)?;
+    say_doubts(alloc, page, files, places)?;
     say_conflicts(alloc, page, files)?;
     say_rules(page, files, places);
     Ok(())

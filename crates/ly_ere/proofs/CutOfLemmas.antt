@@ -11,7 +11,8 @@ use Rattle.ly_ere.specs.Names.{Definition, defined}
 use Rattle.ly_ere.specs.Patterns.{HasOneLength, IsCutOf, Varies, sides_weight}
 use Rattle.ly_ere.specs.Private.Cuts.{IsCutOfSides, IsFixed, IsJudged, IsToldBy, IsUntold}
 use Rattle.ly_ere.specs.Weight.{weight_of, weight_of_both}
-use Rattle.ly_ere.specs.declared.fault.EreFault.{EreFault}
+use Rattle.ly_ere.specs.declared.fault.EreFault.TheVariants.{Refused}
+use Rattle.ly_ere.specs.declared.fault.EreFaultKind.{EreFaultKind}
 use Rattle.ly_ere.specs.declared.length.Lengths.{Lengths}
 
 module _ (names : List Expression) (w : ℕ) (e : Expression) (l : Lengths) (a : AreLengths w (Matches names e) l) where
@@ -62,12 +63,13 @@ module _ (names : List Definition) (s : Sides) (t : Expression) (is : s.tail ≡
   weighs : sides_weight names s ≡ weight_of ds s.head + weight_of ds t
   weighs = ap (weight_of_both ds s.head) is
 
-  pub untold : (most : ℕ) → most < far → (fault : EreFault) → IsUntold h k fault → IsJudged most names s fault
-  untold most less fault x = record {
-    only = λ _ light. x.only light;
-    vary = λ e. let y = x.vary e in (t, is, varied ds _ s.head h head y.0, varied ds _ t k tail y.1);
-    empty_head = λ e. (some_tail, empty_string ds _ s.head h head (x.empty_head e));
-    heavy = λ e. elim (x.heavy e) [
+  pub untold : (most : ℕ) → most < far → (kind : EreFaultKind) (offset : ℕ) → IsUntold h k kind
+      → IsJudged most names s (Refused kind offset)
+  untold most less kind offset x = record {
+    only = λ _ light. elim (x.only (λ e. light (ap Some e))) [ inl e ↦ inl (ap Some e) | inr e ↦ inr (ap Some e) ];
+    vary = λ e. let y = x.vary (cc) in (t, is, varied ds _ s.head h head y.0, varied ds _ t k tail y.1);
+    empty_head = λ e. (some_tail, empty_string ds _ s.head h head (x.empty_head (cc)));
+    heavy = λ e. elim (x.heavy (cc)) [
       | inl y ↦ omega (arith, less, weighs, head.light, y)
       | inr y ↦ omega (arith, less, weighs, tail.light, y)
     ];

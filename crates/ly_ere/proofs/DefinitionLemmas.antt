@@ -34,8 +34,10 @@ use Rattle.ly_ere.specs.Private.Turns.{uses_at}
 use Rattle.ly_ere.specs.Private.Uses.{number_for, renumbered, uses_of}
 use Rattle.ly_ere.specs.Weight.{named_weight, weight_of}
 use Rattle.ly_ere.specs.declared.definitions.DefinitionTexts.{DefinitionTexts}
+use Rattle.ly_ere.specs.Faults.{IsAtMost, ere_kind}
 use Rattle.ly_ere.specs.declared.fault.EreFault.{EreFault}
-use Rattle.ly_ere.specs.declared.fault.EreFault.TheVariants.{NameCycle, OutOfMemory, TooHeavy}
+use Rattle.ly_ere.specs.declared.fault.EreFault.TheVariants.{OutOfMemory, Refused}
+use Rattle.ly_ere.specs.declared.fault.EreFaultKind.TheVariants.{NameCycle, TooHeavy}
 use Rattle.ly_ere.proofs.NumberedLemmas.{alternation_found}
 use Rattle.ly_ere.proofs.PatternLaws.{expression_one, front_length_one}
 use Rattle.ly_ere.proofs.PlaceLemmas.{cases_option, none_some, some_one, known, known_is, next_one, no_definition}
@@ -181,6 +183,7 @@ module _ (known : List Definition) (list : List DefinedText) (d : DefinedText) (
         memory = is.memory;
         weight = is.weight;
         cycle = is.cycle;
+        at = is.at;
       }
 
   pub refusals_later : (r : Refusal) → t.refusal ≡ Some r → IsTextRefusal known (list ++ d ∷ []) r
@@ -628,15 +631,22 @@ placed_all list order names numbers p all = record {
   all = λ n d is missing. none_some (sym missing ∙ p.found n d is (all n (slice_get_within list n d is)));
 }
 
+-- the first byte is one of any text, or its end
+at_front : (fault : EreFault) (n : ℕ) → IsAtMost 0 fault → IsAtMost n fault
+at_front (Refused kind offset) n front = omega (arith, front)
+at_front OutOfMemory n front = tt
+
 -- a heavy one is refused
 pub refused_heavy : (most : ℕ) (list : List DefinedText) (order : List ℕ) (names : List Definition)
     (numbers : List ℕ) (n : ℕ)
     (d : DefinedText) (e : Expression) (fault : EreFault) → ArePlacing list order names numbers
     → IsPlacedNext list names n d e
-    → (fault ≢ OutOfMemory → fault ≡ TooHeavy) → (fault ≡ TooHeavy → most < weight_of (defined names) e)
+    → (fault ≢ OutOfMemory → ere_kind fault ≡ Some TooHeavy)
+    → (ere_kind fault ≡ Some TooHeavy → most < weight_of (defined names) e) → IsAtMost 0 fault
     → AreSpelled list → AreRefused most list n fault
-refused_heavy most list order names numbers n d e fault p step only heavy spelled = record {
+refused_heavy most list order names numbers n d e fault p step only heavy front spelled = record {
   within = λ _. slice_get_within list n d step.is;
+  at = λ d _. at_front fault (length d.text) front;
   refused = λ memory light. absurd (light (only memory));
   at_place = λ memory light. absurd (light (only memory));
   spelled = λ _. spelled;
@@ -695,6 +705,9 @@ module _ (most : ℕ) (list : List DefinedText) (distinct : AreDistinct list) wh
   pub refused_text : (r : Refusal) → IsTextRefusal (known_names list) list r → AreRefused most list r.place r.fault
   refused_text r is = record {
     within = λ _. slice_get_within list r.place is.text is.is;
+    at = λ d there.
+        let same : is.text ≡ d = some_one (sym is.is ∙ there) in
+        subst (λ (b : DefinedText). IsAtMost (length b.text) r.fault) same is.at;
     refused = λ _ _ names all.
         let read = placed_known list distinct all.placed r.place is.text is.is (all.all r.place is.text is.is) in
         is.none read.0 read.1;
@@ -721,9 +734,10 @@ module _ (most : ℕ) (list : List DefinedText) (distinct : AreDistinct list) wh
   -- one that leads into a cycle
   pub refused_cycle : (t : DefinitionTexts) → AreRead (known_names list) list t → (order : List ℕ) → IsLastTurn
       (text_uses t) order
-      → (n : ℕ) → n < length list → (Contains order n → ⊥) → AreRefused most list n NameCycle
+      → (n : ℕ) → n < length list → (Contains order n → ⊥) → AreRefused most list n (Refused NameCycle 0)
   refused_cycle t a order last n l apart = record {
     within = λ _. l;
+    at = λ d _. omega arith;
     refused = λ _ _ names all.
         let is = slice_get-get_or list n no_text l in
         placed_in_order list distinct t a order last all.placed n _ is (all.all n _ is) apart;

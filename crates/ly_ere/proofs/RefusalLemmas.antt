@@ -1,5 +1,5 @@
 -- Why a pattern is refused, by why its sides are.
-use Rattle.std.proofs.Common.{◌≡◌, ◌≢◌, ℕ, ◌<◌, ◌≤◌, List, length, Some, None, refl, sym, ap, subst, arith, inl, inr}
+use Rattle.std.proofs.Common.{◌≡◌, ◌≢◌, ℕ, ◌<◌, ◌≤◌, ◌-◌, List, length, Some, None, refl, sym, ap, subst, arith, inl, inr}
 use Rattle.std.proofs.Common.{take}
 use Rattle.std.proofs.lemmas.List.{drop_all, take_all}
 use Rattle.ly_base.specs.declared.cut.Cut.{Cut}
@@ -9,35 +9,52 @@ use Rattle.ly_ere.specs.Names.{Definition, defined}
 use Rattle.ly_ere.specs.Patterns.{BothVary, HasFrontSides, IsCutOf, IsFrontPattern, IsPattern, IsRefused}
 use Rattle.ly_ere.specs.Patterns.{SpellsSides, sides_of, sides_weight}
 use Rattle.ly_ere.specs.Private.Cuts.{IsCutOfSides, IsJudged}
-use Rattle.ly_ere.specs.Private.Faults.{fault_of_reading, fault_of_syntax}
+use Rattle.ly_ere.specs.Faults.{ere_kind}
+use Rattle.ly_ere.specs.Private.Faults.{fault_in, kind_of_syntax}
 use Rattle.ly_ere.specs.declared.fault.EreFault.{EreFault}
-use Rattle.ly_ere.specs.declared.fault.EreFault.TheVariants as ere
+use Rattle.ly_ere.specs.declared.fault.EreFault.TheVariants.{Refused}
+use Rattle.ly_ere.specs.declared.fault.EreFaultKind.{EreFaultKind}
+use Rattle.ly_ere.specs.declared.fault.EreFaultKind.TheVariants.{StrayOperator, TooHeavy, TrailingBothVary}
+use Rattle.ly_ere.specs.declared.fault.EreFaultKind.TheVariants.{TrailingHeadEmpty}
 use Rattle.ly_ere.specs.declared.fault.ReadFault.{ReadFault}
 use Rattle.ly_ere.specs.declared.fault.ReadFault.TheVariants.{Syntax, OutOfMemory}
-use Rattle.ly_ere.specs.declared.fault.SyntaxFault.{SyntaxFault}
-use Rattle.ly_ere.specs.declared.fault.SyntaxFault.TheVariants as syntax_fault
+use Rattle.ly_ere.specs.declared.fault.SyntaxKind.{SyntaxKind}
+use Rattle.ly_ere.specs.declared.fault.SyntaxKind.TheVariants as syntax
 use Rattle.ly_ere.specs.declared.pattern.Pattern.{Pattern}
 use Rattle.ly_ere.proofs.FrontLaws.{pattern_sides}
+use Rattle.ly_ere.proofs.PlaceLemmas.{some_one}
 use Rattle.ly_ere.proofs.SidesLemmas.{front_sides_one}
 
--- the fault is of the text, and not of the weight, the cut or an empty head
-abbrev IsOther : EreFault → Type 0
-IsOther fault = (fault ≢ ere.TooHeavy) × (fault ≢ ere.TrailingBothVary) × (fault ≢ ere.TrailingHeadEmpty)
+-- what is wrong is the text, and not the weight, the cut or an empty head
+abbrev IsOtherKind : EreFaultKind → Type 0
+IsOtherKind kind = (kind ≢ TooHeavy) × (kind ≢ TrailingBothVary) × (kind ≢ TrailingHeadEmpty)
 
-text_is_other : (fault : SyntaxFault) → IsOther (fault_of_syntax fault)
-text_is_other syntax_fault.Empty = (λ e. cc, λ e. cc, λ e. cc)
-text_is_other syntax_fault.UnclosedQuote = (λ e. cc, λ e. cc, λ e. cc)
-text_is_other syntax_fault.UnclosedBracket = (λ e. cc, λ e. cc, λ e. cc)
-text_is_other syntax_fault.UnclosedGroup = (λ e. cc, λ e. cc, λ e. cc)
-text_is_other syntax_fault.StrayOperator = (λ e. cc, λ e. cc, λ e. cc)
-text_is_other syntax_fault.BadRange = (λ e. cc, λ e. cc, λ e. cc)
-text_is_other syntax_fault.EmptySet = (λ e. cc, λ e. cc, λ e. cc)
-text_is_other syntax_fault.UnknownClass = (λ e. cc, λ e. cc, λ e. cc)
-text_is_other syntax_fault.BadInterval = (λ e. cc, λ e. cc, λ e. cc)
-text_is_other syntax_fault.EscapeTooLarge = (λ e. cc, λ e. cc, λ e. cc)
-text_is_other syntax_fault.UnknownName = (λ e. cc, λ e. cc, λ e. cc)
-text_is_other syntax_fault.AnchorInside = (λ e. cc, λ e. cc, λ e. cc)
-text_is_other syntax_fault.TrailingTwice = (λ e. cc, λ e. cc, λ e. cc)
+kind_is_other : (kind : SyntaxKind) → IsOtherKind (kind_of_syntax kind)
+kind_is_other syntax.Empty = (λ e. cc, λ e. cc, λ e. cc)
+kind_is_other syntax.UnclosedQuote = (λ e. cc, λ e. cc, λ e. cc)
+kind_is_other syntax.UnclosedBracket = (λ e. cc, λ e. cc, λ e. cc)
+kind_is_other syntax.UnclosedGroup = (λ e. cc, λ e. cc, λ e. cc)
+kind_is_other syntax.StrayOperator = (λ e. cc, λ e. cc, λ e. cc)
+kind_is_other syntax.BadRange = (λ e. cc, λ e. cc, λ e. cc)
+kind_is_other syntax.EmptySet = (λ e. cc, λ e. cc, λ e. cc)
+kind_is_other syntax.UnknownClass = (λ e. cc, λ e. cc, λ e. cc)
+kind_is_other syntax.BadInterval = (λ e. cc, λ e. cc, λ e. cc)
+kind_is_other syntax.EscapeTooLarge = (λ e. cc, λ e. cc, λ e. cc)
+kind_is_other syntax.UnknownName = (λ e. cc, λ e. cc, λ e. cc)
+kind_is_other syntax.AnchorInside = (λ e. cc, λ e. cc, λ e. cc)
+kind_is_other syntax.TrailingTwice = (λ e. cc, λ e. cc, λ e. cc)
+
+-- the same of a fault
+abbrev IsOther : EreFault → Type 0
+IsOther fault = (ere_kind fault ≢ Some TooHeavy) × (ere_kind fault ≢ Some TrailingBothVary)
+    × (ere_kind fault ≢ Some TrailingHeadEmpty)
+
+text_is_other : (kind : EreFaultKind) (offset : ℕ) → IsOtherKind kind → IsOther (Refused kind offset)
+text_is_other kind offset other = (
+  λ e. other.0 (some_one e),
+  λ e. other.1 (some_one e),
+  λ e. other.2 (some_one e),
+)
 
 -- sides that have a cut
 no_cut : (names : List Expression) (s : Sides) (cut : Cut) → IsCutOfSides names s cut → BothVary names s → ⊥
@@ -61,11 +78,11 @@ module _ (most : ℕ) (names : List Definition) (Have : Sides → Type 0) (Is : 
   }
 
   -- the text is at fault, or a growth was refused
-  pub refused_reading : (fault : ReadFault) → (fault ≢ OutOfMemory → (p : Pattern) → Is p → ⊥)
-      → IsRefused most names Have Is (fault_of_reading fault)
-  refused_reading (Syntax fault) none = refused_text (fault_of_syntax fault) (text_is_other fault)
-      (none (λ e. absurd (cc)))
-  refused_reading OutOfMemory none = record {
+  pub refused_reading : (text : List ℕ) (fault : ReadFault) → (fault ≢ OutOfMemory → (p : Pattern) → Is p → ⊥)
+      → IsRefused most names Have Is (fault_in text fault)
+  refused_reading text (Syntax fault) none = refused_text (fault_in text (Syntax fault))
+      (text_is_other (kind_of_syntax fault.kind) (length text - fault.left) (kind_is_other fault.kind)) (none (λ e. absurd (cc)))
+  refused_reading text OutOfMemory none = record {
     refused = λ other. absurd (other refl);
     vary = λ e. absurd (cc);
     empty_head = λ e. absurd (cc);
@@ -110,14 +127,14 @@ module _ (most : ℕ) (names : List Definition) (line : List ℕ) where
 
   -- no sides at the front of a line
   pub no_front : (fault : ReadFault) → (fault ≢ OutOfMemory → (s : Sides) (n : ℕ) → HasFrontSides names line s n → ⊥)
-      → IsRefused most names HaveFront IsFront (fault_of_reading fault)
-  no_front fault none = refused_reading most names HaveFront IsFront fault
+      → IsRefused most names HaveFront IsFront (fault_in line fault)
+  no_front fault none = refused_reading most names HaveFront IsFront line fault
       (λ other p x. none other (sides_of p) x.0 (pattern_sides names line p x.0 x.1))
 
   -- a text that is no pattern
   pub no_text : (fault : ReadFault) → (fault ≢ OutOfMemory → (s : Sides) (n : ℕ) → HasFrontSides names line s n → ⊥)
-      → IsRefused most names (SpellsSides names line) (IsPattern names line) (fault_of_reading fault)
-  no_text fault none = refused_reading most names (SpellsSides names line) (IsPattern names line) fault
+      → IsRefused most names (SpellsSides names line) (IsPattern names line) (fault_in line fault)
+  no_text fault none = refused_reading most names (SpellsSides names line) (IsPattern names line) line fault
       (λ other p x. none other (sides_of p) (length line) (text_front names line (sides_of p) x.sides))
 
   module _ (s : Sides) (n : ℕ) (x : HasFrontSides names line s n) where
@@ -145,9 +162,9 @@ module _ (most : ℕ) (names : List Definition) (line : List ℕ) where
 
     -- a text that goes on behind its front
     pub no_whole_text : n < length line
-        → IsRefused most names (SpellsSides names line) (IsPattern names line) ere.StrayOperator
-    no_whole_text more = refused_text most names (SpellsSides names line) (IsPattern names line) ere.StrayOperator
-        (λ e. cc, λ e. cc, λ e. cc)
+        → IsRefused most names (SpellsSides names line) (IsPattern names line) (Refused StrayOperator n)
+    no_whole_text more = refused_text most names (SpellsSides names line) (IsPattern names line)
+        (Refused StrayOperator n) (text_is_other StrayOperator n (λ e. cc, λ e. cc, λ e. cc))
         (λ p y. absurd (omega (
           arith,
           (front_sides_one names line s (sides_of p) n (length line) x (text_front names line (sides_of p) y.sides)).1,

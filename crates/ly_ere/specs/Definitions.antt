@@ -2,12 +2,14 @@
 use Rattle.std.specs.Prelude.{◌≡◌, ◌≢◌, ℕ, ◌<◌, ◌≤◌, List, [], ◌∷◌, ◌++◌, map, length, slice_get, None, Some}
 use Rattle.ly_ere.specs.Elements.{AreElements, Element}
 use Rattle.ly_ere.specs.Expression.{Expression, set}
+use Rattle.ly_ere.specs.Faults.{IsAtMost, ere_kind}
 use Rattle.ly_ere.specs.Names.{Definition, defined, number_of}
 use Rattle.ly_ere.specs.Patterns.{IsExpression}
 use Rattle.ly_ere.specs.Weight.{named_weight, weight_of}
 use Rattle.ly_ere.specs.declared.definitions.NamedText as code
 use Rattle.ly_ere.specs.declared.fault.EreFault.{EreFault}
-use Rattle.ly_ere.specs.declared.fault.EreFault.TheVariants.{NameCycle, OutOfMemory, TooHeavy}
+use Rattle.ly_ere.specs.declared.fault.EreFault.TheVariants.{OutOfMemory}
+use Rattle.ly_ere.specs.declared.fault.EreFaultKind.TheVariants.{NameCycle, TooHeavy}
 
 -- A name and the text of its definition.
 pub record DefinedText : Type 0 where
@@ -80,18 +82,19 @@ pub record IsAtFault (list : List DefinedText) (place : ℕ) (fault : EreFault) 
   pub text : DefinedText
   pub is : slice_get list place ≡ Some text
   pub never : (placed : List Definition) → ArePlaced list placed → number_of placed text.name ≡ None
-  pub cyclic : fault ≡ NameCycle → HasText (known_names list) text.text
-  pub no_text : fault ≢ NameCycle → IsNoText (known_names list) text.text
+  pub cyclic : ere_kind fault ≡ Some NameCycle → HasText (known_names list) text.text
+  pub no_text : ere_kind fault ≢ Some NameCycle → IsNoText (known_names list) text.text
 
 -- Why texts are refused, and the place of the one at fault: its text is no expression, it leads into a cycle of names,
--- or each has elements and this one is too heavy.
+-- or each has elements and this one is too heavy. The byte at fault is one of its text, or the end of that.
 pub record AreRefused (most : ℕ) (list : List DefinedText) (place : ℕ) (fault : EreFault) : Type 0 where
   pub within : fault ≢ OutOfMemory → place < length list
-  pub refused : fault ≢ OutOfMemory → fault ≢ TooHeavy → (names : List Definition) → AreNames list names → ⊥
-  pub at_place : fault ≢ OutOfMemory → fault ≢ TooHeavy → IsAtFault list place fault
-  pub spelled : fault ≡ TooHeavy → AreSpelled list
-  pub heavy : fault ≡ TooHeavy → IsHeavyDefinition most list place
-  pub none_light : fault ≡ TooHeavy → (names : List Definition) → AreNames list names → AreLightNames most names → ⊥
+  pub at : (d : DefinedText) → slice_get list place ≡ Some d → IsAtMost (length d.text) fault
+  pub refused : fault ≢ OutOfMemory → ere_kind fault ≢ Some TooHeavy → (names : List Definition) → AreNames list names → ⊥
+  pub at_place : fault ≢ OutOfMemory → ere_kind fault ≢ Some TooHeavy → IsAtFault list place fault
+  pub spelled : ere_kind fault ≡ Some TooHeavy → AreSpelled list
+  pub heavy : ere_kind fault ≡ Some TooHeavy → IsHeavyDefinition most list place
+  pub none_light : ere_kind fault ≡ Some TooHeavy → (names : List Definition) → AreNames list names → AreLightNames most names → ⊥
 
 -- a definition as it stands in a lex file
 abbrev pub named_text : code.NamedText → DefinedText

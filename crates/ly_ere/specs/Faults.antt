@@ -1,52 +1,70 @@
--- The numbers and the names of the faults of expressions.
-use Rattle.std.specs.Prelude.{ℕ, List, Option, Some, None, codes}
+-- The faults of expressions: their numbers and names, and where they stand.
+use Rattle.std.specs.Prelude.{ℕ, ◌≤◌, List, Option, Some, None, codes}
 use Rattle.ly_ere.specs.declared.fault.EreFault.{EreFault}
-use Rattle.ly_ere.specs.declared.fault.EreFault.TheVariants.{Empty, UnclosedQuote, UnclosedBracket, UnclosedGroup}
-use Rattle.ly_ere.specs.declared.fault.EreFault.TheVariants.{StrayOperator, BadRange, EmptySet, UnknownClass}
-use Rattle.ly_ere.specs.declared.fault.EreFault.TheVariants.{BadInterval, EscapeTooLarge, UnknownName, NameCycle}
-use Rattle.ly_ere.specs.declared.fault.EreFault.TheVariants.{AnchorInside}
-use Rattle.ly_ere.specs.declared.fault.EreFault.TheVariants.{TrailingTwice, TrailingBothVary, TrailingHeadEmpty}
-use Rattle.ly_ere.specs.declared.fault.EreFault.TheVariants.{TooHeavy}
-use Rattle.ly_ere.specs.declared.fault.EreFault.TheVariants.{OutOfMemory}
+use Rattle.ly_ere.specs.declared.fault.EreFault.TheVariants.{Refused, OutOfMemory}
+use Rattle.ly_ere.specs.declared.fault.EreFaultKind.{EreFaultKind}
+use Rattle.ly_ere.specs.declared.fault.EreFaultKind.TheVariants.{Empty, UnclosedQuote, UnclosedBracket, UnclosedGroup}
+use Rattle.ly_ere.specs.declared.fault.EreFaultKind.TheVariants.{StrayOperator, BadRange, EmptySet, UnknownClass}
+use Rattle.ly_ere.specs.declared.fault.EreFaultKind.TheVariants.{BadInterval, EscapeTooLarge, UnknownName, NameCycle}
+use Rattle.ly_ere.specs.declared.fault.EreFaultKind.TheVariants.{AnchorInside, TrailingTwice, TrailingBothVary}
+use Rattle.ly_ere.specs.declared.fault.EreFaultKind.TheVariants.{TrailingHeadEmpty, TooHeavy}
+
+-- the number of a kind of faults
+abbrev pub kind_number : EreFaultKind → ℕ
+kind_number Empty = 1
+kind_number UnclosedQuote = 2
+kind_number UnclosedBracket = 3
+kind_number UnclosedGroup = 4
+kind_number StrayOperator = 5
+kind_number BadRange = 6
+kind_number EmptySet = 7
+kind_number UnknownClass = 8
+kind_number BadInterval = 9
+kind_number EscapeTooLarge = 10
+kind_number UnknownName = 11
+kind_number NameCycle = 12
+kind_number AnchorInside = 13
+kind_number TrailingTwice = 14
+kind_number TrailingBothVary = 15
+kind_number TrailingHeadEmpty = 16
+kind_number TooHeavy = 17
+
+-- the name of a kind of faults
+abbrev pub kind_name : EreFaultKind → List ℕ
+kind_name Empty = codes "Empty"
+kind_name UnclosedQuote = codes "UnclosedQuote"
+kind_name UnclosedBracket = codes "UnclosedBracket"
+kind_name UnclosedGroup = codes "UnclosedGroup"
+kind_name StrayOperator = codes "StrayOperator"
+kind_name BadRange = codes "BadRange"
+kind_name EmptySet = codes "EmptySet"
+kind_name UnknownClass = codes "UnknownClass"
+kind_name BadInterval = codes "BadInterval"
+kind_name EscapeTooLarge = codes "EscapeTooLarge"
+kind_name UnknownName = codes "UnknownName"
+kind_name NameCycle = codes "NameCycle"
+kind_name AnchorInside = codes "AnchorInside"
+kind_name TrailingTwice = codes "TrailingTwice"
+kind_name TrailingBothVary = codes "TrailingBothVary"
+kind_name TrailingHeadEmpty = codes "TrailingHeadEmpty"
+kind_name TooHeavy = codes "TooHeavy"
 
 -- a fault's number; want of memory has none
 abbrev pub ere_number : EreFault → Option ℕ
-ere_number Empty = Some 1
-ere_number UnclosedQuote = Some 2
-ere_number UnclosedBracket = Some 3
-ere_number UnclosedGroup = Some 4
-ere_number StrayOperator = Some 5
-ere_number BadRange = Some 6
-ere_number EmptySet = Some 7
-ere_number UnknownClass = Some 8
-ere_number BadInterval = Some 9
-ere_number EscapeTooLarge = Some 10
-ere_number UnknownName = Some 11
-ere_number NameCycle = Some 12
-ere_number AnchorInside = Some 13
-ere_number TrailingTwice = Some 14
-ere_number TrailingBothVary = Some 15
-ere_number TrailingHeadEmpty = Some 16
-ere_number TooHeavy = Some 17
+ere_number (Refused kind offset) = Some (kind_number kind)
 ere_number OutOfMemory = None
 
 -- a fault's name
 abbrev pub ere_name : EreFault → List ℕ
-ere_name Empty = codes "Empty"
-ere_name UnclosedQuote = codes "UnclosedQuote"
-ere_name UnclosedBracket = codes "UnclosedBracket"
-ere_name UnclosedGroup = codes "UnclosedGroup"
-ere_name StrayOperator = codes "StrayOperator"
-ere_name BadRange = codes "BadRange"
-ere_name EmptySet = codes "EmptySet"
-ere_name UnknownClass = codes "UnknownClass"
-ere_name BadInterval = codes "BadInterval"
-ere_name EscapeTooLarge = codes "EscapeTooLarge"
-ere_name UnknownName = codes "UnknownName"
-ere_name NameCycle = codes "NameCycle"
-ere_name AnchorInside = codes "AnchorInside"
-ere_name TrailingTwice = codes "TrailingTwice"
-ere_name TrailingBothVary = codes "TrailingBothVary"
-ere_name TrailingHeadEmpty = codes "TrailingHeadEmpty"
-ere_name TooHeavy = codes "TooHeavy"
+ere_name (Refused kind offset) = kind_name kind
 ere_name OutOfMemory = codes "OutOfMemory"
+
+-- a fault's kind; want of memory has none
+abbrev pub ere_kind : EreFault → Option EreFaultKind
+ere_kind (Refused kind offset) = Some kind
+ere_kind OutOfMemory = None
+
+-- so many bytes or fewer stand before the one at fault
+abbrev pub IsAtMost : ℕ → EreFault → Type 0
+IsAtMost n (Refused kind offset) = offset ≤ n
+IsAtMost n OutOfMemory = Unit {0}

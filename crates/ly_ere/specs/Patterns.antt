@@ -5,13 +5,15 @@ use Rattle.ly_base.specs.Blank.{is_blank}
 use Rattle.ly_base.specs.declared.cut.Cut.{Cut}
 use Rattle.ly_base.specs.declared.cut.Cut.TheVariants.{Whole, Head, Tail}
 use Rattle.ly_ere.specs.Expression.{Expression, Matches}
+use Rattle.ly_ere.specs.Faults.{ere_kind}
 use Rattle.ly_ere.specs.Grammar.{Alternation, AreSides, Sides}
 use Rattle.ly_ere.specs.Elements.{Element, AreElements}
 use Rattle.ly_ere.specs.Names.{Definition, defined}
 use Rattle.ly_ere.specs.Weight.{weight_of_both}
 use Rattle.ly_ere.specs.Winner.{HasLength}
 use Rattle.ly_ere.specs.declared.fault.EreFault.{EreFault}
-use Rattle.ly_ere.specs.declared.fault.EreFault.TheVariants.{TooHeavy, TrailingBothVary, TrailingHeadEmpty, OutOfMemory}
+use Rattle.ly_ere.specs.declared.fault.EreFault.TheVariants.{OutOfMemory}
+use Rattle.ly_ere.specs.declared.fault.EreFaultKind.TheVariants.{TooHeavy, TrailingBothVary, TrailingHeadEmpty}
 use Rattle.ly_ere.specs.declared.pattern.Pattern.{Pattern}
 
 -- the text's elements are the expression, where names stand for these definitions
@@ -86,8 +88,8 @@ HasEmptyHead names s = IsSome s.tail × Matches names s.head []
 -- is spelled weighs more than most. Where the cut or an empty head is at fault, sides are spelled that have that fault.
 pub record IsRefused (most : ℕ) (names : List Definition) (Have : Sides → Type 0) (Is : Pattern → Type 0)
     (fault : EreFault) : Type 0 where
-  pub refused : fault ≢ OutOfMemory → fault ≢ TooHeavy → (p : Pattern) → Is p → ⊥
-  pub vary : fault ≡ TrailingBothVary → (s : Sides) × Have s × BothVary (defined names) s
-  pub empty_head : fault ≡ TrailingHeadEmpty → (s : Sides) × Have s × HasEmptyHead (defined names) s
-  pub heavy : fault ≡ TooHeavy → (s : Sides) × Have s × (most < sides_weight names s)
-  pub none_light : fault ≡ TooHeavy → (p : Pattern) → Is p → pattern_weight names p ≤ most → ⊥
+  pub refused : fault ≢ OutOfMemory → ere_kind fault ≢ Some TooHeavy → (p : Pattern) → Is p → ⊥
+  pub vary : ere_kind fault ≡ Some TrailingBothVary → (s : Sides) × Have s × BothVary (defined names) s
+  pub empty_head : ere_kind fault ≡ Some TrailingHeadEmpty → (s : Sides) × Have s × HasEmptyHead (defined names) s
+  pub heavy : ere_kind fault ≡ Some TooHeavy → (s : Sides) × Have s × (most < sides_weight names s)
+  pub none_light : ere_kind fault ≡ Some TooHeavy → (p : Pattern) → Is p → pattern_weight names p ≤ most → ⊥

@@ -1,13 +1,14 @@
-ghost use Rattle.std.specs.Prelude.{◌≡◌, ◌<◌, ◌≤◌, ℕ, List, ◌∷◌, Option, drop, length, slice_index, IfSome};
+ghost use Rattle.std.specs.Prelude.{◌≡◌, ◌<◌, ◌≤◌, ℕ, List, ◌∷◌, Option, drop, length, slice_index, IfErr, IfSome};
 ghost use Rattle.std.specs.Prelude.{MatchOption};
 ghost use Rattle.ly_base.specs.Escapes.{AllPass, number};
 ghost use Rattle.ly_base.specs.Language.{is_decimal, NameBefore};
 ghost use Rattle.ly_base.specs.declared.language.Language.TheVariants.{Lex};
 ghost use Rattle.ly_ere.specs.Elements.{Bounds, Times};
 ghost use Rattle.ly_ere.specs.Private.Elements.{ReadsElement};
+ghost use Rattle.ly_ere.specs.Private.Faults.{IsLeftIn};
 
 use crate::element::Element;
-use crate::fault::SyntaxFault;
+use crate::fault::{SyntaxFault, SyntaxKind};
 use crate::front::behind_byte;
 use ly_base::{Language, leading_digits, leading_name};
 
@@ -15,7 +16,8 @@ use ly_base::{Language, leading_digits, leading_name};
 pub(crate) fn braced(text: &[u8]) -> Result<(Element<'_>, usize), SyntaxFault>
     requires some { 0 < length text.now }
     requires opening { slice_index text.now 0 ≡ 123 }
-    ensures { ReadsElement text.entry.now result }
+    ensures element { ReadsElement text.entry.now result }
+    ensures within { IfErr result (IsLeftIn text.entry.now) }
 {
     match leading_name(&text[1..], Language::Lex) {
         Some((name, behind)) => closed_name(text, name, behind),
@@ -32,11 +34,12 @@ fn closed_name<'t>(
     requires some { 0 < length text.now }
     requires opening { slice_index text.now 0 ≡ 123 }
     requires name { NameBefore Lex (drop 1 text.now) name.now behind.now }
-    ensures { ReadsElement text.entry.now result }
+    ensures element { ReadsElement text.entry.now result }
+    ensures within { IfErr result (IsLeftIn text.entry.now) }
 {
     match behind_byte(behind, b'}') {
         Some(_rest) => Ok((Element::Name(name), name.len() + 2)),
-        None => Err(SyntaxFault::UnknownName),
+        None => Err(SyntaxFault::at(SyntaxKind::UnknownName, text)),
     }
 }
 
@@ -45,14 +48,15 @@ fn interval(text: &[u8]) -> Result<(Element<'_>, usize), SyntaxFault>
     requires some { 0 < length text.now }
     requires opening { slice_index text.now 0 ≡ 123 }
     requires no_name { (name rest : List ℕ) → NameBefore Lex (drop 1 text.now) name rest → ⊥ }
-    ensures { ReadsElement text.entry.now result }
+    ensures element { ReadsElement text.entry.now result }
+    ensures within { IfErr result (IsLeftIn text.entry.now) }
 {
     match bounds(&text[1..]) {
         Some((least, most, rest)) => {
             let length = text.len() - rest.len();
             Ok((Element::Interval { least, most }, length))
         }
-        None => Err(SyntaxFault::BadInterval),
+        None => Err(SyntaxFault::at(SyntaxKind::BadInterval, text)),
     }
 }
 

@@ -3,14 +3,15 @@ ghost use Rattle.std.specs.Prelude.{◌≡◌, ◌≢◌, ℕ, ◌+◌, ◌<◌,
 ghost use Rattle.std.specs.Prelude.{IfOk, IfSome};
 ghost use Rattle.ly_base.specs.ByteSet.{has, members};
 ghost use Rattle.ly_ere.specs.Private.Brackets.{AreItems, IsAdded, IsNamed, as_classes, names};
+ghost use Rattle.ly_ere.specs.Private.Faults.{IsLeftIn};
 ghost use Rattle.ly_ere.specs.Private.Front.{BeginsNo, IsTaken};
 ghost use Rattle.ly_ere.specs.Elements.{begins};
 ghost use Rattle.ly_ere.specs.Elements.{IsClass, Bracketed, Item, Items, Point, Points, begins_range, class_of};
 ghost use Rattle.ly_ere.specs.Elements.{found_in};
 
-use crate::fault::SyntaxFault;
-use crate::front::{begins, stands_at};
-use ly_base::{ByteSet, escape};
+use crate::fault::{SyntaxFault, SyntaxKind};
+use crate::front::{begins, leading_escape, stands_at};
+use ly_base::ByteSet;
 
 /// Reads the bracket expression at the front of a text, whose first byte is `[`: its bytes, of which there is at
 /// least one, and how many bytes of the text it takes (POSIX, XBD 9.3.5, in the POSIX locale).
@@ -20,24 +21,26 @@ pub(crate) fn bracket(text: &[u8]) -> Result<(ByteSet, usize), SyntaxFault>
     ensures front { IfOk result (λ found. IsTaken text.now found.1) }
     ensures listed { IfOk result (λ found. Bracketed (drop 1 text.now) (members found.0) (drop found.1 text.now)) }
     ensures refused { IfErr result (λ _. BeginsNo Bracketed (drop 1 text.now)) }
+    ensures at { IfErr result (IsLeftIn text.now) }
 {
     let behind = &text[1..];
     if stands_at(behind, 0, b'^') {
         let (set, length) = items(&behind[1..])?;
-        return Ok((some_byte(set.complement())?, length + 2));
+        return Ok((some_byte(set.complement(), text)?, length + 2));
     }
     let (set, length) = items(behind)?;
-    Ok((some_byte(set)?, length + 1))
+    Ok((some_byte(set, text)?, length + 1))
 }
 
-/// A set that has a byte.
-fn some_byte(set: ByteSet) -> Result<ByteSet, SyntaxFault>
+/// A set that has a byte, of the bracket expression at the front of a text.
+fn some_byte(set: ByteSet, text: &[u8]) -> Result<ByteSet, SyntaxFault>
     ensures same { IfOk result (λ same. same ≡ set) }
     ensures some { IfOk result (λ same. members same ≢ []) }
     ensures none { IfErr result (λ _. members set ≡ []) }
+    ensures at { IfErr result (IsLeftIn text.now) }
 {
     if set.is_empty() {
-        return Err(SyntaxFault::EmptySet);
+        return Err(SyntaxFault::at(SyntaxKind::EmptySet, text));
     }
     Ok(set)
 }
@@ -48,6 +51,7 @@ fn items(text: &[u8]) -> Result<(ByteSet, usize), SyntaxFault>
     ensures within { IfOk result (λ found. found.1 ≤ length text.now) }
     ensures items { IfOk result (λ found. AreItems text.now (has found.0) (drop found.1 text.now)) }
     ensures refused { IfErr result (λ _. BeginsNo (Items true) text.now) }
+    ensures at { IfErr result (IsLeftIn text.now) }
 {
     let mut set = ByteSet::new();
     let mut at = add_item(&mut set, text, true)?;
@@ -64,6 +68,7 @@ fn add_item(set: &mut ByteSet, text: &[u8], is_first: bool) -> Result<usize, Syn
     ensures item { IfOk result (λ taken. (rs : List (ℕ × ℕ)) × Item is_first text.now rs (drop taken text.now)
         × IsAdded set.old set.new rs) }
     ensures refused { IfErr result (λ _. BeginsNo (Item is_first) text.now) }
+    ensures at { IfErr result (IsLeftIn text.now) }
 {
     if begins(text, b':') {
         return add_class(set, text);
@@ -74,7 +79,7 @@ fn add_item(set: &mut ByteSet, text: &[u8], is_first: bool) -> Result<usize, Syn
         return Ok(length);
     }
     if !is_first && begins_range(text) {
-        return Err(SyntaxFault::BadRange);
+        return Err(SyntaxFault::at(SyntaxKind::BadRange, text));
     }
     add_range(set, text)
 }
@@ -86,9 +91,10 @@ fn add_class(set: &mut ByteSet, text: &[u8]) -> Result<usize, SyntaxFault>
     ensures item { IfOk result (λ taken. (rs : List (ℕ × ℕ)) × IsClass text.now rs (drop taken text.now)
         × IsAdded set.old set.new rs) }
     ensures refused { IfErr result (λ _. BeginsNo IsClass text.now) }
+    ensures at { IfErr result (IsLeftIn text.now) }
 {
-    let end = named_end(text, b':').ok_or(SyntaxFault::UnclosedBracket)?;
-    let ranges = class(&text[2..end])?;
+    let end = named_end(text, b':').ok_or(SyntaxFault::at(SyntaxKind::UnclosedBracket, text))?;
+    let ranges = class(&text[2..end]).ok_or(SyntaxFault::at(SyntaxKind::UnknownClass, text))?;
     for (low, high) in ranges {
         set.insert_range(*low, *high);
     }
@@ -108,6 +114,7 @@ fn add_range(set: &mut ByteSet, text: &[u8]) -> Result<usize, SyntaxFault>
     ensures points { IfOk result (λ taken. (rs : List (ℕ × ℕ)) × Points text.now rs (drop taken text.now)
         × IsAdded set.old set.new rs) }
     ensures refused { IfErr result (λ _. BeginsNo Points text.now) }
+    ensures at { IfErr result (IsLeftIn text.now) }
 {
     let (low, low_length) = point(text)?;
     let behind = &text[low_length..];
@@ -116,9 +123,12 @@ fn add_range(set: &mut ByteSet, text: &[u8]) -> Result<usize, SyntaxFault>
         return Ok(low_length);
     }
     let end = &behind[1..];
-    let (high, high_length) = point(end)?;
+    let (high, high_length) = match point(end) {
+        Ok(found) => found,
+        Err(fault) => return Err(fault.begun_at(SyntaxKind::BadRange, text)),
+    };
     if high < low {
-        return Err(SyntaxFault::BadRange);
+        return Err(SyntaxFault::at(SyntaxKind::BadRange, text));
     }
     set.insert_range(low, high);
     Ok(low_length + 1 + high_length)
@@ -129,21 +139,22 @@ fn point(text: &[u8]) -> Result<(u8, usize), SyntaxFault>
     ensures front { IfOk result (λ found. IsTaken text.now found.1) }
     ensures point { IfOk result (λ found. Point text.now found.0 (drop found.1 text.now)) }
     ensures refused { IfErr result (λ _. BeginsNo Point text.now) }
+    ensures at { IfErr result (IsLeftIn text.now) }
 {
     let Some(&byte) = text.first() else {
-        return Err(SyntaxFault::UnclosedBracket);
+        return Err(SyntaxFault::at(SyntaxKind::UnclosedBracket, text));
     };
     if byte == b'\n' {
-        return Err(SyntaxFault::UnclosedBracket);
+        return Err(SyntaxFault::at(SyntaxKind::UnclosedBracket, text));
     }
     if byte == b'\\' {
-        return Ok(escape(text)?);
+        return leading_escape(text);
     }
     if begins(text, b'.') {
         return named_byte(text, b'.');
     }
     if begins(text, b':') || begins(text, b'=') {
-        return Err(SyntaxFault::BadRange);
+        return Err(SyntaxFault::at(SyntaxKind::BadRange, text));
     }
     Ok((byte, 1))
 }
@@ -153,17 +164,19 @@ fn named_byte(text: &[u8], mark: u8) -> Result<(u8, usize), SyntaxFault>
     ensures length { IfOk result (λ found. (found.1 ≡ 5) × (5 ≤ length text.now)) }
     ensures named { IfOk result (λ found. names text.now mark ≡ Some found.0) }
     ensures refused { IfErr result (λ _. names text.now mark ≡ None) }
+    ensures at { IfErr result (IsLeftIn text.now) }
 {
     if stands_at(text, 2, b'\n') {
-        return Err(SyntaxFault::UnclosedBracket);
+        return Err(SyntaxFault::at(SyntaxKind::UnclosedBracket, text));
     }
     if stands_at(text, 3, mark) && stands_at(text, 4, b']') {
         return Ok((text[2], 5));
     }
-    Err(match named_end(text, mark) {
-        None => SyntaxFault::UnclosedBracket,
-        Some(_) => SyntaxFault::UnknownClass,
-    })
+    let kind = match named_end(text, mark) {
+        None => SyntaxKind::UnclosedBracket,
+        Some(_) => SyntaxKind::UnknownClass,
+    };
+    Err(SyntaxFault::at(kind, text))
 }
 
 /// Where the mark stands that ends the named form at the front of a text together with `]`; `None` where the
@@ -202,12 +215,12 @@ static CLASSES: [(&[u8], &[(u8, u8)]); 12] = [
     (b"punct", &[(33, 47), (58, 64), (91, 96), (123, 126)]),
 ];
 
-/// The ranges of a character class.
-fn class(name: &[u8]) -> Result<&'static [(u8, u8)], SyntaxFault>
-    ensures ok { IfOk result (λ ranges. class_of name.now ≡ Some ranges.now) }
-    ensures refused { IfErr result (λ _. class_of name.now ≡ None) }
+/// The ranges of a character class, if there is one of this name.
+fn class(name: &[u8]) -> Option<&'static [(u8, u8)]>
+    ensures some { IfSome result (λ ranges. class_of name.now ≡ Some ranges.now) }
+    ensures none { IfNone result (class_of name.now ≡ None) }
 {
-    ranges_in(&CLASSES, name).ok_or(SyntaxFault::UnknownClass)
+    ranges_in(&CLASSES, name)
 }
 
 /// The ranges beside a name in a table.

@@ -1,14 +1,15 @@
 ghost use Rattle.std.specs.Prelude.{◌≡◌, ◌≢◌, ◌<◌, ◌≤◌, ◌⊎◌, ℕ, [], length, Some, IfOk, IfErr, MatchBool, OnOk};
 ghost use Rattle.ly_ere.specs.Expression.{Matches};
+ghost use Rattle.ly_ere.specs.Faults.{IsAtMost};
 ghost use Rattle.ly_ere.specs.Lengths.{IsSound, far};
 ghost use Rattle.ly_ere.specs.Names.{defined};
 ghost use Rattle.ly_ere.specs.Patterns.{IsCutOf, Varies, pattern_weight, sides_of, sides_weight};
 ghost use Rattle.ly_ere.specs.Private.Cuts.{AreSoundSides, IsCutOfSides, IsJudged, IsToldBy, IsUntold};
 ghost use Rattle.ly_ere.specs.Private.Sides.{sides_read};
 ghost use Rattle.ly_ere.specs.Weight.{weight_of};
-ghost use Rattle.ly_ere.specs.declared.fault.EreFault.TheVariants as ere;
+ghost use Rattle.ly_ere.specs.declared.fault.EreFaultKind.TheVariants.{TooHeavy};
 
-use crate::fault::EreFault;
+use crate::fault::{EreFault, EreFaultKind};
 use crate::length::{FAR, Lengths, lengths_of};
 use crate::names::Names;
 use crate::pattern::Pattern;
@@ -30,11 +31,15 @@ pub(crate) fn with_cut(
         × IsCutOfSides (defined names.now) (sides_read sides) p.cut) }
     ensures light { IfOk result (λ p. pattern_weight names.now p ≤ limits.now.pattern_weight) }
     ensures refused { IfErr result (IsJudged limits.now.pattern_weight names.now (sides_read sides)) }
+    ensures within { IfErr result (IsAtMost sides.head_end) }
 {
     let most = limits.pattern_weight();
     let cut = cut_of_sides(alloc, &sides, names, most)?;
     if is_heavy(alloc, &sides, names, most)? {
-        return Err(EreFault::TooHeavy);
+        return Err(EreFault::Refused {
+            kind: EreFaultKind::TooHeavy,
+            offset: 0,
+        });
     }
     Ok(Pattern {
         line_start: sides.line_start,
@@ -63,25 +68,32 @@ fn cut_of_sides(alloc: Global, sides: &Uncut, names: &Names, most: u32) -> Resul
     requires { AreSoundSides (length names.now) (sides_read sides.now) }
     ensures ok { IfOk result (IsCutOfSides (defined names.now) (sides_read sides.now)) }
     ensures refused { IfErr result (IsJudged most names.now (sides_read sides.now)) }
+    ensures within { IfErr result (IsAtMost sides.now.head_end) }
 {
     let Some(tail) = &sides.tail else {
         return Ok(Cut::Whole);
     };
     let head_lengths = lengths_of(alloc, &sides.head, names)?;
     let tail_lengths = lengths_of(alloc, tail, names)?;
-    told_cut(head_lengths, tail_lengths)
+    match told_cut(head_lengths, tail_lengths) {
+        Ok(cut) => Ok(cut),
+        Err(kind) => Err(EreFault::Refused {
+            kind,
+            offset: sides.offset_of(kind),
+        }),
+    }
 }
 
 /// The cut of a head and a tail, by their lengths.
-fn told_cut(head: Lengths, tail: Lengths) -> Result<Cut, EreFault>
+fn told_cut(head: Lengths, tail: Lengths) -> Result<Cut, EreFaultKind>
     ensures ok { IfOk result (IsToldBy head tail) }
     ensures refused { IfErr result (IsUntold head tail) }
 {
     if head.least < head.most && tail.least < tail.most {
-        return Err(EreFault::TrailingBothVary);
+        return Err(EreFaultKind::TrailingBothVary);
     }
     if head.least == 0 {
-        return Err(EreFault::TrailingHeadEmpty);
+        return Err(EreFaultKind::TrailingHeadEmpty);
     }
     if head.least < head.most {
         return Ok(Cut::Tail(counted(tail.least)?));
@@ -90,13 +102,13 @@ fn told_cut(head: Lengths, tail: Lengths) -> Result<Cut, EreFault>
 }
 
 /// A length that is counted; one that isn't is of what is too heavy.
-fn counted(length: u64) -> Result<usize, EreFault>
+fn counted(length: u64) -> Result<usize, EreFaultKind>
     ensures ok { IfOk result (λ n. (n ≡ length) × (length < far)) }
-    ensures far { IfErr result (λ fault. (fault ≡ ere.TooHeavy) × (far ≤ length)) }
+    ensures far { IfErr result (λ kind. (kind ≡ TooHeavy) × (far ≤ length)) }
 {
     if length < FAR {
         Ok(length as usize)
     } else {
-        Err(EreFault::TooHeavy)
+        Err(EreFaultKind::TooHeavy)
     }
 }

@@ -4,16 +4,19 @@ ghost use Rattle.std.specs.Prelude.{IfErr, IfOk, OnOk};
 ghost use Rattle.std.specs.Option.{ForSome};
 ghost use Rattle.ly_ere.specs.Definitions.{AreDistinct, AreLightNames, AreNames, AreRefused, DefinedText, named_texts};
 ghost use Rattle.ly_ere.specs.Elements.{AreElements, Element};
+ghost use Rattle.ly_ere.specs.Faults.{IsAtMost, ere_kind};
 ghost use Rattle.ly_ere.specs.Names.{Definition};
 ghost use Rattle.ly_ere.specs.Patterns.{IsBehind, IsExpression};
 ghost use Rattle.ly_ere.specs.Private.Definitions.{AreRead, text_uses};
+ghost use Rattle.ly_ere.specs.Private.Faults.{IsReadIn};
 ghost use Rattle.ly_ere.specs.Definitions.{IsNoText, known_names};
 ghost use Rattle.ly_ere.specs.Private.Turns.{AreInTurn};
-ghost use Rattle.ly_ere.specs.declared.fault.EreFault.TheVariants.{NameCycle, OutOfMemory, TooHeavy};
+ghost use Rattle.ly_ere.specs.declared.fault.EreFault.TheVariants.{OutOfMemory, Refused};
+ghost use Rattle.ly_ere.specs.declared.fault.EreFaultKind.TheVariants.{NameCycle, TooHeavy};
 ghost use Rattle.ly_ere.specs.declared.fault.ReadFault.TheVariants as read;
 
 use crate::element::next_element;
-use crate::fault::{EreFault, ReadFault, SyntaxFault};
+use crate::fault::{EreFault, EreFaultKind, ReadFault, SyntaxFault, SyntaxKind};
 use crate::names::Names;
 use crate::re::Re;
 use crate::read::{is_behind, read_expression};
@@ -91,12 +94,15 @@ fn read_and_place(alloc: Global, list: &[NamedText<'_>], limits: &Limits) -> Res
 /// The refusal of the text that stands first: one that is no expression, or the first that leads into a cycle.
 fn first_refusal(text: Option<Refusal>, cyclic: Option<usize>) -> Option<Refusal>
     ensures none { result ≡ None → (text ≡ None) × (cyclic ≡ None) }
-    ensures some { ForSome result (λ r. (text ≡ Some r) ⊎ ((cyclic ≡ Some r.place) × (r.fault ≡ NameCycle))) }
+    ensures some { ForSome result (λ r. (text ≡ Some r) ⊎ ((cyclic ≡ Some r.place) × (r.fault ≡ Refused NameCycle 0))) }
 {
     let cycle = match cyclic {
         Some(place) => Refusal {
             place,
-            fault: EreFault::NameCycle,
+            fault: EreFault::Refused {
+                kind: EreFaultKind::NameCycle,
+                offset: 0,
+            },
         },
         None => return text,
     };
@@ -153,7 +159,7 @@ impl DefinitionTexts {
     {
         match read_text(alloc, text, known) {
             Ok(re) => self.push(alloc, re),
-            Err(ReadFault::Syntax(fault)) => self.push_fault(alloc, EreFault::from(fault)),
+            Err(ReadFault::Syntax(fault)) => self.push_fault(alloc, fault.in_text(text)),
             Err(ReadFault::OutOfMemory) => Err(AllocError),
         }
     }
@@ -172,10 +178,11 @@ impl DefinitionTexts {
     /// Adds a text that is no expression, with its fault.
     fn push_fault(&mut self, alloc: Global, fault: EreFault) -> Result<(), AllocError>
         requires memory { fault ≢ OutOfMemory }
-        requires weight { fault ≢ TooHeavy }
-        requires cycle { fault ≢ NameCycle }
+        requires weight { ere_kind fault ≢ Some TooHeavy }
+        requires cycle { ere_kind fault ≢ Some NameCycle }
         ensures { (known : List Definition) (list : List DefinedText) (d : DefinedText) → AreRead known list self.old
-            → IsNoText known d.text → OnOk result (AreRead known (list ++ d ∷ []) self.new) }
+            → IsNoText known d.text → IsAtMost (length d.text) fault
+            → OnOk result (AreRead known (list ++ d ∷ []) self.new) }
     {
         let place = self.uses.len();
         self.uses.push(Vec::new(alloc))?;
@@ -204,12 +211,14 @@ fn all_known(alloc: Global, list: &[NamedText<'_>]) -> Result<Names, AllocError>
 fn read_text(alloc: Global, text: &[u8], names: &Names) -> Result<Re, ReadFault>
     ensures ok { IfOk result (IsExpression names.now text.now) }
     ensures refused { IfErr result (λ e. e ≢ read.OutOfMemory → IsNoText names.now text.now) }
+    ensures at { IfErr result (IsReadIn text.now) }
 {
     let (re, length) = read_expression(alloc, text, names)?;
-    match text.get(length) {
+    let rest = &text[length..];
+    match rest.first() {
         None => Ok(re),
-        Some(b'$') => Err(ReadFault::Syntax(SyntaxFault::AnchorInside)),
-        Some(_) => Err(ReadFault::Syntax(SyntaxFault::StrayOperator)),
+        Some(b'$') => Err(ReadFault::Syntax(SyntaxFault::at(SyntaxKind::AnchorInside, rest))),
+        Some(_) => Err(ReadFault::Syntax(SyntaxFault::at(SyntaxKind::StrayOperator, rest))),
     }
 }
 

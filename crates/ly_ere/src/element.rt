@@ -1,13 +1,15 @@
 ghost use Rattle.std.specs.Prelude.{◌≡◌, ℕ, IfErr, ◌<◌, ◌≢◌, length, slice_index, not, nat_eq, IfOk};
 ghost use Rattle.ly_ere.specs.Private.Elements.{ReadsElement};
+ghost use Rattle.ly_ere.specs.Private.Faults.{IsLeftIn};
 ghost use Rattle.ly_base.specs.ByteSet.{bytes_where, members};
 
 use crate::braced::braced;
 use crate::bracket::bracket;
-use crate::fault::SyntaxFault;
+use crate::fault::{SyntaxFault, SyntaxKind};
+use crate::front::leading_escape;
 use crate::node::Node;
 use crate::quoted::quoted_length;
-use ly_base::{ByteSet, escape};
+use ly_base::ByteSet;
 
 /// An element of an expression.
 #[derive(Clone, Copy)]
@@ -79,7 +81,8 @@ impl Postfix {
 /// Reads the element at the front of a text, and answers how many bytes it takes.
 pub(crate) fn next_element(text: &[u8]) -> Result<(Element<'_>, usize), SyntaxFault>
     requires { 0 < length text.now }
-    ensures { ReadsElement text.entry.now result }
+    ensures element { ReadsElement text.entry.now result }
+    ensures within { IfErr result (IsLeftIn text.entry.now) }
 {
     match text[0] {
         b'(' => Ok((Element::Opening, 1)),
@@ -96,7 +99,7 @@ pub(crate) fn next_element(text: &[u8]) -> Result<(Element<'_>, usize), SyntaxFa
         b'$' => Ok((Element::Mark(Mark::DollarSign), 1)),
         b'/' => Ok((Element::Mark(Mark::Slash), 1)),
         b'{' => braced(text),
-        b' ' | b'\t' | b'\n' => Err(SyntaxFault::StrayOperator),
+        b' ' | b'\t' | b'\n' => Err(SyntaxFault::at(SyntaxKind::StrayOperator, text)),
         byte => Ok((Element::OneOf(ByteSet::of(byte)), 1)),
     }
 }
@@ -105,29 +108,37 @@ pub(crate) fn next_element(text: &[u8]) -> Result<(Element<'_>, usize), SyntaxFa
 fn string(text: &[u8]) -> Result<(Element<'_>, usize), SyntaxFault>
     requires some { 0 < length text.now }
     requires quote { slice_index text.now 0 ≡ 34 }
-    ensures { ReadsElement text.entry.now result }
+    ensures element { ReadsElement text.entry.now result }
+    ensures within { IfErr result (IsLeftIn text.entry.now) }
 {
     let behind = &text[1..];
-    Ok((Element::String(behind), 1 + quoted_length(behind)?))
+    match quoted_length(behind) {
+        Ok(length) => Ok((Element::String(behind), 1 + length)),
+        Err(fault) => Err(fault.begun_at(SyntaxKind::UnclosedQuote, text)),
+    }
 }
 
 /// The bracket expression at the front, whose first byte is `[`.
 fn list(text: &[u8]) -> Result<(Element<'_>, usize), SyntaxFault>
     requires some { 0 < length text.now }
     requires opening { slice_index text.now 0 ≡ 91 }
-    ensures { ReadsElement text.entry.now result }
+    ensures element { ReadsElement text.entry.now result }
+    ensures within { IfErr result (IsLeftIn text.entry.now) }
 {
-    let (set, length) = bracket(text)?;
-    Ok((Element::OneOf(set), length))
+    match bracket(text) {
+        Ok((set, length)) => Ok((Element::OneOf(set), length)),
+        Err(fault) => Err(fault.begun_at(SyntaxKind::UnclosedBracket, text)),
+    }
 }
 
 /// The escape at the front, whose first byte is the backslash.
 fn escaped(text: &[u8]) -> Result<(Element<'_>, usize), SyntaxFault>
     requires some { 0 < length text.now }
     requires backslash { slice_index text.now 0 ≡ 92 }
-    ensures { ReadsElement text.entry.now result }
+    ensures element { ReadsElement text.entry.now result }
+    ensures within { IfErr result (IsLeftIn text.entry.now) }
 {
-    let (byte, length) = escape(text)?;
+    let (byte, length) = leading_escape(text)?;
     Ok((Element::OneOf(ByteSet::of(byte)), length))
 }
 

@@ -4,11 +4,11 @@ ghost use Rattle.ly_ere.specs.Arena.{part_of};
 ghost use Rattle.ly_ere.specs.Private.Groups.{new_group, open_branch, with_atom, with_postfix, with_interval};
 ghost use Rattle.ly_ere.specs.Private.Groups.{with_bar, whole};
 ghost use Rattle.ly_ere.specs.Private.Levels.{ArePartsBelow, IsExtended, seen, group_of, operated};
-ghost use Rattle.ly_ere.specs.declared.fault.ReadFault.TheVariants.{OutOfMemory};
+ghost use Rattle.ly_ere.specs.declared.fault.StepFault.TheVariants.{OutOfMemory};
 
 use crate::arena::Arena;
 use crate::element::Postfix;
-use crate::fault::{ReadFault, SyntaxFault};
+use crate::fault::{StepFault, SyntaxKind};
 use crate::node::Node;
 use std::alloc::AllocError;
 
@@ -59,7 +59,7 @@ impl Level {
         self,
         arena: &mut Arena,
         postfix: Postfix,
-    ) -> Result<Level, ReadFault>
+    ) -> Result<Level, StepFault>
         requires parts { ArePartsBelow (length arena.old) self }
         ensures parts { IfOk result (ArePartsBelow (length arena.new)) }
         ensures operator { IfOk result (λ l. with_postfix (group_of arena.old self) (operated postfix)
@@ -68,7 +68,7 @@ impl Level {
             ≡ None) }
         ensures grown { IsExtended arena.old arena.new }
     {
-        let piece = self.piece.ok_or(SyntaxFault::StrayOperator)?;
+        let piece = self.piece.ok_or(SyntaxKind::StrayOperator)?;
         let over = arena.push(postfix.over(piece))?;
         Ok(Level {
             either: self.either,
@@ -83,7 +83,7 @@ impl Level {
         arena: &mut Arena,
         least: u8,
         most: Option<u8>,
-    ) -> Result<Level, ReadFault>
+    ) -> Result<Level, StepFault>
         requires parts { ArePartsBelow (length arena.old) self }
         ensures parts { IfOk result (ArePartsBelow (length arena.new)) }
         ensures interval { IfOk result (λ l. with_interval (group_of arena.old self) least most
@@ -92,7 +92,7 @@ impl Level {
             ≡ None) }
         ensures grown { IsExtended arena.old arena.new }
     {
-        let branch = self.open_branch(arena)?.ok_or(SyntaxFault::StrayOperator)?;
+        let branch = self.open_branch(arena)?.ok_or(SyntaxKind::StrayOperator)?;
         let over = arena.push(Node::Repeat {
             least,
             most,
@@ -106,7 +106,7 @@ impl Level {
     }
 
     /// The group with its open branch finished, and a new one begun.
-    pub(crate) fn with_bar(self, arena: &mut Arena) -> Result<Level, ReadFault>
+    pub(crate) fn with_bar(self, arena: &mut Arena) -> Result<Level, StepFault>
         requires parts { ArePartsBelow (length arena.old) self }
         ensures parts { IfOk result (ArePartsBelow (length arena.new)) }
         ensures bar { IfOk result (λ l. with_bar (group_of arena.old self) ≡ Some (group_of arena.new l)) }
@@ -122,14 +122,14 @@ impl Level {
     }
 
     /// The expression of the whole group.
-    pub(crate) fn whole(self, arena: &mut Arena) -> Result<usize, ReadFault>
+    pub(crate) fn whole(self, arena: &mut Arena) -> Result<usize, StepFault>
         requires parts { ArePartsBelow (length arena.old) self }
         ensures within { IfOk result (λ n. n < length arena.new) }
         ensures whole { IfOk result (λ n. whole (group_of arena.old self) ≡ Some (part_of arena.new n)) }
         ensures refused { IfErr result (λ e. e ≢ OutOfMemory → whole (group_of arena.old self) ≡ None) }
         ensures grown { IsExtended arena.old arena.new }
     {
-        let branch = self.open_branch(arena)?.ok_or(SyntaxFault::Empty)?;
+        let branch = self.open_branch(arena)?.ok_or(SyntaxKind::Empty)?;
         match self.either {
             Some(either) => Ok(arena.push(Node::Either(either, branch))?),
             None => Ok(branch),

@@ -35,7 +35,7 @@ mod weight;
 
 pub use arena::Arena;
 pub use definitions::{NamedText, expression_length, read_names};
-pub use fault::EreFault;
+pub use fault::{EreFault, EreFaultKind};
 pub use laws::{
     cut_is_true, expression_has_string, front_pattern_is_one, name_is_definition, names_are_one,
     pattern_is_one, phrase_is_one, split_is_one, winner_is_one,

@@ -1,10 +1,12 @@
-ghost use Rattle.std.specs.Prelude.{◌≡◌, ◌≢◌, ◌<◌, ◌≤◌, [], ◌∷◌, ◌++◌, None, length, IfOk, IfErr, IsOk};
+ghost use Rattle.std.specs.Prelude.{◌≡◌, ◌≢◌, ◌<◌, ◌≤◌, [], ◌∷◌, ◌++◌, None, Some, length, IfOk, IfErr, IsOk};
+ghost use Rattle.ly_ere.specs.Faults.{IsAtMost, ere_kind};
 ghost use Rattle.ly_ere.specs.Lengths.{AreNamedLengths, IsSound};
 ghost use Rattle.ly_ere.specs.Names.{defined, number_of};
 ghost use Rattle.ly_ere.specs.Weight.{AreWeights, weight_of};
-ghost use Rattle.ly_ere.specs.declared.fault.EreFault.TheVariants as ere;
+ghost use Rattle.ly_ere.specs.declared.fault.EreFault.TheVariants.{OutOfMemory};
+ghost use Rattle.ly_ere.specs.declared.fault.EreFaultKind.TheVariants.{TooHeavy};
 
-use crate::fault::EreFault;
+use crate::fault::{EreFault, EreFaultKind};
 use crate::length::{Lengths, lengths_of};
 use crate::re::Re;
 use crate::weight::weigh;
@@ -92,12 +94,16 @@ impl Names {
         requires new { number_of self name.now ≡ None }
         ensures ok { IfOk result (λ names. names ≡ self ++ (name.now, definition) ∷ []) }
         ensures light { IsOk result → weight_of (defined self) definition ≤ limits.now.pattern_weight }
-        ensures only { IfErr result (λ fault. fault ≢ ere.OutOfMemory → fault ≡ ere.TooHeavy) }
-        ensures heavy { IfErr result (λ fault. fault ≡ ere.TooHeavy
+        ensures only { IfErr result (λ fault. fault ≢ OutOfMemory → ere_kind fault ≡ Some TooHeavy) }
+        ensures heavy { IfErr result (λ fault. ere_kind fault ≡ Some TooHeavy
             → limits.now.pattern_weight < weight_of (defined self) definition) }
+        ensures front { IfErr result (IsAtMost 0) }
     {
         let Some(weight) = weigh(alloc, &definition, &self, limits.pattern_weight())? else {
-            return Err(EreFault::TooHeavy);
+            return Err(EreFault::Refused {
+                kind: EreFaultKind::TooHeavy,
+                offset: 0,
+            });
         };
         Ok(self.with_weighed(alloc, name, definition, weight)?)
     }

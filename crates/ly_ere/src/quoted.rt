@@ -1,11 +1,12 @@
 ghost use Rattle.std.specs.Prelude.{◌≡◌, ℕ, List, drop, slice_get, Some, IfErr, IfOk, IfSome};
 ghost use Rattle.std.specs.Option.{IfNone};
+ghost use Rattle.ly_ere.specs.Private.Faults.{IsLeftIn};
 ghost use Rattle.ly_ere.specs.Private.Front.{BeginsNo, IsTaken};
 ghost use Rattle.ly_ere.specs.Elements.{Quoted};
 ghost use Rattle.ly_ere.specs.Private.Front.{IsQuotedByte};
 
-use crate::fault::SyntaxFault;
-use ly_base::escape;
+use crate::fault::{SyntaxFault, SyntaxKind};
+use crate::front::leading_escape;
 
 /// How many bytes a string takes, of which this is what stands behind its opening quote: up to the closing quote,
 /// with it.
@@ -13,6 +14,7 @@ pub(crate) fn quoted_length(behind: &[u8]) -> Result<usize, SyntaxFault>
     ensures front { IfOk result (IsTaken behind.now) }
     ensures quoted { IfOk result (λ end. (bs : List ℕ) × Quoted behind.now bs (drop end behind.now)) }
     ensures refused { IfErr result (λ _. BeginsNo Quoted behind.now) }
+    ensures at { IfErr result (IsLeftIn behind.now) }
 {
     let mut at = 0;
     while let Some((_, length)) = quoted_byte(&behind[at..])? {
@@ -28,14 +30,15 @@ pub(crate) fn quoted_byte(text: &[u8]) -> Result<Option<(u8, usize)>, SyntaxFaul
     ensures front { IfOk result (λ found. IfSome found (λ part. IsTaken text.now part.1)) }
     ensures byte { IfOk result (λ found. IfSome found (λ part. IsQuotedByte text.now part.0 part.1)) }
     ensures refused { IfErr result (λ _. BeginsNo Quoted text.now) }
+    ensures at { IfErr result (IsLeftIn text.now) }
 {
     let Some(&byte) = text.first() else {
-        return Err(SyntaxFault::UnclosedQuote);
+        return Err(SyntaxFault::at(SyntaxKind::UnclosedQuote, text));
     };
     match byte {
         b'"' => Ok(None),
-        b'\n' => Err(SyntaxFault::UnclosedQuote),
-        b'\\' => Ok(Some(escape(text)?)),
+        b'\n' => Err(SyntaxFault::at(SyntaxKind::UnclosedQuote, text)),
+        b'\\' => Ok(Some(leading_escape(text)?)),
         _ => Ok(Some((byte, 1))),
     }
 }

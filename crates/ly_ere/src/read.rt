@@ -3,19 +3,22 @@ ghost use Rattle.std.specs.Prelude.{MatchBool};
 ghost use Rattle.ly_ere.specs.Arena.{part_of};
 ghost use Rattle.ly_ere.specs.Elements.{Quoted};
 ghost use Rattle.ly_ere.specs.Expression.{Expression, set};
+ghost use Rattle.ly_ere.specs.Faults.{IsAtMost};
 ghost use Rattle.ly_ere.specs.Grammar.{in_order};
 ghost use Rattle.ly_ere.specs.Patterns.{HasFrontSides, IsBehind, IsFrontPattern, IsPattern, IsRefused, pattern_weight};
 ghost use Rattle.ly_ere.specs.Patterns.{SpellsSides};
 ghost use Rattle.ly_ere.specs.Private.Elements.{IsWellFormed, LeadsOn, LeadsNowhere};
+ghost use Rattle.ly_ere.specs.Private.Faults.{IsLeftIn, IsReadIn};
 ghost use Rattle.ly_ere.specs.Private.Front.{BeginsNo, CanEnd, IsFrontExpression};
 ghost use Rattle.ly_ere.specs.Private.Groups.{closed, whole};
 ghost use Rattle.ly_ere.specs.Private.Levels.{IsExtended, ArePartsBelow, group_of, groups_of, reading_of};
 ghost use Rattle.ly_ere.specs.declared.fault.ReadFault.TheVariants.{OutOfMemory};
+ghost use Rattle.ly_ere.specs.declared.fault.StepFault.TheVariants as step;
 
 use crate::arena::Arena;
 use crate::cut::with_cut;
 use crate::element::{Element, Mark, next_element};
-use crate::fault::{EreFault, ReadFault, SyntaxFault};
+use crate::fault::{EreFault, EreFaultKind, ReadFault, StepFault, SyntaxFault, SyntaxKind};
 use crate::level::Level;
 use crate::names::Names;
 use crate::node::Node;
@@ -39,8 +42,12 @@ pub fn read_front(
     ensures refused { IfErr result (IsRefused limits.now.pattern_weight names.now
         (λ s. (n : ℕ) × HasFrontSides names.now line.now s n)
         (λ p. (n : ℕ) × IsFrontPattern names.now line.now p n)) }
+    ensures within { IfErr result (IsAtMost (length line.now)) }
 {
-    let (sides, length) = read_sides(alloc, line, names)?;
+    let (sides, length) = match read_sides(alloc, line, names) {
+        Ok(found) => found,
+        Err(fault) => return Err(fault.in_text(line)),
+    };
     let pattern = with_cut(alloc, sides, names, limits)?;
     Ok((pattern, length))
 }
@@ -56,10 +63,17 @@ pub fn read_pattern(
     ensures light { IfOk result (λ p. pattern_weight names.now p ≤ limits.now.pattern_weight) }
     ensures refused { IfErr result (IsRefused limits.now.pattern_weight names.now (SpellsSides names.now text.now)
         (IsPattern names.now text.now)) }
+    ensures within { IfErr result (IsAtMost (length text.now)) }
 {
-    let (sides, length) = read_sides(alloc, text, names)?;
+    let (sides, length) = match read_sides(alloc, text, names) {
+        Ok(found) => found,
+        Err(fault) => return Err(fault.in_text(text)),
+    };
     if length < text.len() {
-        return Err(EreFault::StrayOperator);
+        return Err(EreFault::Refused {
+            kind: EreFaultKind::StrayOperator,
+            offset: length,
+        });
     }
     with_cut(alloc, sides, names, limits)
 }
@@ -74,21 +88,28 @@ pub(crate) fn read_expression(
     ensures ok { IfOk result (λ found. IsFrontExpression names.now line.now found.0 found.1) }
     ensures refused { IfErr result (λ e. e ≢ OutOfMemory → (re : Expression) (n : ℕ)
         → IsFrontExpression names.now line.now re n → ⊥) }
+    ensures at { IfErr result (IsReadIn line.now) }
 {
     let mut arena = Arena::new(alloc);
     let mut outer = Vec::new(alloc);
     let mut level = Level::new();
     let mut at = 0;
     while !can_end(&line[at..]) {
-        let (element, length) = next_element(&line[at..])?;
-        level = with_element(&mut arena, &mut outer, level, element, names)?;
+        let rest = &line[at..];
+        let (element, length) = next_element(rest)?;
+        level = match with_element(&mut arena, &mut outer, level, element, names) {
+            Ok(level) => level,
+            Err(fault) => return Err(fault.at(rest)),
+        };
         at += length;
     }
     if !outer.is_empty() {
-        return Err(ReadFault::Syntax(open_fault(&line[at..])));
+        return Err(ReadFault::Syntax(open_fault(line, at, outer.len())));
     }
-    let root = level.whole(&mut arena)?;
-    Ok((Re::of(arena, root), at))
+    match level.whole(&mut arena) {
+        Ok(root) => Ok((Re::of(arena, root), at)),
+        Err(fault) => Err(fault.at(&line[at..])),
+    }
 }
 
 /// Whether this is what may stand behind a side of a pattern.
@@ -101,13 +122,48 @@ fn can_end(rest: &[u8]) -> bool
     }
 }
 
-/// What a group that is open at the end of a side is refused for, by what stands there.
-fn open_fault(rest: &[u8]) -> SyntaxFault {
+/// What groups that are open at the end of a side are refused for, by what stands there: where nothing else is at
+/// fault, the last of them that opens is.
+fn open_fault(line: &[u8], end: usize, groups: usize) -> SyntaxFault
+    requires { end ≤ length line.now }
+    ensures { IsLeftIn line.now result }
+{
+    let rest = &line[end..];
     match rest.first() {
-        Some(b'/') => SyntaxFault::StrayOperator,
-        Some(b'$') => SyntaxFault::AnchorInside,
-        _ => SyntaxFault::UnclosedGroup,
+        Some(b'/') => SyntaxFault::at(SyntaxKind::StrayOperator, rest),
+        Some(b'$') => SyntaxFault::at(SyntaxKind::AnchorInside, rest),
+        _ => {
+            let opening = &line[opening_of(line, groups)..];
+            SyntaxFault::at(SyntaxKind::UnclosedGroup, opening)
+        }
     }
+}
+
+/// How many bytes stand before the `(` that opens the innermost group, where so many groups are open at the end of a
+/// side: no later one leads from one group fewer to so many.
+fn opening_of(line: &[u8], groups: usize) -> usize
+    ensures { result ≤ length line.now }
+{
+    let mut opening = 0;
+    let mut depth: usize = 0;
+    let mut at = 0;
+    while !can_end(&line[at..]) {
+        let Ok((element, length)) = next_element(&line[at..]) else {
+            return opening;
+        };
+        match element {
+            Element::Opening => {
+                depth = depth.saturating_add(1);
+                if depth == groups {
+                    opening = at;
+                }
+            }
+            Element::Closing => depth = depth.saturating_sub(1),
+            _ => {}
+        }
+        at += length;
+    }
+    opening
 }
 
 /// Whether this is what may stand behind a pattern on its line.
@@ -127,7 +183,7 @@ fn with_element(
     level: Level,
     element: Element<'_>,
     names: &Names,
-) -> Result<Level, ReadFault>
+) -> Result<Level, StepFault>
     requires parts { ArePartsBelow (length arena.old) level }
     requires outer_parts { All (ArePartsBelow (length arena.old)) outer.old.items }
     requires formed { IsWellFormed element }
@@ -135,7 +191,7 @@ fn with_element(
     ensures outer_parts { OnOk result (All (ArePartsBelow (length arena.new)) outer.new.items) }
     ensures step { IfOk result (λ l. LeadsOn names.now element.entry (reading_of arena.old outer.old.items level)
         (reading_of arena.new outer.new.items l)) }
-    ensures refused { IfErr result (λ e. e ≢ OutOfMemory
+    ensures refused { IfErr result (λ e. e ≢ step.OutOfMemory
         → LeadsNowhere names.now element.entry (reading_of arena.old outer.old.items level)) }
 {
     match element {
@@ -148,7 +204,7 @@ fn with_element(
             Ok(level.with_atom(arena, atom)?)
         }
         Element::Name(name) => {
-            let number = names.find(name).ok_or(SyntaxFault::UnknownName)?;
+            let number = names.find(name).ok_or(SyntaxKind::UnknownName)?;
             let atom = arena.push(Node::Name(number))?;
             Ok(level.with_atom(arena, atom)?)
         }
@@ -160,43 +216,43 @@ fn with_element(
         Element::Bar => level.with_bar(arena),
         Element::Postfix(postfix) => level.with_postfix(arena, postfix),
         Element::Interval { least, most } => level.with_interval(arena, least, most),
-        Element::Mark(mark) => Err(ReadFault::Syntax(mark_fault(mark))),
+        Element::Mark(mark) => Err(StepFault::Syntax(mark_fault(mark))),
     }
 }
 
 /// What a mark is refused for where none may stand.
-fn mark_fault(mark: Mark) -> SyntaxFault {
+fn mark_fault(mark: Mark) -> SyntaxKind {
     match mark {
-        Mark::Caret | Mark::DollarSign => SyntaxFault::AnchorInside,
-        Mark::Slash => SyntaxFault::StrayOperator,
+        Mark::Caret | Mark::DollarSign => SyntaxKind::AnchorInside,
+        Mark::Slash => SyntaxKind::StrayOperator,
     }
 }
 
 /// The group round a group that ends, with that group as its next atom.
-fn close(arena: &mut Arena, outer: &mut Vec<Level>, level: Level) -> Result<Level, ReadFault>
+fn close(arena: &mut Arena, outer: &mut Vec<Level>, level: Level) -> Result<Level, StepFault>
     requires parts { ArePartsBelow (length arena.old) level }
     requires outer_parts { All (ArePartsBelow (length arena.old)) outer.old.items }
     ensures parts { IfOk result (ArePartsBelow (length arena.new)) }
     ensures outer_parts { OnOk result (All (ArePartsBelow (length arena.new)) outer.new.items) }
     ensures closed { IfOk result (λ l. closed (groups_of arena.old outer.old.items) (whole (group_of arena.old level))
         ≡ Some (reading_of arena.new outer.new.items l)) }
-    ensures refused { IfErr result (λ e. e ≢ OutOfMemory
+    ensures refused { IfErr result (λ e. e ≢ step.OutOfMemory
         → closed (groups_of arena.old outer.old.items) (whole (group_of arena.old level)) ≡ None) }
 {
     let Some(around) = outer.pop() else {
-        return Err(ReadFault::Syntax(SyntaxFault::StrayOperator));
+        return Err(StepFault::Syntax(SyntaxKind::StrayOperator));
     };
     let atom = level.whole(arena)?;
     Ok(around.with_atom(arena, atom)?)
 }
 
 /// Adds a string's bytes, one after another; `behind` is what stands behind its opening quote.
-fn push_string(arena: &mut Arena, behind: &[u8]) -> Result<usize, ReadFault>
+fn push_string(arena: &mut Arena, behind: &[u8]) -> Result<usize, StepFault>
     ensures within { IfOk result (λ n. n < length arena.new) }
     ensures grown { IsExtended arena.old arena.new }
     ensures string { IfOk result (λ n. (bs : List ℕ) × (rest : List ℕ) × Quoted behind.now bs rest
         × (part_of arena.new n ≡ in_order bs)) }
-    ensures refused { IfErr result (λ e. e ≢ OutOfMemory → BeginsNo Quoted behind.now) }
+    ensures refused { IfErr result (λ e. e ≢ step.OutOfMemory → BeginsNo Quoted behind.now) }
 {
     let Some((byte, mut at)) = quoted_byte(behind)? else {
         return Ok(arena.push(Node::Empty)?);

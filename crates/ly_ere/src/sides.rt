@@ -2,11 +2,12 @@ ghost use Rattle.std.specs.Prelude.{◌≢◌, ℕ, Option, length, ◌≤◌, I
 ghost use Rattle.ly_ere.specs.Expression.{Expression};
 ghost use Rattle.ly_ere.specs.Grammar.{Sides};
 ghost use Rattle.ly_ere.specs.Patterns.{HasFrontSides};
+ghost use Rattle.ly_ere.specs.Private.Faults.{IsLeftIn, IsReadIn};
 ghost use Rattle.ly_ere.specs.Private.Front.{CanEnd, IsFrontExpression, IsFrontTail, IsFrontTailed};
 ghost use Rattle.ly_ere.specs.Private.Sides.{sides_read};
 ghost use Rattle.ly_ere.specs.declared.fault.ReadFault.TheVariants.{OutOfMemory};
 
-use crate::fault::{ReadFault, SyntaxFault};
+use crate::fault::{EreFaultKind, ReadFault, SyntaxFault, SyntaxKind};
 use crate::front::behind_byte;
 use crate::names::Names;
 use crate::re::Re;
@@ -22,6 +23,33 @@ pub(crate) struct Uncut {
     pub(crate) head: Re,
     /// What has to follow the token, if anything.
     pub(crate) tail: Option<Re>,
+    /// How many bytes of the text stand before what follows the head.
+    pub(crate) head_end: usize,
+}
+
+impl Uncut {
+    /// Which byte is at fault where the sides have no cut: the `/` or the `$`, but the first of what is too heavy.
+    pub(crate) fn offset_of(&self, kind: EreFaultKind) -> usize
+        ensures { result ≤ self.now.head_end }
+    {
+        match kind {
+            EreFaultKind::TooHeavy => 0,
+            _ => self.head_end,
+        }
+    }
+}
+
+/// A head and what has to follow it.
+#[derive(Drop)]
+struct Tailed {
+    /// What the token is.
+    head: Re,
+    /// What has to follow the token, if anything.
+    tail: Option<Re>,
+    /// How many bytes the head takes.
+    head_length: usize,
+    /// How many bytes both take.
+    length: usize,
 }
 
 /// Reads the sides of the pattern at the front of a line, and answers how many bytes they take.
@@ -33,45 +61,46 @@ pub(crate) fn read_sides(
     ensures ok { IfOk result (λ found. HasFrontSides names.now line.now (sides_read found.0) found.1) }
     ensures refused { IfErr result (λ e. e ≢ OutOfMemory → (s : Sides) (n : ℕ) → HasFrontSides names.now line.now s n
         → ⊥) }
+    ensures head { IfOk result (λ found. found.0.head_end ≤ length line.now) }
+    ensures at { IfErr result (IsReadIn line.now) }
 {
     if let Some(rest) = behind_byte(line, b'^') {
-        let (head, tail, length) = read_tailed(alloc, rest, names)?;
-        let line_start = true;
-        return Ok((
-            Uncut {
-                line_start,
-                head,
-                tail,
-            },
-            length + 1,
-        ));
+        let found = read_tailed(alloc, rest, names)?;
+        let sides = Uncut {
+            line_start: true,
+            head: found.head,
+            tail: found.tail,
+            head_end: found.head_length + 1,
+        };
+        return Ok((sides, found.length + 1));
     }
-    let (head, tail, length) = read_tailed(alloc, line, names)?;
-    let line_start = false;
-    Ok((
-        Uncut {
-            line_start,
-            head,
-            tail,
-        },
-        length,
-    ))
+    let found = read_tailed(alloc, line, names)?;
+    let sides = Uncut {
+        line_start: false,
+        head: found.head,
+        tail: found.tail,
+        head_end: found.head_length,
+    };
+    Ok((sides, found.length))
 }
 
-/// Reads a head and what has to follow it, and answers how many bytes they take.
-fn read_tailed(
-    alloc: Global,
-    line: &[u8],
-    names: &Names,
-) -> Result<(Re, Option<Re>, usize), ReadFault>
-    ensures within { IfOk result (λ found. found.2 ≤ length line.now) }
-    ensures ok { IfOk result (λ found. IsFrontTailed names.now line.now found.0 found.1 found.2) }
+/// Reads a head and what has to follow it.
+fn read_tailed(alloc: Global, line: &[u8], names: &Names) -> Result<Tailed, ReadFault>
+    ensures within { IfOk result (λ found. found.length ≤ length line.now) }
+    ensures head { IfOk result (λ found. found.head_length ≤ length line.now) }
+    ensures ok { IfOk result (λ found. IsFrontTailed names.now line.now found.head found.tail found.length) }
     ensures refused { IfErr result (λ e. e ≢ OutOfMemory → (head : Expression) (tail : Option Expression) (n : ℕ)
         → IsFrontTailed names.now line.now head tail n → ⊥) }
+    ensures at { IfErr result (IsReadIn line.now) }
 {
     let (head, at) = read_expression(alloc, line, names)?;
     let (tail, length) = read_tail(alloc, &line[at..], names)?;
-    Ok((head, tail, at + length))
+    Ok(Tailed {
+        head,
+        tail,
+        head_length: at,
+        length: at + length,
+    })
 }
 
 /// Reads what stands behind a head: nothing, `$`, or `/` and a tail.
@@ -81,6 +110,7 @@ fn read_tail(alloc: Global, line: &[u8], names: &Names) -> Result<(Option<Re>, u
     ensures ok { IfOk result (λ found. IsFrontTail names.now line.now found.0 found.1) }
     ensures refused { IfErr result (λ e. e ≢ OutOfMemory → (tail : Option Expression) (n : ℕ)
         → IsFrontTail names.now line.now tail n → ⊥) }
+    ensures at { IfErr result (IsReadIn line.now) }
 {
     if is_behind(line) {
         return Ok((None, 0));
@@ -93,15 +123,18 @@ fn read_tail(alloc: Global, line: &[u8], names: &Names) -> Result<(Option<Re>, u
         return Ok((Some(tail), length + 1));
     }
     if !is_behind(&line[1..]) {
-        return Err(ReadFault::Syntax(SyntaxFault::AnchorInside));
+        return Err(ReadFault::Syntax(SyntaxFault::at(SyntaxKind::AnchorInside, line)));
     }
     Ok((Some(Re::of_byte(alloc, b'\n')?), 1))
 }
 
 /// What a `/` or `$` behind a tail is refused for: a `$` that isn't at the end is an anchor inside.
-fn second_fault(rest: &[u8]) -> SyntaxFault {
-    match behind_byte(rest, b'$') {
-        Some(behind) if !is_behind(behind) => SyntaxFault::AnchorInside,
-        _ => SyntaxFault::TrailingTwice,
-    }
+fn second_fault(rest: &[u8]) -> SyntaxFault
+    ensures { IsLeftIn rest.now result }
+{
+    let kind = match behind_byte(rest, b'$') {
+        Some(behind) if !is_behind(behind) => SyntaxKind::AnchorInside,
+        _ => SyntaxKind::TrailingTwice,
+    };
+    SyntaxFault::at(kind, rest)
 }

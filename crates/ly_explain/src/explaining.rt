@@ -18,7 +18,7 @@ use ly_lexread::LexFile;
 use ly_lr0::{Lr0, automaton};
 use ly_minim::minimise;
 use ly_page::{Named, Page};
-use ly_refused::{indented_lines, known_conditions, say_faults};
+use ly_refused::{indented_lines, say_faults};
 use ly_resolve::Resolved;
 use ly_subset::Dfa;
 use std::alloc::Global;
@@ -153,7 +153,6 @@ fn told(
     requires { IsBreadthFirst read.dfa.now }
     ensures { IfOk result (λ e. e.accepted ≡ true) }
 {
-    let conditions = known_conditions(alloc, read.lex.bytes)?;
     let indented = indented_lines(alloc, read.lex.bytes)?;
     let files = Accepted {
         lex: read.lex,
@@ -164,5 +163,5 @@ fn told(
         resolved,
         indented: &indented,
     };
-    survey(alloc, files, &conditions, tables, wish)
+    survey(alloc, files, tables, wish)
 }

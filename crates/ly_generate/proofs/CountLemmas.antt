@@ -14,10 +14,10 @@ use Rattle.ly_lexread.specs.declared.file.LexFile.{LexFile}
 use Rattle.ly_yaccread.specs.File.{Written}
 
 rules_said : {cs : List Condition} {names : List Definition} {text : List ℕ} {rules : List Rule}
-    {sayings : List Saying} → Rules cs names text rules sayings → length rules ≡ length sayings
+    {sayings : List Saying} {lefts : List ℕ} → Rules cs names text rules sayings lefts → length rules ≡ length sayings
 rules_said (end text over) = refl
-rules_said (skip text rest rules sayings skips more) = rules_said more
-rules_said (rule text rest r s rules sayings before more) = ap suc (rules_said more)
+rules_said (skip text rest rules sayings lefts skips more) = rules_said more
+rules_said (rule text rest r s rules sayings lefts before more) = ap suc (rules_said more)
 
 sayings_done : (ss : List Saying) (es : List Effect) → AreEffects ss es → length ss ≡ length es
 sayings_done [] [] h = refl

@@ -159,7 +159,7 @@ module _ (limits : Sizes) (lex yacc : List ℕ) (s : Spec) (is : Specifies limit
 
   not_refused : (useful : Grammar) → IsFit limits s useful → (fault : GenFault) → fault ≢ OutOfMemory
       → IsRefusedFor limits lex yacc fault → ⊥
-  not_refused useful fit (Lex f) some (memory, read)
+  not_refused useful fit (Lex f) some (memory, read, place)
       = read.refused memory (λ heavy. read.none_light heavy is.file is.lex_text is.light) is.file is.lex_text
   not_refused useful fit (Yacc f) some none = none is.written is.yacc_text
   not_refused useful fit (Join f) some (memory, file, w, text, yacc_text, fault) =

@@ -1,5 +1,5 @@
 -- Which lex file and yacc file are accepted, and what a refusal says of them.
-use Rattle.std.specs.Prelude.{◌≡◌, ◌≢◌, ◌≤◌, ℕ, List, [], Err, option_map, slice_get, unwrap_or}
+use Rattle.std.specs.Prelude.{length, ◌≡◌, ◌≢◌, ◌≤◌, ℕ, List, [], Err, option_map, slice_get, unwrap_or}
 use Rattle.ly_base.specs.Limits.{Sizes}
 use Rattle.ly_base.specs.Trees.{Tree}
 use Rattle.ly_ere.specs.Names.{defined}
@@ -13,6 +13,7 @@ use Rattle.ly_join.specs.declared.fault.JoinFault.TheVariants as join_fault
 use Rattle.ly_join.specs.Grammar.{Grammar, nonterminal}
 use Rattle.ly_join.specs.Joined.{Joined, Spec}
 use Rattle.ly_join.specs.Scanning.{scanning_of}
+use Rattle.ly_lexread.specs.Faults.{IsAtMost}
 use Rattle.ly_lexread.specs.LexText.{IsLight, IsRead, LexText}
 use Rattle.ly_lexread.specs.declared.fault.LexFault.TheVariants as lex_fault
 use Rattle.ly_lexread.specs.declared.file.LexFile.{LexFile}
@@ -92,7 +93,7 @@ IsUnfitFor limits s _ = ⊥
 -- what a fault says of the bytes of the files; want of memory says nothing
 abbrev pub IsRefusedFor : Sizes → List ℕ → List ℕ → GenFault → Type 0
 IsRefusedFor limits lex yacc (Lex fault) = (fault ≢ lex_fault.OutOfMemory)
-    × IsRead limits.pattern_weight lex (Err fault)
+    × IsRead limits.pattern_weight lex (Err fault) × IsAtMost (length lex) fault
 IsRefusedFor limits lex yacc (Yacc fault) = (w : Written) → YaccText yacc w → ⊥
 IsRefusedFor limits lex yacc (Join fault) = (fault ≢ join_fault.OutOfMemory)
     × (file : LexFile) × (w : Written) × LexText lex file × YaccText yacc w

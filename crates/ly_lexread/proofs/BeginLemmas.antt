@@ -69,10 +69,10 @@ module _ (cs : List Condition) (some : 0 < length cs) where
   say_cons next ss one all = all
 
   rules_below : {names : List Definition} {text : List ℕ} {rules : List Rule} {sayings : List Saying}
-      → Rules cs names text rules sayings → SayBelow (length cs) sayings
+      {lefts : List ℕ} → Rules cs names text rules sayings lefts → SayBelow (length cs) sayings
   rules_below (end text over) = tt
-  rules_below (skip text rest rules sayings skips later) = rules_below later
-  rules_below (rule text rest r s rules sayings before later)
+  rules_below (skip text rest rules sayings lefts skips later) = rules_below later
+  rules_below (rule text rest r s rules sayings lefts before later)
       = say_cons s sayings (saying_below before.says) (rules_below later)
 
 effects_below : (n : ℕ) (ss : List Saying) (es : List Effect) → AreEffects ss es → SayBelow n ss → AreBelow n es

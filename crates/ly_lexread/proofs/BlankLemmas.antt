@@ -86,20 +86,6 @@ pub no_next_name : (text behind n m rest : List ℕ) → BlanksBefore text behin
 no_next_name text behind n m rest b none c h
     = none n rest (subst (λ i. NameBefore Lex i n rest) (blanks_one text m behind c b) h)
 
-pub next_name_in : (text behind : List ℕ) (o : Option (Bor (List ℕ) × Bor (List ℕ))) → BlanksBefore text behind
-    → MatchOption o ((n rest : List ℕ) → NameBefore Lex behind n rest → ⊥)
-    (λ found. NameBefore Lex behind found.0.now found.1.now)
-    → MatchOption o ((m n rest : List ℕ) → BlanksBefore text m → NameBefore Lex m n rest → ⊥)
-    (λ found. (m : List ℕ) × BlanksBefore text m × NameBefore Lex m found.0.now found.1.now)
-next_name_in text behind None b h = λ m n rest. no_next_name text behind n m rest b h
-next_name_in text behind (Some found) b h = (behind, b, h)
-
-pub no_name_at_all : (text : List ℕ) (o : Option (Bor (List ℕ) × Bor (List ℕ))) → o ≡ None
-    → ((rest : List ℕ) → BlanksBefore text rest → ⊥)
-    → MatchOption o ((m n rest : List ℕ) → BlanksBefore text m → NameBefore Lex m n rest → ⊥)
-    (λ found. (m : List ℕ) × BlanksBefore text m × NameBefore Lex m found.0.now found.1.now)
-no_name_at_all text o e none = rw e (λ m n rest b h. none m b)
-
 -- no digits behind the blanks
 pub no_number : (text number : List ℕ) → BlanksBefore text number
     → ((digits rest : List ℕ) → DigitsBefore number digits rest → ⊥) → IsNumber text → ⊥

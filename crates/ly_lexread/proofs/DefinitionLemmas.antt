@@ -1,8 +1,8 @@
 -- The definitions are determined.
-use Rattle.std.proofs.Common.{◌≡◌, ◌≢◌, ℕ, List, [], refl, sym, ap, ◌∙◌, subst, drop}
+use Rattle.std.proofs.Common.{◌≡◌, ◌≢◌, ℕ, List, [], refl, sym, ap, ◌∙◌, subst, drop, length}
 use Rattle.ly_base.proofs.GapLemmas.{comment_one}
 use Rattle.ly_lexread.specs.Definitions.{CommentEnds, Definitions, LineSays, Preamble, Says, mark, more}
-use Rattle.ly_lexread.specs.Lines.{BlockEnds, LineBefore, kind_of}
+use Rattle.ly_lexread.specs.Lines.{BlockEnds, LineBefore, kind_of, left_in}
 use Rattle.ly_lexread.specs.Private.Definitions.{Adds, Ends}
 use Rattle.ly_lexread.specs.declared.kind.LineKind.{LineKind}
 use Rattle.ly_lexread.specs.declared.kind.LineKind.TheVariants.{Mark, Unused, Block, Comment, Directive, Plain}
@@ -28,11 +28,11 @@ line_says_one Unused p q r text line behind u v a b = (a.0 ∙ sym b.0, a.1 ∙ 
 line_says_one Block p q r text line behind u v a b = (a.0 ∙ sym b.0, block_one behind u v a.1 b.1)
 line_says_one Comment p q r text line behind u v a b = (a.0 ∙ sym b.0, comment_ends_one text u v a.1 b.1)
 line_says_one Directive p q r text line behind u v a b = (
-  preamble_of_parts q r (directive_one p.conditions q.conditions r.conditions line a.2 b.2) (a.1 ∙ sym b.1),
+  preamble_of_parts q r (directive_one (left_in text line) p.conditions q.conditions r.conditions line a.2 b.2) (a.1 ∙ sym b.1),
   a.0 ∙ sym b.0,
 )
 line_says_one Plain p q r text line behind u v a b = (
-  preamble_of_parts q r (a.1 ∙ sym b.1) (definition_one p.definitions line q.definitions r.definitions a.2 b.2),
+  preamble_of_parts q r (a.1 ∙ sym b.1) (definition_one (length text) p.definitions line q.definitions r.definitions a.2 b.2),
   a.0 ∙ sym b.0,
 )
 
@@ -51,7 +51,7 @@ says_back p q text line behind rest k b e h =
 
 -- what a line says, by what is said behind it and what is left
 pub says_both : (k : LineKind) (p q : Preamble) (text line behind rest : List ℕ) → Ends k text behind rest
-    → Adds k p line q → LineSays k p text line behind q rest
+    → Adds k p text line q → LineSays k p text line behind q rest
 says_both Mark p q text line behind rest e a = absurd e
 says_both Unused p q text line behind rest e a = (a, e)
 says_both Block p q text line behind rest e a = (a, e)
@@ -69,7 +69,7 @@ says_ends Directive p q text line behind rest h = h.0
 says_ends Plain p q text line behind rest h = h.0
 
 pub says_adds : (k : LineKind) (p q : Preamble) (text line behind rest : List ℕ)
-    → LineSays k p text line behind q rest → Adds k p line q
+    → LineSays k p text line behind q rest → Adds k p text line q
 says_adds Mark p q text line behind rest h = absurd h
 says_adds Unused p q text line behind rest h = h.0
 says_adds Block p q text line behind rest h = h.0

@@ -1,5 +1,5 @@
 -- What a lex file says is determined.
-use Rattle.std.proofs.Common.{◌≡◌, ◌<◌, ◌+◌, ℕ, zero, suc, Some, None, List, [], ◌∷◌, ◌++◌, Bool, true, false, refl}
+use Rattle.std.proofs.Common.{◌≡◌, ◌<◌, ◌+◌, ◌-◌, ℕ, zero, suc, Some, None, List, [], ◌∷◌, ◌++◌, Bool, true, false, refl}
 use Rattle.std.proofs.Common.{sym}
 use Rattle.std.proofs.Common.{◌∙◌, ap, subst, length, map, arith, inl, inr, length-append, ◌⊎◌, cond, ltb}
 use Rattle.std.proofs.lemmas.Bool.Decides.{nat_tests}
@@ -23,14 +23,17 @@ use Rattle.ly_lexread.specs.Conditions.{Condition, inclusive_from}
 use Rattle.ly_lexread.specs.Definitions.{at_first, DeclaresAll, Definitions, Directs, LineSays, Preamble, directive_of}
 use Rattle.ly_lexread.specs.Definitions.{mark, more}
 use Rattle.ly_lexread.specs.Definitions as declared
-use Rattle.ly_lexread.specs.Lines.{kind_of}
+use Rattle.ly_lexread.specs.Lines.{kind_of, left_in}
 use Rattle.ly_lexread.specs.declared.directive.Directed.{Directed}
 use Rattle.ly_lexread.specs.declared.directive.Directed.TheVariants.{Inclusive, Exclusive, Size, TextKind, Unknown}
 use Rattle.ly_lexread.specs.declared.kind.LineKind.{LineKind}
 use Rattle.ly_lexread.specs.declared.kind.LineKind.TheVariants.{Mark, Unused, Block, Comment, Directive, Plain}
-use Rattle.ly_lexread.specs.LexText.{AreSameActions, AreSameRules, LexText, LexTextIsOne}
+use Rattle.ly_lexread.specs.LexText.{AreSameActions, AreSameRules, LexText, LexTextIsOne, conditions_in, said_of}
 use Rattle.ly_lexread.specs.Names.{AreDefinitions}
-use Rattle.ly_lexread.specs.Private.File.{IsBehind, IsFileOf}
+use Rattle.ly_lexread.specs.Private.File.{IsBehind, IsFileOf, IsStatedIn}
+use Rattle.ly_lexread.specs.Private.Rules.{AreRulesAt}
+use Rattle.ly_lexread.specs.declared.read.Stated.{Stated}
+use Rattle.ly_lexread.specs.declared.rules.Section.{Section}
 use Rattle.ly_lexread.specs.Rules.{ActiveBefore, ConditionBefore, Listed, RuleBefore, Rules, end, rule, skip}
 use Rattle.ly_lexread.specs.Rules as listing
 use Rattle.ly_lexread.proofs.DefinitionLemmas.{definitions_one}
@@ -58,20 +61,21 @@ same_actions (a ∷ as') (b ∷ bs) e =
     tails x y xs ys f = cc
 
 pub rules_one : (cs : List Condition) (names : List Definition) (text : List ℕ) (rs ss : List Rule)
-    (xs ys : List Saying)
-    → Rules cs names text rs xs → Rules cs names text ss ys → AreSameRules rs ss × (xs ≡ ys)
-rules_one cs names text rs ss xs ys (end _ o) d =
-    let e = over_none cs names text ss ys o d in
-    (subst (AreSameRules []) (sym e.0) tt, sym e.1)
-rules_one cs names text rs ss xs ys (skip _ u _ _ h c) d
-    = rules_one cs names u rs ss xs ys c (rules_skip cs names text u ss ys h d)
-rules_one cs names text rs ss xs ys (rule _ u r s ps qs b c) d =
-    let f = in_front cs names text ss ys (rules_begin cs names text u r s b) d in
+    (xs ys : List Saying) (ls ms : List ℕ)
+    → Rules cs names text rs xs ls → Rules cs names text ss ys ms → AreSameRules rs ss × (xs ≡ ys) × (ls ≡ ms)
+rules_one cs names text rs ss xs ys ls ms (end _ o) d =
+    let e = over_none cs names text ss ys ms o d in
+    (subst (AreSameRules []) (sym e.0) tt, sym e.1, sym e.2)
+rules_one cs names text rs ss xs ys ls ms (skip _ u _ _ _ h c) d
+    = rules_one cs names u rs ss xs ys ls ms c (rules_skip cs names text u ss ys ms h d)
+rules_one cs names text rs ss xs ys ls ms (rule _ u r s ps qs ns b c) d =
+    let f = in_front cs names text ss ys ms (rules_begin cs names text u r s b) d in
     let same = rule_one cs names text u f.behind r f.one s f.saying b f.reads in
-    let rest = rules_one cs names u ps f.more qs f.sayings c
-    (subst (λ i. Rules cs names i f.more f.sayings) (sym same.2) f.rest) in (
+    let rest = rules_one cs names u ps f.more qs f.sayings ns f.lefts c
+    (subst (λ i. Rules cs names i f.more f.sayings f.lefts) (sym same.2) f.rest) in (
       subst (AreSameRules (r ∷ ps)) (sym f.these) (same.0.pattern, same.0.active, rest.0),
       cons same.1 rest.1 ∙ sym f.those,
+      ap (λ i. length text ∷ i) rest.2 ∙ sym f.left,
     )
   where
     cons : {x y : Saying} {zs ws : List Saying} → x ≡ y → zs ≡ ws → x ∷ zs ≡ y ∷ ws
@@ -79,32 +83,37 @@ rules_one cs names text rs ss xs ys (rule _ u r s ps qs b c) d =
 
 -- rules that are read behind the same definitions, under the same names
 pub rules_under : (p q : Preamble) (text rest : List ℕ) (names others : List Definition) (rules : List Rule)
-    (sayings : List Saying) → p ≡ q → text ≡ rest → names ≡ others → Rules p.conditions names text rules sayings
-    → Rules q.conditions others rest rules sayings
-rules_under p q text rest names others rules sayings same behind are r =
-    subst (λ i. Rules q.conditions i rest rules sayings) are
-    (subst (λ i. Rules q.conditions names i rules sayings) behind
-    (subst (λ i. Rules i.conditions names text rules sayings) same r))
+    (sayings : List Saying) (lefts : List ℕ) → p ≡ q → text ≡ rest → names ≡ others
+    → Rules p.conditions names text rules sayings lefts → Rules q.conditions others rest rules sayings lefts
+rules_under p q text rest names others rules sayings lefts same behind are r =
+    subst (λ i. Rules q.conditions i rest rules sayings lefts) are
+    (subst (λ i. Rules q.conditions names i rules sayings lefts) behind
+    (subst (λ i. Rules i.conditions names text rules sayings lefts) same r))
 
 -- a file behind definitions has their names, and rules under these
-pub behind_rules : (all : Preamble) (behind : List ℕ) (file : LexFile) (is : IsBehind all behind file)
+pub behind_rules : (whole : ℕ) (all : Preamble) (behind : List ℕ) (file : LexFile) (is : IsBehind whole all behind file)
     (names : List Definition) → AreDefinitions all.definitions names
-    → (file.names ≡ names) × Rules all.conditions names behind file.rules.items is.sayings
-behind_rules all behind file is names are =
+    → (file.names ≡ names) × Rules all.conditions names behind file.rules.items is.sayings is.lefts
+behind_rules whole all behind file is names are =
     let one = definitions_are_one all.definitions file.names names is.names are in
-    (one, subst (λ i. Rules all.conditions i behind file.rules.items is.sayings) one is.rules)
+    (one, subst (λ i. Rules all.conditions i behind file.rules.items is.sayings is.lefts) one is.rules)
 
 -- the file of definitions and rules that are read
-pub file_behind : (all : Preamble) (behind : List ℕ) (names : List Definition) (rules : List Rule)
-    (sayings : List Saying) (conditions : ℕ) (file : LexFile) → IsFileOf names rules sayings conditions file
-    → AreDefinitions all.definitions names → Rules all.conditions names behind rules sayings
-    → conditions ≡ length all.conditions → IsBehind all behind file
-file_behind all behind names rules sayings conditions file of are read count = record {
+pub file_behind : (whole : ℕ) (all : Preamble) (behind : List ℕ) (names : List Definition) (section : Section)
+    (sayings : List Saying) (stated : Stated) (file : LexFile) → IsFileOf names section sayings stated file
+    → AreDefinitions all.definitions names
+    → AreRulesAt whole all.conditions names behind section.rules.items sayings section.starts.items
+    → IsStatedIn whole all stated → IsBehind whole all behind file
+file_behind whole all behind names section sayings stated file of are read states = record {
   names = rw of.names_are are;
   sayings = sayings;
-  rules = rw (of.names_are, of.rules_are) read;
+  lefts = read.0;
+  rules = rw (of.names_are, of.rules_are) read.1;
   effects = of.effects;
-  conditions = of.count ∙ count;
+  conditions = of.count ∙ states.conditions;
+  start_conditions = ap (λ v. map said_of v.items) of.conditions_are ∙ states.start_conditions;
+  rule_starts = ap (λ v. v.items) of.starts_are ∙ read.2;
+  definition_starts = ap (λ v. v.items) of.definitions_are ∙ states.starts;
 }
 
 -- what definitions that are read say of the names of a text
@@ -117,30 +126,35 @@ module _ (bytes : List ℕ) (all : Preamble) (behind : List ℕ) (definitions : 
   text_names = subst (λ i. AreDefinitions i.definitions file.names) same.0 text.names
 
   pub text_rules : (names : List Definition) → AreDefinitions all.definitions names → (file.names ≡ names)
-      × Rules all.conditions names behind file.rules.items text.sayings
+      × Rules all.conditions names behind file.rules.items text.sayings text.lefts
   text_rules names are =
       let one = definitions_are_one all.definitions file.names names text_names are in (
         one,
-        rules_under text.all all text.behind behind file.names names file.rules.items text.sayings same.0 same.1
-            one text.rules,
+        rules_under text.all all text.behind behind file.names names file.rules.items text.sayings text.lefts same.0
+            same.1 one text.rules,
       )
 
   -- and of all else that it says
-  pub text_behind : IsBehind all behind file
+  pub text_behind : IsBehind (length bytes) all behind file
   text_behind = record {
     names = text_names;
     sayings = text.sayings;
+    lefts = text.lefts;
     rules = (text_rules file.names text_names).1;
     effects = text.effects;
     conditions = text.conditions ∙ ap (λ i. length i.conditions) same.0;
+    start_conditions = text.start_conditions ∙ ap (λ i. conditions_in (length bytes) i.conditions) same.0;
+    rule_starts = text.rule_starts;
+    definition_starts = text.definition_starts ∙ ap (λ i. map (λ d. length bytes - d.1.1) i.definitions) same.0;
   }
 
 pub lex_text_one : LexTextIsOne
 lex_text_one bytes f g a b =
     let first = definitions_one at_first a.all b.all bytes a.behind b.behind a.definitions b.definitions in
     let there = text_rules bytes b.all b.behind b.definitions f a g.names b.names in
-    let rules = rules_one b.all.conditions g.names b.behind f.rules.items g.rules.items a.sayings b.sayings there.1
-    b.rules in
+    let rules = rules_one b.all.conditions g.names b.behind f.rules.items g.rules.items a.sayings b.sayings a.lefts
+    b.lefts there.1 b.rules in
+    let many = length bytes in
     record {
       names = there.0;
       rules = rules.0;
@@ -149,6 +163,11 @@ lex_text_one bytes f g a b =
           (subst (λ i. Rattle.ly_lexread.specs.Action.AreEffects i (map effect_of f.actions.items)) rules.1 a.effects)
           b.effects);
       conditions = a.conditions ∙ ap (λ i. length i.conditions) first.0 ∙ sym b.conditions;
+      start_conditions = a.start_conditions ∙ ap (λ i. conditions_in many i.conditions) first.0
+          ∙ sym b.start_conditions;
+      rule_starts = a.rule_starts ∙ ap (map (λ n. many - n)) rules.2 ∙ sym b.rule_starts;
+      definition_starts = a.definition_starts ∙ ap (λ i. map (λ d. many - d.1.1) i.definitions) first.0
+          ∙ sym b.definition_starts;
     }
 
 -- What holds of each rule of a lex file: it has the cut of its sides, and is active in conditions of the file.
@@ -198,7 +217,7 @@ with_one false n m ns less h c i = by (Contains-append_cases (n ∷ []) ns c i)
 
 inclusive_below : (n : ℕ) (cs : List Condition) → AreBelow (n + length cs) (inclusive_from n cs)
 inclusive_below n [] c i = absurd (Contains-none c i)
-inclusive_below n (d ∷ cs) c i = with_one d.1 n (n + length (d ∷ cs)) (inclusive_from (n + 1) cs) (omega arith)
+inclusive_below n (d ∷ cs) c i = with_one d.1.0 n (n + length (d ∷ cs)) (inclusive_from (n + 1) cs) (omega arith)
     (λ k j. let less = inclusive_below (n + 1) cs k j in omega (arith, less)) c i
 
 active_below : (cs : List Condition) (line active rest : List ℕ) → 0 < length cs → ActiveBefore cs line active rest
@@ -210,18 +229,19 @@ active_below cs line active rest some (inr h) = λ c i.
     let less = inclusive_below 0 cs c (subst (λ ns. Contains ns c) h.1 i) in
     omega (arith, less)
 
-rule_of : (cs : List Condition) (names : List Definition) (text : List ℕ) (rs : List Rule) (ss : List Saying) (i : ℕ)
-    (r : Rule) → 0 < length cs → Rules cs names text rs ss → slice_get rs i ≡ Some r → IsOfFile names (length cs) r
-rule_of cs names text rs ss i r some (end _ o) e = absurd (cc)
-rule_of cs names text rs ss i r some (skip _ u _ _ h d) e = rule_of cs names u rs ss i r some d e
-rule_of cs names text rs ss zero r some (rule _ u q s ps qs b d) e =
+rule_of : (cs : List Condition) (names : List Definition) (text : List ℕ) (rs : List Rule) (ss : List Saying)
+    (ls : List ℕ) (i : ℕ) (r : Rule) → 0 < length cs → Rules cs names text rs ss ls → slice_get rs i ≡ Some r
+    → IsOfFile names (length cs) r
+rule_of cs names text rs ss ls i r some (end _ o) e = absurd (cc)
+rule_of cs names text rs ss ls i r some (skip _ u _ _ _ h d) e = rule_of cs names u rs ss ls i r some d e
+rule_of cs names text rs ss ls zero r some (rule _ u q s ps qs ns b d) e =
     let same : q ≡ r = cc e in
     subst (IsOfFile names (length cs)) same (record {
       is_cut = b.is_pattern.is_pattern.is_cut;
       some_head = b.is_pattern.is_pattern.some_head;
       active = active_below cs b.line.line q.active.items b.body some b.line.is_active;
     })
-rule_of cs names text rs ss (suc i) r some (rule _ u q s ps qs b d) e = rule_of cs names u ps qs i r some d e
+rule_of cs names text rs ss ls (suc i) r some (rule _ u q s ps qs ns b d) e = rule_of cs names u ps qs ns i r some d e
 
 -- there is a condition
 pub some_condition : (p q : Preamble) (text rest : List ℕ) → 0 < length p.conditions → Definitions p text q rest
@@ -230,24 +250,26 @@ some_condition p q text rest some (mark _ _ l _ b k) = some
 some_condition p q text rest some (more _ s _ _ u _ h d)
     = some_condition s q u rest (said (kind_of h.0) h.3) d
   where
-    all : (x : Bool) (cs ds : List Condition) (t : List ℕ) → 0 < length cs → DeclaresAll x cs t ds → 0 < length ds
-    all x cs ds t a (declared.end _ _ p) = a
-    all x cs ds t a (declared.more _ _ _ v n w c e f g)
-        = all x (cs ++ (n, x) ∷ []) ds w (omega (arith, a, length-append cs ((n, x) ∷ []))) g
+    all : (x : Bool) (left : List ℕ → ℕ) (cs ds : List Condition) (t : List ℕ) → 0 < length cs
+        → DeclaresAll x left cs t ds → 0 < length ds
+    all x left cs ds t a (declared.end _ _ p) = a
+    all x left cs ds t a (declared.more _ _ _ v n w c e f g) = all x left (cs ++ (n, (x, left v)) ∷ []) ds w
+        (omega (arith, a, length-append cs ((n, (x, left v)) ∷ []))) g
 
-    directed : (d : Directed) (cs ds : List Condition) (t : List ℕ) → 0 < length cs → Directs d cs t ds → 0 < length ds
-    directed Inclusive cs ds t a h = all false cs ds t a h.1
-    directed Exclusive cs ds t a h = all true cs ds t a h.1
-    directed Size cs ds t a h = omega (arith, a, ap length h.0)
-    directed TextKind cs ds t a h = omega (arith, a, ap length h.0)
-    directed Unknown cs ds t a h = absurd h.1
+    directed : (d : Directed) (left : List ℕ → ℕ) (cs ds : List Condition) (t : List ℕ) → 0 < length cs
+        → Directs d left cs t ds → 0 < length ds
+    directed Inclusive left cs ds t a h = all false left cs ds t a h.1
+    directed Exclusive left cs ds t a h = all true left cs ds t a h.1
+    directed Size left cs ds t a h = omega (arith, a, ap length h.0)
+    directed TextKind left cs ds t a h = omega (arith, a, ap length h.0)
+    directed Unknown left cs ds t a h = absurd h.1
 
     said : (k : LineKind) → LineSays k p text h.0 h.1 s u → 0 < length s.conditions
     said Mark g = absurd g
     said Unused g = omega (arith, some, ap (λ i. length i.conditions) g.0)
     said Block g = omega (arith, some, ap (λ i. length i.conditions) g.0)
     said Comment g = omega (arith, some, ap (λ i. length i.conditions) g.0)
-    said Directive g = directed (directive_of g.2.word) p.conditions s.conditions g.2.rest some g.2.directs
+    said Directive g = directed (directive_of g.2.word) (left_in text h.0) p.conditions s.conditions g.2.rest some g.2.directs
     said Plain g = omega (arith, some, ap length g.1)
 
 pub rules_of : (bytes : List ℕ) (file : LexFile) → LexText bytes file → (i : ℕ) (r : Rule)
@@ -255,7 +277,7 @@ pub rules_of : (bytes : List ℕ) (file : LexFile) → LexText bytes file → (i
 rules_of bytes file text i r e =
     let some = some_condition at_first text.all bytes text.behind (omega arith) text.definitions in
     subst (λ n. IsOfFile file.names n r) (sym text.conditions)
-    (rule_of text.all.conditions file.names text.behind file.rules.items text.sayings i r some text.rules e)
+    (rule_of text.all.conditions file.names text.behind file.rules.items text.sayings text.lefts i r some text.rules e)
 
 -- each cut tells the truth
 pub rules_cut : (bytes : List ℕ) (file : LexFile) → LexText bytes file → AreCut (defined file.names) file.rules.items

@@ -26,7 +26,7 @@ use Rattle.ly_ere.specs.Names.{Definition}
 use Rattle.ly_ere.specs.Patterns.{IsBehind}
 use Rattle.ly_ere.proofs.ExtentLemmas.{extent_one}
 use Rattle.ly_ere.proofs.PlaceLemmas.{names_one}
-use Rattle.ly_lexread.specs.Definitions.{BlanksBefore, DefinesName, DefinitionLine, defined_names}
+use Rattle.ly_lexread.specs.Definitions.{BlanksBefore, DefinedLine, DefinesName, DefinitionLine, defined_names}
 use Rattle.ly_lexread.specs.Names.{AreDefinitions, AreTextsOf, IsTextOf}
 use Rattle.ly_lexread.specs.Private.Names.{AreApart, AreCut, AreExtents, IsExtentOf, parts_of}
 use Rattle.ly_lexread.specs.declared.names.NameTexts.{NameTexts}
@@ -45,19 +45,19 @@ text_one behind t u a b = extent_one a.spelled b.spelled a.blanks b.blanks (blan
 defined_text : (t u : DefinedText) → t.name ≡ u.name → t.text ≡ u.text → t ≡ u
 defined_text t u a b = λ i. record { name = a i; text = b i }
 
-pub texts_one : (ds : List (List ℕ × List ℕ)) (ts us : List DefinedText) → AreTextsOf ds ts → AreTextsOf ds us → ts ≡ us
+pub texts_one : (ds : List DefinedLine) (ts us : List DefinedText) → AreTextsOf ds ts → AreTextsOf ds us → ts ≡ us
 texts_one [] [] [] a b = refl
 texts_one [] [] (u ∷ us) a b = absurd b
 texts_one [] (t ∷ ts) us a b = absurd a
 texts_one (d ∷ ds) [] us a b = absurd a
 texts_one (d ∷ ds) (t ∷ ts) [] a b = absurd b
 texts_one (d ∷ ds) (t ∷ ts) (u ∷ us) a b =
-    let one : t ≡ u = defined_text t u (a.0 ∙ sym b.0) (text_one d.1 t.text u.text a.1 b.1) in
+    let one : t ≡ u = defined_text t u (a.0 ∙ sym b.0) (text_one d.1.0 t.text u.text a.1 b.1) in
     let more : ts ≡ us = texts_one ds ts us a.2 b.2 in
     cc
 
 -- names are defined in one way
-pub definitions_are_one : (ds : List (List ℕ × List ℕ)) (names others : List Definition) → AreDefinitions ds names
+pub definitions_are_one : (ds : List DefinedLine) (names others : List Definition) → AreDefinitions ds names
     → AreDefinitions ds others → names ≡ others
 definitions_are_one ds names others a b = names_one a.0 names others a.2
     (subst (λ ts. AreNames ts others) (sym (texts_one ds a.0 b.0 a.1 b.1)) b.2)
@@ -68,20 +68,21 @@ defines_one line n m t u a b =
     let same = name_one Lex line n m a.0 b.0 a.1 b.1 in
     (same.0, blanks_one b.0 t u (subst (λ i. BlanksBefore i t) same.1 a.2) b.2)
 
-pub definition_one : (ds : List (List ℕ × List ℕ)) (line : List ℕ) (all others : List (List ℕ × List ℕ))
-    → DefinitionLine ds line all → DefinitionLine ds line others → all ≡ others
-definition_one ds line all others a b =
+pub definition_one : (left : ℕ) (ds : List DefinedLine) (line : List ℕ) (all others : List DefinedLine)
+    → DefinitionLine left ds line all → DefinitionLine left ds line others → all ≡ others
+definition_one left ds line all others a b =
     let same = defines_one line a.name b.name a.text b.text a.defines b.defines in
-    a.one_more ∙ (ap (λ n. ds ++ (n, a.text) ∷ []) same.0 ∙ (ap (λ t. ds ++ (b.name, t) ∷ []) same.1 ∙ sym b.one_more))
+    a.one_more ∙ (ap (λ n. ds ++ (n, (a.text, left)) ∷ []) same.0
+    ∙ (ap (λ t. ds ++ (b.name, (t, left)) ∷ []) same.1 ∙ sym b.one_more))
 
 -- no name behind which something stands
 pub no_definition_here : (line : List ℕ) → ((n t : List ℕ) → DefinesName line n t → ⊥)
-    → (ds all : List (List ℕ × List ℕ)) → DefinitionLine ds line all → ⊥
-no_definition_here line none ds all d = none d.name d.text d.defines
+    → (left : ℕ) (ds all : List DefinedLine) → DefinitionLine left ds line all → ⊥
+no_definition_here line none left ds all d = none d.name d.text d.defines
 
-pub defined_again : (line n t : List ℕ) (ds all : List (List ℕ × List ℕ)) → DefinesName line n t
-    → Contains (defined_names ds) n → DefinitionLine ds line all → ⊥
-defined_again line n t ds all a has d
+pub defined_again : (line n t : List ℕ) (left : ℕ) (ds all : List DefinedLine) → DefinesName line n t
+    → Contains (defined_names ds) n → DefinitionLine left ds line all → ⊥
+defined_again line n t left ds all a has d
     = d.is_new (subst (Contains (defined_names ds)) (defines_one line n d.name t d.text a d.defines).0 has)
 
 -- the keys have a name where one passes the test
@@ -167,7 +168,7 @@ lines_push ks all v ls others l is keys apart new e f = (
     more : defined_names (map parts_of others) ≡ names ++ l.defined.name.now ∷ []
     more = ap (λ i. defined_names (map parts_of i)) f
         ∙ (ap defined_names (map-append parts_of ls (l ∷ []))
-        ∙ map-append (λ (d : List ℕ × List ℕ). d.0) (map parts_of ls) (parts_of l ∷ []))
+        ∙ map-append (λ (d : DefinedLine). d.0) (map parts_of ls) (parts_of l ∷ []))
 
 name_among : (list : List DefinedText) (n : ℕ) (d : DefinedText) → slice_get list n ≡ Some d
     → Contains (map (λ d. d.name) list) d.name
@@ -217,17 +218,17 @@ module _ (behind : List ℕ) (n : ℕ) (only : (k : ℕ) (ws : List Element) →
   extent_is text rest e f false other = λ u h. other (subst (AllPass is_blank) (sym f) (text_is u h).1)
 
 -- one more text
-pub extents_push : (ds : List (List ℕ × List ℕ)) (ts : List DefinedText) (d : List ℕ × List ℕ) (t : DefinedText)
-    → AreExtents ds ts → t.name ≡ d.0 → IsExtentOf d.1 t.text → AreExtents (ds ++ d ∷ []) (ts ++ t ∷ [])
+pub extents_push : (ds : List DefinedLine) (ts : List DefinedText) (d : DefinedLine) (t : DefinedText)
+    → AreExtents ds ts → t.name ≡ d.0 → IsExtentOf d.1.0 t.text → AreExtents (ds ++ d ∷ []) (ts ++ t ∷ [])
 extents_push [] [] d t a e x = (e, x, tt)
 extents_push [] (u ∷ ts) d t a e x = absurd a
 extents_push (c ∷ ds) [] d t a e x = absurd a
 extents_push (c ∷ ds) (u ∷ ts) d t a e x = (a.0, a.1, extents_push ds ts d t a.2 e x)
 
 -- the texts of all lines but the last, and that of the last
-pub texts_parts : (ds : List (List ℕ × List ℕ)) (d : List ℕ × List ℕ) (ts : List DefinedText)
+pub texts_parts : (ds : List DefinedLine) (d : DefinedLine) (ts : List DefinedText)
     → AreTextsOf (ds ++ d ∷ []) ts
-    → ((us : List DefinedText) × AreTextsOf ds us) × ((u : List ℕ) × IsTextOf d.1 u)
+    → ((us : List DefinedText) × AreTextsOf ds us) × ((u : List ℕ) × IsTextOf d.1.0 u)
 texts_parts [] d [] a = absurd a
 texts_parts [] d (t ∷ ts) a = (([], tt), (t.text, a.1))
 texts_parts (c ∷ ds) d [] a = absurd a
@@ -235,7 +236,7 @@ texts_parts (c ∷ ds) d (t ∷ ts) a = let more = texts_parts ds d ts a.2
     in ((t ∷ more.0.0, (a.0, a.1, more.0.1)), more.1)
 
 -- texts of expressions are those that the elements end with
-pub texts_are_extents : (ds : List (List ℕ × List ℕ)) (ts us : List DefinedText) → AreExtents ds ts → AreTextsOf ds us
+pub texts_are_extents : (ds : List DefinedLine) (ts us : List DefinedText) → AreExtents ds ts → AreTextsOf ds us
     → us ≡ ts
 texts_are_extents [] [] [] a b = refl
 texts_are_extents [] [] (u ∷ us) a b = absurd b
@@ -247,7 +248,7 @@ texts_are_extents (d ∷ ds) (t ∷ ts) (u ∷ us) a b =
     let more : us ≡ ts = texts_are_extents ds ts us a.2 b.2 in
     cc
 
-pub extents_are_texts : (ds : List (List ℕ × List ℕ)) (ts : List DefinedText) → AreExtents ds ts → AreSpelled ts
+pub extents_are_texts : (ds : List DefinedLine) (ts : List DefinedText) → AreExtents ds ts → AreSpelled ts
     → AreTextsOf ds ts
 extents_are_texts [] [] a h = tt
 extents_are_texts [] (t ∷ ts) a h = absurd a
@@ -267,9 +268,9 @@ where_some A B None some h = absurd (some refl)
 where_some A B (Some x) some h = h
 
 -- one more line is cut
-pub cut_push : (ds : List (List ℕ × List ℕ)) (t : NameTexts) (list : List NamedText) (n : NamedText) (flaw : Option ℕ)
-    (d : List ℕ × List ℕ) (whole : Bool) → AreCut ds t → list ≡ t.list.items ++ n ∷ [] → n.name.now ≡ d.0
-    → MatchBool whole (IsExtentOf d.1 n.text.now) ((u : List ℕ) → IsTextOf d.1 u → ⊥)
+pub cut_push : (ds : List DefinedLine) (t : NameTexts) (list : List NamedText) (n : NamedText) (flaw : Option ℕ)
+    (d : DefinedLine) (whole : Bool) → AreCut ds t → list ≡ t.list.items ++ n ∷ [] → n.name.now ≡ d.0
+    → MatchBool whole (IsExtentOf d.1.0 n.text.now) ((u : List ℕ) → IsTextOf d.1.0 u → ⊥)
     → (flaw ≡ None → (t.flaw ≡ None) × (whole ≡ true)) → (flaw ≢ None → (t.flaw ≢ None) ⊎ (whole ≡ false))
     → (map (λ d. d.name) (named_texts list) ≡ defined_names (ds ++ d ∷ []))
     × MatchOption flaw (AreExtents (ds ++ d ∷ []) (named_texts list))
@@ -284,14 +285,14 @@ cut_push ds t list n flaw d whole a e f h none some = (names, by flaw none some)
         ∙ (map-append (λ (d : DefinedText). d.name) (named_texts t.list.items) (named_text n ∷ [])
         ∙ (ap (λ ns. ns ++ n.name.now ∷ []) a.names
         ∙ (ap (λ i. defined_names ds ++ i ∷ []) f
-        ∙ sym (map-append (λ (d : List ℕ × List ℕ). d.0) ds (d ∷ [])))))
+        ∙ sym (map-append (λ (d : DefinedLine). d.0) ds (d ∷ [])))))
 
     no_texts : (t.flaw ≢ None) ⊎ (whole ≡ false) → (texts : List DefinedText) → AreTextsOf (ds ++ d ∷ []) texts → ⊥
     no_texts (inl was) texts are = let parts = texts_parts ds d texts are
         in where_some _ _ t.flaw was a.texts parts.0.0 parts.0.1
     no_texts (inr other) texts are =
         let parts = texts_parts ds d texts are in
-        subst (λ b. MatchBool b (IsExtentOf d.1 n.text.now) ((u : List ℕ) → IsTextOf d.1 u → ⊥)) other h parts.1.0
+        subst (λ b. MatchBool b (IsExtentOf d.1.0 n.text.now) ((u : List ℕ) → IsTextOf d.1.0 u → ⊥)) other h parts.1.0
         parts.1.1
 
     by : (flaw : Option ℕ) → (flaw ≡ None → (t.flaw ≡ None) × (whole ≡ true))
@@ -302,12 +303,12 @@ cut_push ds t list n flaw d whole a e f h none some = (names, by flaw none some)
         let k = none refl in
         subst (AreExtents (ds ++ d ∷ [])) (sym more) (extents_push ds (named_texts t.list.items) d (named_text n)
         (where_none _ _ t.flaw k.0 a.texts) f
-        (subst (λ b. MatchBool b (IsExtentOf d.1 n.text.now) ((u : List ℕ) → IsTextOf d.1 u → ⊥)) k.1 h))
+        (subst (λ b. MatchBool b (IsExtentOf d.1.0 n.text.now) ((u : List ℕ) → IsTextOf d.1.0 u → ⊥)) k.1 h))
     by (Some x) none some = no_texts (some (λ e. absurd (cc)))
 
 -- what stands past the end of the lines
 abbrev pub no_line : NameLine
-no_line = record { defined = no_entry; number = 0 }
+no_line = record { defined = no_entry; left = 0; text_left = 0 }
 
 -- lines so far, and one more
 pub parts_more : (lines : List NameLine) (i : ℕ) (l : NameLine) → i < length lines
@@ -319,7 +320,7 @@ parts_more lines i l less = ap (map parts_of) (ap (λ k. take k lines) (one_more
     one_more i = omega arith
 
 -- the texts of all lines
-pub cut_of : (lines : List NameLine) (ds : List (List ℕ × List ℕ)) (t : NameTexts) (list : List NamedText)
+pub cut_of : (lines : List NameLine) (ds : List DefinedLine) (t : NameTexts) (list : List NamedText)
     → map parts_of lines ≡ ds → list ≡ t.list.items → AreCut (map parts_of lines) t
     → (map (λ d. d.name) (named_texts list) ≡ defined_names ds) × MatchOption t.flaw (AreExtents ds (named_texts list))
     (λ _. (texts : List DefinedText) → AreTextsOf ds texts → ⊥)
@@ -331,14 +332,14 @@ cut_of lines ds t list these is a = subst (λ l. (map (λ d. d.name) (named_text
     (λ _. (texts : List DefinedText) → AreTextsOf i texts → ⊥)) these (a.names, a.texts))
 
 -- they are distinct
-pub cut_distinct : (lines : List NameLine) (ds : List (List ℕ × List ℕ)) (t : NameTexts) (list : List NamedText)
+pub cut_distinct : (lines : List NameLine) (ds : List DefinedLine) (t : NameTexts) (list : List NamedText)
     → map parts_of lines ≡ ds → list ≡ t.list.items → AreCut (map parts_of lines) t → AreApart (defined_names ds)
     → AreDistinct (named_texts list)
 cut_distinct lines ds t list these is a apart
     = apart_distinct (named_texts list) (subst AreApart (sym (cut_of lines ds t list these is a).0) apart)
 
 -- they are the definitions
-pub cut_defined : (lines : List NameLine) (ds : List (List ℕ × List ℕ)) (t : NameTexts) (list : List NamedText)
+pub cut_defined : (lines : List NameLine) (ds : List DefinedLine) (t : NameTexts) (list : List NamedText)
     (names : List Definition) → map parts_of lines ≡ ds → list ≡ t.list.items → AreCut (map parts_of lines) t
     → AreApart (defined_names ds) → t.flaw ≡ None → AreNames (named_texts list) names → AreDefinitions ds names
 cut_defined lines ds t list names these is a apart whole are =

@@ -91,45 +91,48 @@ rule_begins cs text active body tail r = (r.some, r.line, tail, r.is_line, r.beg
 
 -- rules behind what is skipped
 pub rules_skip : (cs : List Condition) (names : List Definition) (text rest : List ℕ) (rs : List Rule)
-    (ss : List Saying)
-    → Skips text rest → Rules cs names text rs ss → Rules cs names rest rs ss
-rules_skip cs names text rest rs ss h (end _ o) = absurd (skip_not_over text rest h o)
-rules_skip cs names text rest rs ss h (skip _ r _ _ k d)
-    = subst (λ i. Rules cs names i rs ss) (skips_one text r rest k h) d
-rules_skip cs names text rest rs ss h (rule _ u r s ps qs b d)
+    (ss : List Saying) (ls : List ℕ)
+    → Skips text rest → Rules cs names text rs ss ls → Rules cs names rest rs ss ls
+rules_skip cs names text rest rs ss ls h (end _ o) = absurd (skip_not_over text rest h o)
+rules_skip cs names text rest rs ss ls h (skip _ r _ _ _ k d)
+    = subst (λ i. Rules cs names i rs ss ls) (skips_one text r rest k h) d
+rules_skip cs names text rest rs ss ls h (rule _ u r s ps qs ns b d)
     = absurd (skip_no_rule text rest h (rule_begins cs text r.active.items b.body b.end b.line))
 
 -- a block that isn't closed
 pub rules_unclosed : (cs : List Condition) (names : List Definition) (text line behind : List ℕ) (rs : List Rule)
-    (ss : List Saying) → LineBefore text line behind → kind_of line ≡ Block
-    → ((rest : List ℕ) → BlockEnds behind rest → ⊥) → Rules cs names text rs ss → ⊥
-rules_unclosed cs names text line behind rs ss b k none (end _ (inl e)) = b.0 e
-rules_unclosed cs names text line behind rs ss b k none (end _ (inr m)) =
+    (ss : List Saying) (ls : List ℕ) → LineBefore text line behind → kind_of line ≡ Block
+    → ((rest : List ℕ) → BlockEnds behind rest → ⊥) → Rules cs names text rs ss ls → ⊥
+rules_unclosed cs names text line behind rs ss ls b k none (end _ (inl e)) = b.0 e
+rules_unclosed cs names text line behind rs ss ls b k none (end _ (inr m)) =
     let f : Block ≡ Mark = sym k ∙ ap kind_of (line_before_one text line m.0 behind m.1 b m.2).0 ∙ m.3 in
     cc
-rules_unclosed cs names text line behind rs ss b k none (skip _ r _ _ h d) =
+rules_unclosed cs names text line behind rs ss ls b k none (skip _ r _ _ _ h d) =
     let e = line_before_one text h.0 line h.1 behind h.2 b in
     at (subst (λ i. ((kind_of i ≡ Unused) × (r ≡ h.1)) ⊎ ((kind_of i ≡ Block) × BlockEnds h.1 r)) e.0 h.3) e.1
   where
     at : ((kind_of line ≡ Unused) × (r ≡ h.1)) ⊎ ((kind_of line ≡ Block) × BlockEnds h.1 r) → h.1 ≡ behind → ⊥
     at (inl j) e = let f : Unused ≡ Block = sym j.0 ∙ k in cc
     at (inr j) e = none r (subst (λ i. BlockEnds i r) e j.1)
-rules_unclosed cs names text line behind rs ss b k none (rule _ u r s ps qs h d) =
+rules_unclosed cs names text line behind rs ss ls b k none (rule _ u r s ps qs ns h d) =
     let l = h.line in
     block_begins_none (kind_of l.line)
     (ap kind_of (line_one text l.line line h.end b.1 l.is_line b.2).0 ∙ k) l.begins
 
 -- what was skipped, in front of rules
-pub rules_on : (cs : List Condition) (names : List Definition) (text rest : List ℕ) (rs : List Rule) (ss : List Saying)
-    → AreSkipped text rest → Rules cs names rest rs ss → Rules cs names text rs ss
-rules_on cs names text rest rs ss (skipped.none _) d = d
-rules_on cs names text rest rs ss (skipped.more _ b _ h k) d = skip text b rs ss h (rules_on cs names b rest rs ss k d)
+pub rules_on : (cs : List Condition) (names : List Definition) (text rest : List ℕ) (rs : List Rule)
+    (ss : List Saying) (ls : List ℕ)
+    → AreSkipped text rest → Rules cs names rest rs ss ls → Rules cs names text rs ss ls
+rules_on cs names text rest rs ss ls (skipped.none _) d = d
+rules_on cs names text rest rs ss ls (skipped.more _ b _ h k) d
+    = skip text b rs ss ls h (rules_on cs names b rest rs ss ls k d)
 
 pub rules_back : (cs : List Condition) (names : List Definition) (text rest : List ℕ) (rs : List Rule)
-    (ss : List Saying) → AreSkipped text rest → Rules cs names text rs ss → Rules cs names rest rs ss
-rules_back cs names text rest rs ss (skipped.none _) d = d
-rules_back cs names text rest rs ss (skipped.more _ b _ h k) d
-    = rules_back cs names b rest rs ss k (rules_skip cs names text b rs ss h d)
+    (ss : List Saying) (ls : List ℕ) → AreSkipped text rest → Rules cs names text rs ss ls
+    → Rules cs names rest rs ss ls
+rules_back cs names text rest rs ss ls (skipped.none _) d = d
+rules_back cs names text rest rs ss ls (skipped.more _ b _ h k) d
+    = rules_back cs names b rest rs ss ls k (rules_skip cs names text b rs ss ls h d)
 
 pub heavy_on : (most : ℕ) (cs : List Condition) (names : List Definition) (text rest : List ℕ) → AreSkipped text rest
     → HasHeavyRule most cs names rest → HasHeavyRule most cs names text
@@ -139,21 +142,23 @@ heavy_on most cs names text rest (skipped.more _ b _ h k) d
 
 -- no rule is left
 pub rules_over : (cs : List Condition) (names : List Definition) (text : List ℕ) → AreRulesOver text
-    → Rules cs names text [] []
+    → Rules cs names text [] [] []
 rules_over cs names text o = end text o
 
 -- A rule in front.
 pub record InFront (cs : List Condition) (names : List Definition) (text : List ℕ) (rs : List Rule)
-    (ss : List Saying) : Type 0 where
+    (ss : List Saying) (ls : List ℕ) : Type 0 where
   pub one : Rule
   pub saying : Saying
   pub behind : List ℕ
   pub more : List Rule
   pub sayings : List Saying
+  pub lefts : List ℕ
   pub these : rs ≡ one ∷ more
   pub those : ss ≡ saying ∷ sayings
+  pub left : ls ≡ length text ∷ lefts
   pub reads : RuleBefore cs names text one saying behind
-  pub rest : Rules cs names behind more sayings
+  pub rest : Rules cs names behind more sayings lefts
 
 over_no_rule : (text : List ℕ) → AreRulesOver text → BeginsWithRule text → ⊥
 over_no_rule text (inl e) b = b.0 e
@@ -161,17 +166,19 @@ over_no_rule text (inr m) b = mark_begins_none (kind_of b.1)
     (ap kind_of (line_one text b.1 m.0 b.2 m.2.1 b.3 m.2.2).0 ∙ m.3) b.4
 
 pub in_front : (cs : List Condition) (names : List Definition) (text : List ℕ) (rs : List Rule) (ss : List Saying)
-    → BeginsWithRule text → Rules cs names text rs ss → InFront cs names text rs ss
-in_front cs names text rs ss b (end _ o) = absurd (over_no_rule text o b)
-in_front cs names text rs ss b (skip _ r _ _ h d) = absurd (skip_no_rule text r h b)
-in_front cs names text rs ss b (rule _ u r s ps qs h d) = record {
+    (ls : List ℕ) → BeginsWithRule text → Rules cs names text rs ss ls → InFront cs names text rs ss ls
+in_front cs names text rs ss ls b (end _ o) = absurd (over_no_rule text o b)
+in_front cs names text rs ss ls b (skip _ r _ _ _ h d) = absurd (skip_no_rule text r h b)
+in_front cs names text rs ss ls b (rule _ u r s ps qs ns h d) = record {
   one = r;
   saying = s;
   behind = u;
   more = ps;
   sayings = qs;
+  lefts = ns;
   these = refl;
   those = refl;
+  left = refl;
   reads = h;
   rest = d;
 }
@@ -201,18 +208,23 @@ rule_one cs names text u v r q s t a b =
     (record { pattern = same.0; active = active.0 }, one.0, one.1)
 
 pub rules_push : (cs : List Condition) (names : List Definition) (text : List ℕ) (rules more rs : List Rule)
-    (sayings others ss : List Saying) (r : Rule) (s : Saying) → more ≡ rules ++ r ∷ []
-    → others ≡ sayings ++ s ∷ [] → Rules cs names text (rules ++ r ∷ rs) (sayings ++ s ∷ ss)
-    → Rules cs names text (more ++ rs) (others ++ ss)
-rules_push cs names text rules more rs sayings others ss r s e f d =
+    (sayings others ss : List Saying) (lefts ls : List ℕ) (n : ℕ) (r : Rule) (s : Saying) → more ≡ rules ++ r ∷ []
+    → others ≡ sayings ++ s ∷ [] → Rules cs names text (rules ++ r ∷ rs) (sayings ++ s ∷ ss) (lefts ++ n ∷ ls)
+    → Rules cs names text (more ++ rs) (others ++ ss) ((lefts ++ n ∷ []) ++ ls)
+rules_push cs names text rules more rs sayings others ss lefts ls n r s e f d =
     let g : rules ++ r ∷ rs ≡ more ++ rs = sym (append_assoc rules (r ∷ []) rs) ∙ ap (λ i. i ++ rs) (sym e) in
     let h : sayings ++ s ∷ ss ≡ others ++ ss = sym (append_assoc sayings (s ∷ []) ss) ∙ ap (λ i. i ++ ss) (sym f) in
-    subst (λ i. Rules cs names text i (others ++ ss)) g (subst (λ i. Rules cs names text (rules ++ r ∷ rs) i) h d)
+    let j = sym (append_assoc lefts (n ∷ []) ls) in
+    subst (λ i. Rules cs names text i (others ++ ss) ((lefts ++ n ∷ []) ++ ls)) g
+    (subst (λ i. Rules cs names text (rules ++ r ∷ rs) i ((lefts ++ n ∷ []) ++ ls)) h
+    (subst (λ i. Rules cs names text (rules ++ r ∷ rs) (sayings ++ s ∷ ss) i) j d))
 
 pub rules_whole : (cs : List Condition) (names : List Definition) (text : List ℕ) (rules : List Rule)
-    (sayings : List Saying) → Rules cs names text (rules ++ []) (sayings ++ []) → Rules cs names text rules sayings
-rules_whole cs names text rules sayings d = subst (λ i. Rules cs names text i sayings) (append-nil rules)
-    (subst (λ i. Rules cs names text (rules ++ []) i) (append-nil sayings) d)
+    (sayings : List Saying) (lefts : List ℕ) → Rules cs names text (rules ++ []) (sayings ++ []) (lefts ++ [])
+    → Rules cs names text rules sayings lefts
+rules_whole cs names text rules sayings lefts d = subst (λ i. Rules cs names text i sayings lefts) (append-nil rules)
+    (subst (λ i. Rules cs names text (rules ++ []) i lefts) (append-nil sayings)
+    (subst (λ i. Rules cs names text (rules ++ []) (sayings ++ []) i) (append-nil lefts) d))
 
 -- one more light pattern
 pub light_push : (most : ℕ) (names : List Definition) (rules : List Rule) (r : Rule) → AreLight most names rules
@@ -341,8 +353,8 @@ pub rules_begin : (cs : List Condition) (names : List Definition) (text rest : L
 rules_begin cs names text rest r s b = rule_begins cs text r.active.items b.body b.end b.line
 
 pub over_none : (cs : List Condition) (names : List Definition) (text : List ℕ) (rs : List Rule) (ss : List Saying)
-    → AreRulesOver text → Rules cs names text rs ss → (rs ≡ []) × (ss ≡ [])
-over_none cs names text rs ss o (end _ p) = (refl, refl)
-over_none cs names text rs ss o (skip _ u _ _ h d) = absurd (skip_not_over text u h o)
-over_none cs names text rs ss o (rule _ u r s ps qs b d) = absurd (over_no_rule text o
+    (ls : List ℕ) → AreRulesOver text → Rules cs names text rs ss ls → (rs ≡ []) × (ss ≡ []) × (ls ≡ [])
+over_none cs names text rs ss ls o (end _ p) = (refl, refl, refl)
+over_none cs names text rs ss ls o (skip _ u _ _ _ h d) = absurd (skip_not_over text u h o)
+over_none cs names text rs ss ls o (rule _ u r s ps qs ns b d) = absurd (over_no_rule text o
     (rules_begin cs names text u r s b))

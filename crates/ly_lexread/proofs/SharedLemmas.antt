@@ -1,6 +1,6 @@
 -- The effects of rules, by what the rules say.
-use Rattle.std.proofs.Common.{◌≡◌, ◌∙◌, ◌-◌, ap, List, [], ◌∷◌, ◌++◌, refl, subst, sym, append_assoc, map, reverse}
-use Rattle.std.proofs.Common.{length, Some, None, get_or, take, arith, suc}
+use Rattle.std.proofs.Common.{ℕ, ◌≡◌, ◌∙◌, ◌-◌, ap, List, [], ◌∷◌, ◌++◌, refl, subst, sym, append_assoc, map, reverse}
+use Rattle.std.proofs.Common.{ℕ, length, Some, None, get_or, take, arith, suc}
 use Rattle.std.specs.Prelude.{slice_get}
 use Rattle.indexmap.proofs.ReorderLemmas.{map-reverse}
 use Rattle.std.proofs.Math.Seq.{take-suc}
@@ -79,9 +79,9 @@ module _ (all items front : List Said) (done : List Saying) (actions : List LexA
   parts s e = whole ∙ ap (λ i. map saying_of i ++ done) e ∙ ap (λ i. i ++ done) (map-append saying_of front (s ∷ []))
       ∙ append_assoc (map saying_of front) (saying_of s ∷ []) done
 
-  pub bar_at_end : (s : Said) → items ≡ front ++ s ∷ [] → s ≡ Next → actions ≡ [] → (es : List Effect)
+  pub bar_at_end : (s : Said) (left : ℕ) → items ≡ front ++ s ∷ [] → s ≡ Next left → actions ≡ [] → (es : List Effect)
       → AreEffects (map saying_of all) es → ⊥
-  bar_at_end s e is none es h =
+  bar_at_end s left e is none es h =
       let over : done ≡ [] = no_effects done (subst (λ i. AreEffects done (reverse (map effect_of i))) none effects) in
       let last : map saying_of all ≡ map saying_of front ++ next ∷ []
       = parts s e ∙ ap (λ i. map saying_of front ++ saying_of i ∷ done) is
@@ -98,11 +98,12 @@ module _ (all items front : List Said) (done : List Saying) (actions : List LexA
     rw (f, turned_push actions b, is) (ap effect_of same, effects),
   )
 
-  pub next_on : (s : Said) (a l : LexAction) (more : List LexAction) → items ≡ front ++ s ∷ [] → s ≡ Next
+  pub next_on : (s : Said) (left : ℕ) (a l : LexAction) (more : List LexAction) → items ≡ front ++ s ∷ []
+      → s ≡ Next left
       → slice_get actions (length actions - 1) ≡ Some l → effect_of a ≡ effect_of l → more ≡ actions ++ a ∷ []
       → (ss : List Saying) × (map saying_of all ≡ map saying_of front ++ ss)
       × AreEffects ss (reverse (map effect_of more))
-  next_on s a l more e is at same f =
+  next_on s left a l more e is at same f =
       let init = last_some actions l at in
       let turned_back : reverse (map effect_of actions) ≡ effect_of l ∷ reverse (map effect_of init.0)
       = ap (λ i. reverse (map effect_of i)) init.1 ∙ turned_push init.0 l in (

@@ -1,6 +1,6 @@
 -- The definitions of a lex file (POSIX, XCU lex, "Definitions in lex").
 use Rattle.std.specs.Prelude.{◌≡◌, ◌≢◌, ℕ, List, [], ◌∷◌, ◌++◌, Bool, true, false, ◌||◌, codes, None, nat_eq, drop}
-use Rattle.std.specs.Prelude.{if◌then◌else◌, Contains, map}
+use Rattle.std.specs.Prelude.{if◌then◌else◌, Contains, length, map}
 use Rattle.std.specs.List.{list_any}
 use Rattle.std.specs.Str.{bytes_eq}
 use Rattle.ly_base.specs.Blank.{is_blank}
@@ -9,7 +9,7 @@ use Rattle.ly_base.specs.Gap.{EndBefore}
 use Rattle.ly_base.specs.Language.{DigitsBefore, NameBefore}
 use Rattle.ly_base.specs.declared.language.Language.TheVariants.{Lex}
 use Rattle.ly_lexread.specs.Conditions.{Condition, condition_of, initial}
-use Rattle.ly_lexread.specs.Lines.{BlockEnds, LineBefore, LineOf, kind_of}
+use Rattle.ly_lexread.specs.Lines.{BlockEnds, LineBefore, LineOf, kind_of, left_in}
 use Rattle.ly_lexread.specs.declared.directive.Directed.{Directed}
 use Rattle.ly_lexread.specs.declared.directive.Directed.TheVariants.{Inclusive, Exclusive, Size, TextKind, Unknown}
 use Rattle.ly_lexread.specs.declared.kind.LineKind.{LineKind}
@@ -20,16 +20,18 @@ abbrev pub BlanksBefore : List ℕ → List ℕ → Type 0
 BlanksBefore text rest = (blanks : List ℕ) × AllPass is_blank blanks × (blanks ≢ []) × Stops is_blank rest
     × (text ≡ blanks ++ rest)
 
--- Blanks and names by turns, up to the end of a line: each name is that of a further condition, exclusive or not.
-pub data DeclaresAll (exclusive : Bool) : List Condition → List ℕ → List Condition → Type 0 where
-  end : (cs : List Condition) (text : List ℕ) → AllPass is_blank text → DeclaresAll exclusive cs text cs
+-- Blanks and names by turns, up to the end of a line: each name is that of a further condition, exclusive or not, from
+-- which as many bytes of the file are left as left says of what is left of the line.
+pub data DeclaresAll (exclusive : Bool) (left : List ℕ → ℕ) : List Condition → List ℕ → List Condition → Type 0 where
+  end : (cs : List Condition) (text : List ℕ) → AllPass is_blank text → DeclaresAll exclusive left cs text cs
   more : (cs all : List Condition) (text behind n rest : List ℕ) → BlanksBefore text behind
       → NameBefore Lex behind n rest → condition_of cs n ≡ None
-      → DeclaresAll exclusive (cs ++ (n, exclusive) ∷ []) rest all → DeclaresAll exclusive cs text all
+      → DeclaresAll exclusive left (cs ++ (n, (exclusive, left behind)) ∷ []) rest all
+      → DeclaresAll exclusive left cs text all
 
 -- the same, where there is a name at least
-abbrev pub Declares : Bool → List Condition → List ℕ → List Condition → Type 0
-Declares exclusive cs text all = (AllPass is_blank text → ⊥) × DeclaresAll exclusive cs text all
+abbrev pub Declares : Bool → (List ℕ → ℕ) → List Condition → List ℕ → List Condition → Type 0
+Declares exclusive left cs text all = (AllPass is_blank text → ⊥) × DeclaresAll exclusive left cs text all
 
 -- the first byte is one of these
 abbrev pub begins_among : List ℕ → List ℕ → Bool
@@ -62,46 +64,51 @@ IsIdle TextKind text = AllPass is_blank text
 IsIdle _ text = ⊥
 
 -- what stands behind a directive's word, to the end of the line, makes of the conditions
-abbrev pub Directs : Directed → List Condition → List ℕ → List Condition → Type 0
-Directs Inclusive cs text all = Declares false cs text all
-Directs Exclusive cs text all = Declares true cs text all
-Directs d cs text all = (all ≡ cs) × IsIdle d text
+abbrev pub Directs : Directed → (List ℕ → ℕ) → List Condition → List ℕ → List Condition → Type 0
+Directs Inclusive left cs text all = Declares false left cs text all
+Directs Exclusive left cs text all = Declares true left cs text all
+Directs d left cs text all = (all ≡ cs) × IsIdle d text
 
 -- A line with a `%` in front, and the conditions behind it.
-pub record DirectiveLine (cs : List Condition) (line : List ℕ) (all : List Condition) : Type 0 where
-  pub behind : List ℕ
-  pub is_directive : line ≡ codes "%" ++ behind
-  pub word : List ℕ
-  pub rest : List ℕ
-  pub named : NameBefore Lex behind word rest
-  pub directs : Directs (directive_of word) cs rest all
+pub record DirectiveLine (left : List ℕ → ℕ) (cs : List Condition) (line : List ℕ) (all : List Condition) : Type 0
+  where
+    pub behind : List ℕ
+    pub is_directive : line ≡ codes "%" ++ behind
+    pub word : List ℕ
+    pub rest : List ℕ
+    pub named : NameBefore Lex behind word rest
+    pub directs : Directs (directive_of word) left cs rest all
 
 -- The line has a name at its beginning, then blanks, and then this, to its end.
 abbrev pub DefinesName : List ℕ → List ℕ → List ℕ → Type 0
 DefinesName line name text = (behind : List ℕ) × NameBefore Lex line name behind × BlanksBefore behind text
     × (text ≢ [])
 
+-- what a line defines: a name, what stands behind its blanks, and how many bytes of the file are left from the line on
+abbrev pub DefinedLine : Type 0
+DefinedLine = List ℕ × (List ℕ × ℕ)
+
 -- the names that are defined
-abbrev pub defined_names : List (List ℕ × List ℕ) → List (List ℕ)
+abbrev pub defined_names : List DefinedLine → List (List ℕ)
 defined_names ds = map (λ d. d.0) ds
 
--- A line that defines a further name, and the definitions with it.
-pub record DefinitionLine (ds : List (List ℕ × List ℕ)) (line : List ℕ) (all : List (List ℕ × List ℕ)) : Type 0 where
+-- A line that defines a further name, from which so many bytes of the file are left, and the definitions with it.
+pub record DefinitionLine (left : ℕ) (ds : List DefinedLine) (line : List ℕ) (all : List DefinedLine) : Type 0 where
   pub name : List ℕ
   pub text : List ℕ
   pub defines : DefinesName line name text
   pub is_new : Contains (defined_names ds) name → ⊥
-  pub one_more : all ≡ ds ++ (name, text) ∷ []
+  pub one_more : all ≡ ds ++ (name, (text, left)) ∷ []
 
 -- a comment goes to its first `*/`, and the rest of that line isn't used
 abbrev pub CommentEnds : List ℕ → List ℕ → Type 0
 CommentEnds text rest = (inside behind line end : List ℕ) × (text ≡ codes "/*" ++ inside)
     × EndBefore (codes "*/") inside behind × LineOf behind line end × (rest ≡ drop 1 end)
 
--- What the definitions say: the conditions, and the names that are defined, each with what stands behind its blanks.
+-- What the definitions say: the conditions, and the lines that define names.
 pub record Preamble : Type 0 where
   pub conditions : List Condition
-  pub definitions : List (List ℕ × List ℕ)
+  pub definitions : List DefinedLine
 
 -- before the first line
 abbrev pub at_first : Preamble
@@ -114,9 +121,9 @@ LineSays Unused p text line behind q rest = (q ≡ p) × (rest ≡ behind)
 LineSays Block p text line behind q rest = (q ≡ p) × BlockEnds behind rest
 LineSays Comment p text line behind q rest = (q ≡ p) × CommentEnds text rest
 LineSays Directive p text line behind q rest = (rest ≡ behind) × (q.definitions ≡ p.definitions)
-    × DirectiveLine p.conditions line q.conditions
+    × DirectiveLine (left_in text line) p.conditions line q.conditions
 LineSays Plain p text line behind q rest = (rest ≡ behind) × (q.conditions ≡ p.conditions)
-    × DefinitionLine p.definitions line q.definitions
+    × DefinitionLine (length text) p.definitions line q.definitions
 
 -- a line, with those that go with it
 abbrev pub Says : Preamble → List ℕ → Preamble → List ℕ → Type 0

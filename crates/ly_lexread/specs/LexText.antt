@@ -1,28 +1,47 @@
 -- What a lex file says (POSIX, XCU lex).
-use Rattle.std.specs.Prelude.{◌≡◌, ◌≢◌, ◌⊎◌, ℕ, List, [], ◌∷◌, Result, IfErr, IfOk, length, map}
+use Rattle.std.specs.Prelude.{◌≡◌, ◌≢◌, ◌⊎◌, ◌-◌, ℕ, List, [], ◌∷◌, Option, Some, None, Result, IfErr, IfOk, length, map}
+use Rattle.std.specs.Prelude.{if◌then◌else◌, nat_eq}
 use Rattle.ly_ere.specs.Definitions.{AreLightNames}
 use Rattle.ly_ere.specs.Names.{Definition}
 use Rattle.ly_ere.specs.declared.pattern.Rule.{Rule}
 use Rattle.ly_lexread.specs.declared.action.LexAction.{LexAction}
 use Rattle.ly_lexread.specs.declared.file.LexFile.{LexFile}
+use Rattle.ly_lexread.specs.declared.file.StartCondition.{StartCondition}
 use Rattle.ly_lexread.specs.declared.fault.LexFault.{LexFault}
 use Rattle.ly_lexread.specs.declared.fault.LexFault.TheVariants.{OutOfMemory}
 use Rattle.ly_lexread.specs.Action.{AreEffects, Saying, effect_of, meaning_of}
+use Rattle.ly_lexread.specs.Conditions.{Condition}
 use Rattle.ly_lexread.specs.Definitions.{at_first, Definitions, Preamble}
-use Rattle.ly_lexread.specs.Faults.{IsOfText, IsTooHeavy}
+use Rattle.ly_lexread.specs.Faults.{IsTooHeavy}
 use Rattle.ly_lexread.specs.Names.{AreDefinitions, HasHeavyDefinition}
 use Rattle.ly_lexread.specs.Rules.{AreLight, HasHeavyRule, Rules}
 
--- The bytes of a lex file say this.
+-- the name of a condition, and which byte is its first, where it is declared
+abbrev pub said_of : StartCondition → List ℕ × Option ℕ
+said_of c = (c.name.items, c.offset)
+
+-- which byte of a file of so many is the first of a name from which so many are left; none where no byte is
+abbrev pub declared_at : ℕ → ℕ → Option ℕ
+declared_at whole left = if nat_eq left 0 then None else Some (whole - left)
+
+-- the same of the conditions of a file of so many bytes
+abbrev pub conditions_in : ℕ → List Condition → List (List ℕ × Option ℕ)
+conditions_in whole cs = map (λ c. (c.0, declared_at whole c.1.1)) cs
+
+-- The bytes of a lex file say this. Where something begins, as many bytes stand before it as are not left from it on.
 pub record LexText (bytes : List ℕ) (file : LexFile) : Type 0 where
   pub all : Preamble
   pub behind : List ℕ
   pub definitions : Definitions at_first bytes all behind
   pub names : AreDefinitions all.definitions file.names
   pub sayings : List Saying
-  pub rules : Rules all.conditions file.names behind file.rules.items sayings
+  pub lefts : List ℕ
+  pub rules : Rules all.conditions file.names behind file.rules.items sayings lefts
   pub effects : AreEffects sayings (map effect_of file.actions.items)
   pub conditions : file.conditions ≡ length all.conditions
+  pub start_conditions : map said_of file.start_conditions.items ≡ conditions_in (length bytes) all.conditions
+  pub rule_starts : file.rule_starts.items ≡ map (λ n. length bytes - n) lefts
+  pub definition_starts : file.definition_starts.items ≡ map (λ d. length bytes - d.1.1) all.definitions
 
 -- a definition weighs more than this, or, under the definitions, the head and the tail of a rule do
 abbrev pub IsHeavyBehind : ℕ → Preamble → List ℕ → Type 0
@@ -45,7 +64,6 @@ pub record IsReadAs {T X : Type 0} (value : T → X) (Is Light : X → Type 0) (
     (result : Result T LexFault) : Type 0 where
   pub ok : IfOk result (λ found. Is (value found))
   pub light : IfOk result (λ found. Light (value found))
-  pub of_text : IfErr result (λ fault. fault ≢ OutOfMemory → IsOfText fault)
   pub refused : IfErr result (λ fault. fault ≢ OutOfMemory → (IsTooHeavy fault → ⊥) → (x : X) → Is x → ⊥)
   pub heavy : IfErr result (λ fault. IsTooHeavy fault → Heavy)
   pub none_light : IfErr result (λ fault. IsTooHeavy fault → (x : X) → Is x → Light x → ⊥)
@@ -73,6 +91,9 @@ pub record AreSame (f g : LexFile) : Type 0 where
   pub rules : AreSameRules f.rules.items g.rules.items
   pub actions : AreSameActions f.actions.items g.actions.items
   pub conditions : f.conditions ≡ g.conditions
+  pub start_conditions : map said_of f.start_conditions.items ≡ map said_of g.start_conditions.items
+  pub rule_starts : f.rule_starts.items ≡ g.rule_starts.items
+  pub definition_starts : f.definition_starts.items ≡ g.definition_starts.items
 
 -- a text says one thing
 abbrev pub LexTextIsOne : Type 0

@@ -1,5 +1,5 @@
 -- The lines of a file.
-use Rattle.std.specs.Prelude.{◌≡◌, ◌≢◌, ℕ, Bool, true, List, [], ◌∷◌, ◌++◌, not, nat_eq, codes, drop, if◌then◌else◌}
+use Rattle.std.specs.Prelude.{◌≡◌, ◌≢◌, ◌-◌, ℕ, length, Bool, true, List, [], ◌∷◌, ◌++◌, not, nat_eq, codes, drop, if◌then◌else◌}
 use Rattle.std.specs.List.{starts_with}
 use Rattle.ly_base.specs.Blank.{is_blank}
 use Rattle.ly_base.specs.Bytes.{newline}
@@ -18,6 +18,10 @@ LineOf text line end = AllPass in_line line × Stops in_line end × (text ≡ li
 -- the text has a first line, without its newline, and then comes the rest
 abbrev pub LineBefore : List ℕ → List ℕ → List ℕ → Type 0
 LineBefore text line rest = (text ≢ []) × (end : List ℕ) × LineOf text line end × (rest ≡ drop 1 end)
+
+-- how many bytes of the text are left, where this is left of its line
+abbrev pub left_in : List ℕ → List ℕ → List ℕ → ℕ
+left_in text line left = length text - (length line - length left)
 
 -- nothing, or a blank in front
 abbrev pub is_unused : List ℕ → Bool

@@ -5,6 +5,7 @@ use Rattle.ly_base.specs.Escapes.{AllPass}
 use Rattle.ly_ere.specs.Definitions.{AreNames, DefinedText, IsHeavyDefinition}
 use Rattle.ly_ere.specs.Elements.{AreElements, Element}
 use Rattle.ly_ere.specs.Names.{Definition}
+use Rattle.ly_lexread.specs.Definitions.{DefinedLine}
 
 -- What stands behind a name and its blanks is the text of an expression, and then nothing but blanks.
 pub record IsTextOf (behind text : List ℕ) : Type 0 where
@@ -15,15 +16,15 @@ pub record IsTextOf (behind text : List ℕ) : Type 0 where
   pub parted : behind ≡ text ++ blanks
 
 -- the names with the texts of their expressions
-abbrev pub AreTextsOf : List (List ℕ × List ℕ) → List DefinedText → Type 0
+abbrev pub AreTextsOf : List DefinedLine → List DefinedText → Type 0
 AreTextsOf [] [] = Unit {0}
-AreTextsOf (d ∷ ds) (t ∷ ts) = (t.name ≡ d.0) × IsTextOf d.1 t.text × AreTextsOf ds ts
+AreTextsOf (d ∷ ds) (t ∷ ts) = (t.name ≡ d.0) × IsTextOf d.1.0 t.text × AreTextsOf ds ts
 AreTextsOf _ _ = ⊥
 
 -- the names are defined so
-abbrev pub AreDefinitions : List (List ℕ × List ℕ) → List Definition → Type 0
+abbrev pub AreDefinitions : List DefinedLine → List Definition → Type 0
 AreDefinitions ds names = (texts : List DefinedText) × AreTextsOf ds texts × AreNames texts names
 
 -- one of the definitions weighs more than this where it is placed
-abbrev pub HasHeavyDefinition : ℕ → List (List ℕ × List ℕ) → Type 0
+abbrev pub HasHeavyDefinition : ℕ → List DefinedLine → Type 0
 HasHeavyDefinition most ds = (texts : List DefinedText) × (n : ℕ) × AreTextsOf ds texts × IsHeavyDefinition most texts n

@@ -1,5 +1,5 @@
 -- The rules of a lex file.
-use Rattle.std.specs.Prelude.{◌≡◌, ◌≢◌, ◌<◌, ◌≤◌, ◌⊎◌, ℕ, List, [], ◌∷◌, ◌++◌, drop, codes, Some}
+use Rattle.std.specs.Prelude.{◌≡◌, ◌≢◌, ◌<◌, ◌≤◌, ◌⊎◌, ℕ, List, [], ◌∷◌, ◌++◌, drop, length, codes, Some}
 use Rattle.ly_base.specs.Language.{NameBefore}
 use Rattle.ly_base.specs.declared.language.Language.TheVariants.{Lex}
 use Rattle.ly_ere.specs.Grammar.{Sides}
@@ -65,14 +65,15 @@ Skips text rest = (line more : List ℕ) × LineBefore text line more
 abbrev pub AreRulesOver : List ℕ → Type 0
 AreRulesOver text = (text ≡ []) ⊎ ((line rest : List ℕ) × LineBefore text line rest × (kind_of line ≡ Mark))
 
--- the rules, and what each says of its action
-pub data Rules (cs : List Condition) (names : List Definition) : List ℕ → List Rule → List Saying → Type 0 where
-  end : (text : List ℕ) → AreRulesOver text → Rules cs names text [] []
-  skip : (text rest : List ℕ) (rules : List Rule) (sayings : List Saying) → Skips text rest
-      → Rules cs names rest rules sayings → Rules cs names text rules sayings
-  rule : (text rest : List ℕ) (r : Rule) (s : Saying) (rules : List Rule) (sayings : List Saying)
-      → RuleBefore cs names text r s rest → Rules cs names rest rules sayings
-      → Rules cs names text (r ∷ rules) (s ∷ sayings)
+-- the rules, what each says of its action, and how many bytes are left from its first one on
+pub data Rules (cs : List Condition) (names : List Definition) : List ℕ → List Rule → List Saying → List ℕ → Type 0
+  where
+    end : (text : List ℕ) → AreRulesOver text → Rules cs names text [] [] []
+    skip : (text rest : List ℕ) (rules : List Rule) (sayings : List Saying) (lefts : List ℕ) → Skips text rest
+        → Rules cs names rest rules sayings lefts → Rules cs names text rules sayings lefts
+    rule : (text rest : List ℕ) (r : Rule) (s : Saying) (rules : List Rule) (sayings : List Saying) (lefts : List ℕ)
+        → RuleBefore cs names text r s rest → Rules cs names rest rules sayings lefts
+        → Rules cs names text (r ∷ rules) (s ∷ sayings) (length text ∷ lefts)
 
 -- each pattern weighs at most this
 abbrev pub AreLight : ℕ → List Definition → List Rule → Type 0

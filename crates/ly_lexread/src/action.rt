@@ -3,7 +3,7 @@ ghost use Rattle.std.specs.Prelude.{MatchOption};
 ghost use Rattle.ly_base.specs.Gap.{Gap};
 ghost use Rattle.ly_base.specs.declared.language.Language.TheVariants.{Lex};
 ghost use Rattle.ly_lexread.specs.Action.{Effect, Saying, effect_of, meaning_of, no_effect, nothing, own};
-ghost use Rattle.ly_lexread.specs.Faults.{IsOfText, IsTooHeavy};
+ghost use Rattle.ly_lexread.specs.Faults.{IsAtMost, IsTooHeavy};
 ghost use Rattle.ly_lexread.specs.Private.Statements.{saying_of, statement_of, value_meaning};
 ghost use Rattle.ly_lexread.specs.Statements.{Follows, LineEnds, SaysAction, Statements};
 ghost use Rattle.ly_lexread.specs.declared.action_fault.ActionFault.TheVariants as refusal;
@@ -12,11 +12,11 @@ ghost use Rattle.ly_lexread.specs.declared.statement.Extent.TheVariants.{Braces}
 
 use crate::action_fault::ActionFault;
 use crate::conditions::Conditions;
-use crate::fault::LexFault;
-use crate::rest::{Rest, behind_newline, line_length};
+use crate::fault::{LexFault, LexFaultKind};
+use crate::rest::{Line, Rest, behind_newline, line_length};
 use crate::statement::{Extent, Statement, Value, read_statement};
 use crate::words::next_word;
-use ly_base::Language;
+use ly_base::{Language, after_gap};
 use std::alloc::{AllocError, Global};
 
 /// What a rule's action does.
@@ -46,8 +46,8 @@ pub enum Returned {
 pub(crate) enum Said {
     /// It is this one.
     Own(LexAction),
-    /// It is that of the next rule: `|`.
-    Next,
+    /// It is that of the next rule: `|`, from which so many bytes of the file are left.
+    Next(usize),
 }
 
 impl Returned {
@@ -162,11 +162,12 @@ pub(crate) fn read_action<'t>(
     requires { on_line ≤ length text.bytes.now }
     ensures ok { IfOk result (λ read. SaysAction conditions.now (take on_line text.entry.bytes.now)
         (drop on_line text.entry.bytes.now) (saying_of read.0) read.1.bytes.now) }
-    ensures of_text { IfErr result (λ fault. fault ≢ OutOfMemory → IsOfText fault) }
     ensures light { IfErr result (λ fault. IsTooHeavy fault → ⊥) }
     ensures refused { IfErr result (λ fault. fault ≢ OutOfMemory → (s : Saying) (rest : List ℕ)
         → SaysAction conditions.now
         (take on_line text.entry.bytes.now) (drop on_line text.entry.bytes.now) s rest → ⊥) }
+    ensures whole { IfOk result (λ read. read.1.whole ≡ text.entry.whole) }
+    ensures within { IfErr result (IsAtMost text.entry.whole) }
 {
     let (line, end) = text.bytes.split_at(on_line);
     let (word, inside) = next_word(line, Language::Lex);
@@ -176,20 +177,19 @@ pub(crate) fn read_action<'t>(
     }
     let behind = Rest {
         bytes: behind_newline(end),
-        line: text.line.saturating_add(1),
+        ..text
     };
+    let here = Line { bytes: line, text };
     if word.is(b'|') {
         if !is_gap(inside) {
-            return Err(LexFault::BadAction { line: text.line });
+            return Err(here.fault(LexFaultKind::BadAction, after_gap(inside, Language::Lex)));
         }
-        return Ok((Said::Next, behind));
+        let left = here.left_from(inside).saturating_add(1);
+        return Ok((Said::Next(left), behind));
     }
     match read_statements(alloc, line, Extent::Line, conditions) {
         Ok((action, _rest)) => Ok((Said::Own(action), behind)),
-        Err(fault) => Err(fault.in_text(Rest {
-            bytes: line,
-            ..text
-        })),
+        Err(fault) => Err(fault.on_line(here)),
     }
 }
 
@@ -202,21 +202,19 @@ fn read_braced<'t>(
     ensures ok { IfOk result (λ read. (e : Effect) × ((behind : List ℕ) × (saying_of read.0 ≡ own e)
         × Statements conditions.now Braces no_effect text.entry.bytes.now e behind
         × LineEnds behind read.1.bytes.now)) }
-    ensures of_text { IfErr result (λ fault. fault ≢ OutOfMemory → IsOfText fault) }
     ensures light { IfErr result (λ fault. IsTooHeavy fault → ⊥) }
     ensures refused { IfErr result (λ fault. fault ≢ OutOfMemory → (e : Effect) (behind rest : List ℕ)
         → Statements conditions.now Braces no_effect text.entry.bytes.now e behind → LineEnds behind rest → ⊥) }
+    ensures whole { IfOk result (λ read. read.1.whole ≡ text.entry.whole) }
+    ensures within { IfErr result (IsAtMost text.entry.whole) }
 {
     let (action, behind) = match read_statements(alloc, text.bytes, Extent::Braces, conditions) {
         Ok(read) => read,
-        Err(fault) => return Err(fault.in_text(text)),
+        Err(fault) => return Err(fault.in_braces(text)),
     };
     match behind_gap_line(behind) {
-        Some(bytes) => {
-            let line = text.line_before(bytes);
-            Ok((Said::Own(action), Rest { bytes, line }))
-        }
-        None => Err(ActionFault::Word(behind).in_text(text)),
+        Some(bytes) => Ok((Said::Own(action), Rest { bytes, ..text })),
+        None => Err(ActionFault::Word(behind).in_braces(text)),
     }
 }
 

@@ -1,10 +1,10 @@
 ghost use Rattle.ly_lexread.specs.declared.action_fault.ActionFault.TheVariants.{OutOfMemory};
 ghost use Rattle.ly_lexread.specs.declared.fault.LexFault.TheVariants as lex;
-ghost use Rattle.ly_lexread.specs.Faults.{IsOfText, IsTooHeavy};
-ghost use Rattle.std.specs.Prelude.{◌≡◌, ◌≢◌};
+ghost use Rattle.ly_lexread.specs.Faults.{IsAtMost, IsTooHeavy};
+ghost use Rattle.std.specs.Prelude.{◌≡◌, ◌≤◌};
 
-use crate::fault::LexFault;
-use crate::rest::Rest;
+use crate::fault::{LexFault, LexFaultKind};
+use crate::rest::{Line, Rest};
 use ly_base::{Language, after_gap};
 use std::alloc::{AllocError, AllocFailed};
 
@@ -20,32 +20,53 @@ pub(crate) enum ActionFault<'t> {
 }
 
 impl ActionFault<'_> {
-    /// The fault of a file in which this text stands. An action whose braces aren't closed is at fault in the last
-    /// line.
-    pub(crate) fn in_text(self, text: Rest<'_>) -> LexFault
+    /// The fault of a file, where the action is what is left of a line.
+    pub(crate) fn on_line(self, line: Line<'_>) -> LexFault
         ensures memory { self.entry ≡ OutOfMemory → result ≡ lex.OutOfMemory }
-        ensures of_text { self.entry ≢ OutOfMemory → IsOfText result }
         ensures light { IsTooHeavy result → ⊥ }
+        ensures within { IsAtMost line.entry.text.whole result }
     {
         match self {
-            ActionFault::Word(at) => LexFault::BadAction {
-                line: line_of(at, text),
+            ActionFault::Word(at) => {
+                line.fault(LexFaultKind::BadAction, after_gap(at, Language::Lex))
+            }
+            ActionFault::Condition(at) => {
+                line.fault(LexFaultKind::UnknownCondition, after_gap(at, Language::Lex))
+            }
+            ActionFault::OutOfMemory => LexFault::OutOfMemory,
+        }
+    }
+
+    /// The fault of a file, of which so much is left behind the brace that opens an action.
+    pub(crate) fn in_braces(self, text: Rest<'_>) -> LexFault
+        ensures memory { self.entry ≡ OutOfMemory → result ≡ lex.OutOfMemory }
+        ensures light { IsTooHeavy result → ⊥ }
+        ensures within { IsAtMost text.entry.whole result }
+    {
+        match self {
+            ActionFault::Word(at) => LexFault::Refused {
+                kind: LexFaultKind::BadAction,
+                offset: word_offset(at, text),
             },
-            ActionFault::Condition(at) => LexFault::UnknownCondition {
-                line: line_of(at, text),
+            ActionFault::Condition(at) => LexFault::Refused {
+                kind: LexFaultKind::UnknownCondition,
+                offset: word_offset(at, text),
             },
             ActionFault::OutOfMemory => LexFault::OutOfMemory,
         }
     }
 }
 
-/// The line of the word that is at fault. Where the text ends before it, or in a comment, it is the last line.
-fn line_of(at: &[u8], text: Rest<'_>) -> u64 {
+/// Which byte of a file the word is that is at fault in braces. Where the file ends before it, or in a comment, the
+/// braces aren't closed, and it is the last one.
+fn word_offset(at: &[u8], text: Rest<'_>) -> usize
+    ensures { result ≤ text.entry.whole }
+{
     let word = after_gap(at, Language::Yacc);
     if word.is_empty() || word.starts_with(b"/*") {
-        text.last_line()
+        text.last_offset()
     } else {
-        text.line_before(word)
+        text.offset_in(text.bytes, word)
     }
 }
 

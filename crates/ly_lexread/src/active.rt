@@ -22,6 +22,22 @@ pub(crate) fn read_active<'t>(
     }
 }
 
+/// What is left of a line from the name in front of a rule on that is no condition, or from the `<` of a list that isn't
+/// well formed on.
+pub(crate) fn fault_in_list<'t>(line: &'t [u8], conditions: &Conditions) -> &'t [u8] {
+    let mut left = line.strip_prefix(b"<").unwrap_or(line);
+    while let Some((_number, behind)) = leading_condition(left, conditions) {
+        match behind.strip_prefix(b",") {
+            Some(more) => left = more,
+            None => return line,
+        }
+    }
+    match leading_name(left, Language::Lex) {
+        Some(_) => left,
+        None => line,
+    }
+}
+
 /// Reads conditions with commas between them, up to the `>`, and answers what stands behind it.
 fn read_list<'t>(
     alloc: Global,

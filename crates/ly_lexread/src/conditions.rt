@@ -1,6 +1,8 @@
-ghost use Rattle.std.specs.Prelude.{◌≡◌, ◌≢◌, ◌<◌, ◌^◌, ◌++◌, ◌∷◌, [], ℕ, None, Some, length, IfOk, MatchOption};
+ghost use Rattle.std.specs.Prelude.{◌≡◌, ◌≢◌, ◌<◌, ◌^◌, ◌++◌, ◌∷◌, [], ℕ, None, Some, length, map, zip, IfOk, MatchOption};
 ghost use Rattle.ly_lexread.specs.Conditions.{Condition, condition_of, inclusive, initial};
+ghost use Rattle.ly_lexread.specs.LexText.{conditions_in, declared_at, said_of};
 
+use crate::file::StartCondition;
 use indexmap::IndexSet;
 use std::alloc::{AllocError, Global};
 use std::marker::Model;
@@ -12,6 +14,8 @@ pub(crate) struct Conditions {
     names: IndexSet<Vec<u8>>,
     /// Whether each is exclusive.
     exclusive: Vec<bool>,
+    /// How many bytes of the file are left from the name of each on, where it is declared; none for the initial one.
+    lefts: Vec<usize>,
 }
 
 impl Model for Conditions {
@@ -21,11 +25,12 @@ impl Model for Conditions {
 
     ghost Value = { List Condition };
 
-    ghost coded = { coded_list (coded× (coded_list coded_ℕ) coded_bool) };
+    ghost coded = { coded_list (coded× (coded_list coded_ℕ) (coded× coded_bool coded_ℕ)) };
 
-    ghost view = { λ c. zip (map (λ k. k.items) c.names.keys) c.exclusive.items };
+    ghost view = { λ c. zip (map (λ k. k.items) c.names.keys) (zip c.exclusive.items c.lefts.items) };
 
-    ghost invariant = { λ c. (length c.names.keys ≡ length c.exclusive.items) × (length c.exclusive.items < 2 ^ 32) };
+    ghost invariant = { λ c. (length c.names.keys ≡ length c.exclusive.items)
+        × (length c.lefts.items ≡ length c.exclusive.items) × (length c.exclusive.items < 2 ^ 32) };
 }
 
 impl Conditions {
@@ -36,25 +41,28 @@ impl Conditions {
         let none = Conditions {
             names: IndexSet::new(alloc),
             exclusive: Vec::new(alloc),
+            lefts: Vec::new(alloc),
         };
-        none.with_condition(alloc, b"INITIAL", false)
+        none.with_condition(alloc, b"INITIAL", false, 0)
     }
 
-    /// These and one more, of a name that has none.
+    /// These and one more, of a name that has none; so many bytes of the file are left from that name on.
     pub(crate) fn with_condition(
         mut self,
         alloc: Global,
         name: &[u8],
         exclusive: bool,
+        left: usize,
     ) -> Result<Self, AllocError>
         requires { condition_of self name.now ≡ None }
-        ensures { IfOk result (λ conditions. conditions ≡ self ++ (name.now, exclusive) ∷ []) }
+        ensures { IfOk result (λ conditions. conditions ≡ self ++ (name.now, (exclusive, left)) ∷ []) }
     {
         if self.exclusive.len() >= u32::MAX as usize {
             return Err(AllocError);
         }
         self.names.insert(Vec::from_slice(alloc, name)?)?;
         self.exclusive.push(exclusive)?;
+        self.lefts.push(left)?;
         Ok(self)
     }
 
@@ -79,10 +87,54 @@ impl Conditions {
         Ok(numbers)
     }
 
+    /// What they are in a file of so many bytes, in the order of their numbers.
+    pub(crate) fn named(
+        &self,
+        alloc: Global,
+        whole: usize,
+    ) -> Result<Vec<StartCondition>, AllocError>
+        ensures { IfOk result (λ all. map said_of all.items ≡ conditions_in whole self.now) }
+    {
+        named(alloc, &self.names, &self.lefts, whole)
+    }
+
     /// How many there are.
     pub(crate) fn count(&self) -> u32
         ensures { result ≡ length self.now }
     {
         self.exclusive.len() as u32
+    }
+}
+
+/// The conditions of these names in a file of so many bytes, of which so many are left from each name on.
+fn named(
+    alloc: Global,
+    names: &IndexSet<Vec<u8>>,
+    lefts: &[usize],
+    whole: usize,
+) -> Result<Vec<StartCondition>, AllocError>
+    requires { length names.now.keys ≡ length lefts.now }
+    ensures { IfOk result (λ all. map said_of all.items
+        ≡ zip (map (λ k. k.items) names.now.keys) (map (declared_at whole) lefts.now)) }
+{
+    let mut all = Vec::new(alloc);
+    for (place, left) in lefts.iter().enumerate() {
+        let name = names.get_index(place).unwrap();
+        all.push(StartCondition {
+            name: Vec::from_slice(alloc, name)?,
+            offset: declared_at(whole, *left),
+        })?;
+    }
+    Ok(all)
+}
+
+/// Which byte of a file of so many is the first of a name from which so many are left; none where no byte is.
+fn declared_at(whole: usize, left: usize) -> Option<usize>
+    ensures { result ≡ declared_at whole left }
+{
+    if left == 0 {
+        None
+    } else {
+        Some(whole.saturating_sub(left))
     }
 }

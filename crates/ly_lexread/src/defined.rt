@@ -1,8 +1,9 @@
-ghost use Rattle.std.specs.Prelude.{◌≡◌, ◌++◌, ◌∷◌, ◌⊎◌, [], ℕ, List, Contains, IfOk, MatchBool, MatchOption, map};
+ghost use Rattle.std.specs.Prelude.{◌≡◌, ◌++◌, ◌∷◌, ◌⊎◌, [], ℕ, List, Contains, length, IfOk, MatchBool, MatchOption, map};
 ghost use Rattle.ly_lexread.specs.Definitions.{defined_names, DefinesName};
 ghost use Rattle.ly_lexread.specs.Private.Names.{AreApart, parts_of};
 
 use crate::blanks::behind_blanks;
+use crate::rest::Line;
 use indexmap::IndexSet;
 use ly_base::{Language, leading_name};
 use ly_ere::NamedText;
@@ -14,8 +15,24 @@ use std::marker::Model;
 pub(crate) struct NameLine<'t> {
     /// The name, and all that stands behind its blanks.
     pub(crate) defined: NamedText<'t>,
-    /// The number of the line.
-    pub(crate) number: u64,
+    /// How many bytes of the file are left from the line on.
+    pub(crate) left: usize,
+    /// How many are left from what stands behind the blanks on.
+    pub(crate) text_left: usize,
+}
+
+impl<'t> NameLine<'t> {
+    /// A line that defines this.
+    pub(crate) fn of(defined: NamedText<'t>, line: Line<'_>) -> Self
+        ensures defined { result.defined ≡ defined.entry }
+        ensures left { result.left ≡ length line.entry.text.bytes.now }
+    {
+        NameLine {
+            defined,
+            left: line.text.bytes.len(),
+            text_left: line.left_from(defined.text),
+        }
+    }
 }
 
 /// The name at the beginning of a line that defines one, and all that stands behind its blanks.
@@ -31,6 +48,15 @@ pub(crate) fn definition_on(line: &[u8]) -> Option<NamedText<'_>>
     Some(NamedText { name, text })
 }
 
+/// Which byte of a line is the first that has no place in one that defines a name, where it defines none: the first of
+/// all, where it has no name, and else what stands behind the name and blanks.
+pub(crate) fn misplaced_in(line: &[u8]) -> &[u8] {
+    match leading_name(line, Language::Lex) {
+        Some((_name, behind)) => behind_blanks(behind).unwrap_or(behind),
+        None => line,
+    }
+}
+
 /// Lines that define names, no two the same name.
 #[derive(Drop)]
 pub(crate) struct NameLines<'t> {
@@ -43,12 +69,12 @@ pub(crate) struct NameLines<'t> {
 impl<'t> Model for NameLines<'t> {
     ghost use Rattle.std.specs.Prelude.{◌≡◌, ℕ, List, map};
     ghost use Rattle.std.specs.Coded.{coded_list, coded_ℕ, coded×};
-    ghost use Rattle.ly_lexread.specs.Definitions.{defined_names};
+    ghost use Rattle.ly_lexread.specs.Definitions.{DefinedLine, defined_names};
     ghost use Rattle.ly_lexread.specs.Private.Names.{AreApart, parts_of};
 
-    ghost Value = { List (List ℕ × List ℕ) };
+    ghost Value = { List DefinedLine };
 
-    ghost coded = { coded_list (coded× (coded_list coded_ℕ) (coded_list coded_ℕ)) };
+    ghost coded = { coded_list (coded× (coded_list coded_ℕ) (coded× (coded_list coded_ℕ) coded_ℕ)) };
 
     ghost view = { λ d. map parts_of d.lines.items };
 

@@ -1,16 +1,17 @@
-ghost use Rattle.std.specs.Prelude.{◌≡◌, ◌≢◌, ◌<◌, ℕ, length, IfOk, IfSome, List, MatchOption};
+ghost use Rattle.std.specs.Prelude.{◌≡◌, ◌-◌, ◌<◌, ℕ, length, IfErr, IfOk, IfSome, List, MatchOption};
 ghost use Rattle.ly_lexread.specs.Definitions.{at_first, DefinitionLine, Definitions, DirectiveLine, Says};
-ghost use Rattle.ly_lexread.specs.Faults.{IsOfText, IsTooHeavy};
+ghost use Rattle.ly_lexread.specs.Lines.{left_in};
+ghost use Rattle.ly_lexread.specs.Faults.{IsAtMost, IsTooHeavy};
 ghost use Rattle.ly_lexread.specs.Private.Definitions.{preamble_of, Adds, Ends, IsDirected, IsFound};
 ghost use Rattle.ly_lexread.specs.declared.fault.LexFault.TheVariants.{OutOfMemory};
 
 use crate::conditions::Conditions;
-use crate::defined::{NameLine, NameLines, definition_on};
+use crate::defined::{NameLine, NameLines, definition_on, misplaced_in};
 use crate::directive::read_directive;
-use crate::fault::LexFault;
+use crate::fault::{LexFault, LexFaultKind};
 use crate::kind::{LineKind, kind_of};
 use crate::names::read_definition_texts;
-use crate::rest::Rest;
+use crate::rest::{Line, Rest};
 use crate::skipped::{behind_block, behind_comment};
 use ly_base::Limits;
 use std::alloc::{AllocError, Global};
@@ -36,28 +37,26 @@ impl<'t> Preamble<'t> {
     }
 
     /// What is said behind a line of this kind.
-    fn with_line(
-        self,
-        alloc: Global,
-        kind: LineKind,
-        line: &'t [u8],
-        number: u64,
-    ) -> Result<Self, LexFault>
-        ensures { IsDirected (λ preamble. Adds kind (preamble_of self.entry) line.now (preamble_of preamble)) result }
+    fn with_line(self, alloc: Global, kind: LineKind, line: Line<'t>) -> Result<Self, LexFault>
+        ensures these { IsDirected (λ preamble. Adds kind (preamble_of self.entry) line.entry.text.bytes.now
+            line.entry.bytes.now (preamble_of preamble)) result }
+        ensures within { IfErr result (IsAtMost line.entry.text.whole) }
     {
         match kind {
-            LineKind::Directive => self.directed(alloc, line, number),
-            LineKind::Plain => self.with_name(alloc, line, number),
+            LineKind::Directive => self.directed(alloc, line),
+            LineKind::Plain => self.with_name(alloc, line),
             LineKind::Mark | LineKind::Unused | LineKind::Block | LineKind::Comment => Ok(self),
         }
     }
 
     /// What is said behind a line that begins with `%`.
-    fn directed(self, alloc: Global, line: &[u8], number: u64) -> Result<Self, LexFault>
-        ensures { IsDirected (λ preamble. ((preamble_of preamble).definitions ≡ self.entry.definitions)
-            × DirectiveLine self.entry.conditions line.now (preamble_of preamble).conditions) result }
+    fn directed(self, alloc: Global, line: Line<'_>) -> Result<Self, LexFault>
+        ensures these { IsDirected (λ preamble. ((preamble_of preamble).definitions ≡ self.entry.definitions)
+            × DirectiveLine (left_in line.entry.text.bytes.now line.entry.bytes.now) self.entry.conditions
+            line.entry.bytes.now (preamble_of preamble).conditions) result }
+        ensures within { IfErr result (IsAtMost line.entry.text.whole) }
     {
-        let conditions = read_directive(alloc, line, number, self.conditions)?;
+        let conditions = read_directive(alloc, line, self.conditions)?;
         Ok(Preamble {
             conditions,
             definitions: self.definitions,
@@ -65,22 +64,22 @@ impl<'t> Preamble<'t> {
     }
 
     /// What is said behind a line that defines a name.
-    fn with_name(self, alloc: Global, line: &'t [u8], number: u64) -> Result<Self, LexFault>
-        ensures { IsDirected (λ preamble. ((preamble_of preamble).conditions ≡ self.entry.conditions)
-            × DefinitionLine self.entry.definitions line.now (preamble_of preamble).definitions) result }
+    fn with_name(self, alloc: Global, line: Line<'t>) -> Result<Self, LexFault>
+        ensures these { IsDirected (λ preamble. ((preamble_of preamble).conditions ≡ self.entry.conditions)
+            × DefinitionLine (length line.entry.text.bytes.now) self.entry.definitions line.entry.bytes.now
+            (preamble_of preamble).definitions) result }
+        ensures within { IfErr result (IsAtMost line.entry.text.whole) }
     {
-        let fault = LexFault::BadDefinition { line: number };
-        let Some(defined) = definition_on(line) else {
+        let Some(defined) = definition_on(line.bytes) else {
             drop(self);
-            return Err(fault);
+            return Err(line.fault(LexFaultKind::BadDefinition, misplaced_in(line.bytes)));
         };
         if self.definitions.defines(defined.name) {
             drop(self);
-            return Err(fault);
+            return Err(line.fault(LexFaultKind::BadDefinition, line.bytes));
         }
-        let definitions = self
-            .definitions
-            .with_line(alloc, NameLine { defined, number })?;
+        let named = NameLine::of(defined, line);
+        let definitions = self.definitions.with_line(alloc, named)?;
         Ok(Preamble {
             conditions: self.conditions,
             definitions,
@@ -93,8 +92,10 @@ pub(crate) fn read_definitions<'t>(
     alloc: Global,
     text: Rest<'t>,
 ) -> Result<(Preamble<'t>, Rest<'t>), LexFault>
-    ensures { IsFound (Definitions at_first text.entry.bytes.now) (λ read. preamble_of read.0)
+    ensures these { IsFound (Definitions at_first text.entry.bytes.now) (λ read. preamble_of read.0)
         (λ read. read.1.bytes.now) result }
+    ensures whole { IfOk result (λ read. read.1.whole ≡ text.entry.whole) }
+    ensures within { IfErr result (IsAtMost text.entry.whole) }
 {
     let mut preamble = Preamble::new(alloc)?;
     let mut left = text;
@@ -104,8 +105,9 @@ pub(crate) fn read_definitions<'t>(
         }
         (preamble, left) = read_definition_line(alloc, left, preamble)?;
     }
-    Err(LexFault::NoRulesMark {
-        line: text.last_line(),
+    Err(LexFault::Refused {
+        kind: LexFaultKind::NoRulesMark,
+        offset: text.last_offset(),
     })
 }
 
@@ -118,8 +120,13 @@ fn read_definition_line<'t>(
     ensures these { IsFound (Says (preamble_of preamble.entry) text.entry.bytes.now) (λ read. preamble_of read.0)
         (λ read. read.1.bytes.now) result }
     ensures shorter { IfOk result (λ read. length read.1.bytes.now < length text.entry.bytes.now) }
+    ensures whole { IfOk result (λ read. read.1.whole ≡ text.entry.whole) }
+    ensures within { IfErr result (IsAtMost text.entry.whole) }
 {
-    let fault = LexFault::BadDefinition { line: text.line };
+    let fault = LexFault::Refused {
+        kind: LexFaultKind::BadDefinition,
+        offset: text.offset(),
+    };
     let Some((line, behind)) = text.first_line() else {
         drop(preamble);
         return Err(fault);
@@ -129,7 +136,8 @@ fn read_definition_line<'t>(
         drop(preamble);
         return Err(fault);
     };
-    Ok((preamble.with_line(alloc, kind, line, text.line)?, rest))
+    let line = Line { bytes: line, text };
+    Ok((preamble.with_line(alloc, kind, line)?, rest))
 }
 
 /// The fault that is answered where a line of the definitions, or the lack of a mark, has this one: the text of a
@@ -140,20 +148,21 @@ pub(crate) fn first_fault(
     fault: LexFault,
     limits: &Limits,
 ) -> LexFault
-    ensures of_text { (fault ≢ OutOfMemory → IsOfText fault) → result ≢ OutOfMemory → IsOfText result }
     ensures memory { fault ≡ OutOfMemory → result ≡ OutOfMemory }
     ensures light { (IsTooHeavy fault → ⊥) → IsTooHeavy result → ⊥ }
+    ensures within { IsAtMost (length text.entry.bytes.now) fault
+        → IsAtMost (length text.entry.bytes.now) result }
 {
     match named_lines(alloc, text) {
         Ok(definitions) => {
-            let read = read_definition_texts(alloc, &definitions, limits);
+            let read = read_definition_texts(alloc, text.bytes, &definitions, limits);
             drop(definitions);
             match read {
                 Ok(names) => {
                     drop(names);
                     fault
                 }
-                Err(earlier) => earlier.or_earlier(fault),
+                Err(earlier) => earlier.or_earlier(fault, text.bytes),
             }
         }
         Err(_) => LexFault::OutOfMemory,
@@ -170,7 +179,14 @@ fn named_lines<'t>(alloc: Global, text: Rest<'t>) -> Result<NameLines<'t>, Alloc
             break;
         };
         if let LineKind::Plain = kind {
-            definitions = with_first(alloc, definitions, line, left.line)?;
+            definitions = with_first(
+                alloc,
+                definitions,
+                Line {
+                    bytes: line,
+                    text: left,
+                },
+            )?;
         }
         left = rest;
     }
@@ -184,6 +200,7 @@ fn behind_definition<'t>(kind: LineKind, text: Rest<'t>, behind: Rest<'t>) -> Op
         ((rest : List ℕ) → Ends kind text.entry.bytes.now behind.entry.bytes.now rest → ⊥)
         (λ rest. Ends kind text.entry.bytes.now behind.entry.bytes.now rest.bytes.now) }
     ensures shorter { IfSome result (λ rest. length rest.bytes.now < length text.entry.bytes.now) }
+    ensures whole { behind.entry.whole ≡ text.entry.whole → IfSome result (λ rest. rest.whole ≡ text.entry.whole) }
 {
     match kind {
         LineKind::Mark => None,
@@ -197,12 +214,11 @@ fn behind_definition<'t>(kind: LineKind, text: Rest<'t>, behind: Rest<'t>) -> Op
 fn with_first<'t>(
     alloc: Global,
     definitions: NameLines<'t>,
-    line: &'t [u8],
-    number: u64,
+    line: Line<'t>,
 ) -> Result<NameLines<'t>, AllocError> {
-    match definition_on(line) {
+    match definition_on(line.bytes) {
         Some(defined) if !definitions.defines(defined.name) => {
-            definitions.with_line(alloc, NameLine { defined, number })
+            definitions.with_line(alloc, NameLine::of(defined, line))
         }
         _ => Ok(definitions),
     }

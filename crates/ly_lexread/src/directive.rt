@@ -1,13 +1,16 @@
-ghost use Rattle.std.specs.Prelude.{◌≡◌, ◌++◌, ◌<◌, ℕ, List, codes, IfSome, MatchBool, MatchOption, length};
+ghost use Rattle.std.specs.Prelude.{◌≡◌, ◌++◌, ◌<◌, ℕ, List, codes, IfErr, IfSome, MatchBool, MatchOption, length};
 ghost use Rattle.ly_base.specs.Language.{NameBefore};
 ghost use Rattle.ly_base.specs.declared.language.Language.TheVariants.{Lex};
 ghost use Rattle.ly_lexread.specs.Definitions.{BlanksBefore, Declares, DeclaresAll, DirectiveLine, directive_of};
 ghost use Rattle.ly_lexread.specs.Definitions.{begins_among, is_one_of, IsIdle, IsNumber};
+ghost use Rattle.ly_lexread.specs.Faults.{IsAtMost};
+ghost use Rattle.ly_lexread.specs.Lines.{left_in};
 ghost use Rattle.ly_lexread.specs.Private.Definitions.{IsDirected};
 
 use crate::blanks::{are_blanks, behind_blanks};
 use crate::conditions::Conditions;
-use crate::fault::LexFault;
+use crate::fault::{LexFault, LexFaultKind};
+use crate::rest::Line;
 use ly_base::{Language, leading_digits, leading_name};
 use std::alloc::Global;
 
@@ -29,26 +32,50 @@ pub(crate) enum Directed {
 /// Reads a line that begins with `%`, and answers the conditions behind it.
 pub(crate) fn read_directive(
     alloc: Global,
-    line: &[u8],
-    number: u64,
+    line: Line<'_>,
     conditions: Conditions,
 ) -> Result<Conditions, LexFault>
-    ensures { IsDirected (DirectiveLine conditions line.now) result }
+    ensures these { IsDirected (DirectiveLine (left_in line.entry.text.bytes.now line.entry.bytes.now) conditions
+        line.entry.bytes.now) result }
+    ensures within { IfErr result (IsAtMost line.entry.text.whole) }
 {
-    let Some((word, rest)) = directive_word(line) else {
-        return Err(LexFault::BadDefinition { line: number });
+    let Some((word, rest)) = directive_word(line.bytes) else {
+        return Err(line.fault(LexFaultKind::BadDefinition, behind_sign(line.bytes)));
     };
     let directed = directive_of(word);
     match directed {
-        Directed::Inclusive => declare(alloc, rest, number, conditions, false),
-        Directed::Exclusive => declare(alloc, rest, number, conditions, true),
+        Directed::Inclusive => declare(alloc, rest, line, conditions, false),
+        Directed::Exclusive => declare(alloc, rest, line, conditions, true),
         _ => {
             if is_idle(directed, rest) {
                 Ok(conditions)
             } else {
-                Err(LexFault::BadDefinition { line: number })
+                let misplaced = misplaced_in(directed, line.bytes, rest);
+                Err(line.fault(LexFaultKind::BadDefinition, misplaced))
             }
         }
+    }
+}
+
+/// What stands behind the first byte.
+fn behind_sign(line: &[u8]) -> &[u8] {
+    match line.split_first() {
+        Some((_sign, behind)) => behind,
+        None => line,
+    }
+}
+
+/// What is left of the line of a directive that isn't used from the first byte on that has no place there: all of it,
+/// where the word isn't known, and else what stands behind blanks, but a number where one may stand.
+fn misplaced_in<'t>(directed: Directed, line: &'t [u8], rest: &'t [u8]) -> &'t [u8] {
+    let behind = behind_blanks(rest).unwrap_or(rest);
+    match directed {
+        Directed::Size => match leading_digits(behind) {
+            Some((_digits, rest)) => behind_blanks(rest).unwrap_or(rest),
+            None => behind,
+        },
+        Directed::TextKind => behind,
+        _ => line,
     }
 }
 
@@ -130,14 +157,16 @@ fn is_number(text: &[u8]) -> bool
 fn declare(
     alloc: Global,
     names: &[u8],
-    line: u64,
+    line: Line<'_>,
     conditions: Conditions,
     exclusive: bool,
 ) -> Result<Conditions, LexFault>
-    ensures { IsDirected (Declares exclusive conditions names.now) result }
+    ensures these { IsDirected (Declares exclusive (left_in line.entry.text.bytes.now line.entry.bytes.now) conditions
+        names.now) result }
+    ensures within { IfErr result (IsAtMost line.entry.text.whole) }
 {
     if are_blanks(names) {
-        return Err(LexFault::BadDefinition { line });
+        return Err(line.fault(LexFaultKind::BadDefinition, b""));
     }
     declare_all(alloc, names, line, conditions, exclusive)
 }
@@ -146,33 +175,38 @@ fn declare(
 fn declare_all(
     alloc: Global,
     names: &[u8],
-    line: u64,
+    line: Line<'_>,
     conditions: Conditions,
     exclusive: bool,
 ) -> Result<Conditions, LexFault>
-    ensures { IsDirected (DeclaresAll exclusive conditions names.now) result }
+    ensures these { IsDirected (DeclaresAll exclusive (left_in line.entry.text.bytes.now line.entry.bytes.now)
+        conditions names.now) result }
+    ensures within { IfErr result (IsAtMost line.entry.text.whole) }
 {
     let mut all = conditions;
     let mut left = names;
     while !are_blanks(left) {
-        let Some((name, behind)) = next_name(left) else {
-            return Err(LexFault::BadDefinition { line });
+        let Some((here, name, behind)) = next_name(left) else {
+            let misplaced = behind_blanks(left).unwrap_or(left);
+            return Err(line.fault(LexFaultKind::BadDefinition, misplaced));
         };
         if all.find(name).is_some() {
-            return Err(LexFault::ConditionTwice { line });
+            return Err(line.fault(LexFaultKind::ConditionTwice, here));
         }
-        all = all.with_condition(alloc, name, exclusive)?;
+        all = all.with_condition(alloc, name, exclusive, line.left_from(here))?;
         left = behind;
     }
     Ok(all)
 }
 
-/// The name behind the blanks at the front, and what stands behind it.
-fn next_name(text: &[u8]) -> Option<(&[u8], &[u8])>
+/// What stands behind the blanks at the front, the name that it begins with, and what stands behind that.
+fn next_name(text: &[u8]) -> Option<(&[u8], &[u8], &[u8])>
     ensures these { MatchOption result ((behind name rest : List ℕ) → BlanksBefore text.now behind
         → NameBefore Lex behind name rest → ⊥)
-        (λ found. (behind : List ℕ) × BlanksBefore text.now behind × NameBefore Lex behind found.0.now found.1.now) }
-    ensures shorter { IfSome result (λ found. length found.1.now < length text.now) }
+        (λ found. BlanksBefore text.now found.0.now × NameBefore Lex found.0.now found.1.now found.2.now) }
+    ensures shorter { IfSome result (λ found. length found.2.now < length text.now) }
 {
-    leading_name(behind_blanks(text)?, Language::Lex)
+    let here = behind_blanks(text)?;
+    let (name, behind) = leading_name(here, Language::Lex)?;
+    Some((here, name, behind))
 }

@@ -7,7 +7,7 @@ use ly_base::is_blank;
 
 /// What a line is by its first bytes.
 #[derive(Clone, Copy)]
-pub(crate) enum LineKind {
+pub enum LineKind {
     /// `%%`, which begins the rules, and what follows them.
     Mark,
     /// It is empty, or a blank stands in front.
@@ -41,8 +41,8 @@ impl LineKind {
     }
 }
 
-/// What a line is.
-pub(crate) fn kind_of(line: &[u8]) -> LineKind
+/// What a line is, which is without its newline.
+pub fn kind_of(line: &[u8]) -> LineKind
     ensures { result ≡ kind_of line.now }
 {
     if is_unused(line) {

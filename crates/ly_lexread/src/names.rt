@@ -1,51 +1,86 @@
 ghost use Rattle.std.specs.Prelude.{◌≡◌, ◌≢◌, ◌∷◌, ◌++◌, ◌⊎◌, [], ℕ, List, None, true, false, map};
-ghost use Rattle.std.specs.Prelude.{IfOk, MatchBool, OnOk};
+ghost use Rattle.std.specs.Prelude.{IfErr, IfOk, MatchBool, OnOk, length};
 ghost use Rattle.ly_ere.specs.Definitions.{AreLightNames};
-ghost use Rattle.ly_lexread.specs.Faults.{IsTooHeavy};
+ghost use Rattle.ly_lexread.specs.Definitions.{DefinedLine};
+ghost use Rattle.ly_lexread.specs.Faults.{IsAtMost, IsTooHeavy};
 ghost use Rattle.ly_lexread.specs.LexText.{IsReadAs};
 ghost use Rattle.ly_lexread.specs.Names.{AreDefinitions, HasHeavyDefinition, IsTextOf};
 ghost use Rattle.ly_lexread.specs.Private.Names.{AreCut, IsExtentOf, parts_of};
+ghost use Rattle.ly_ere.specs.Faults.{ere_kind};
+ghost use Rattle.ly_ere.specs.declared.fault.EreFault.TheVariants as ere;
+ghost use Rattle.ly_lexread.specs.Private.Names.{IsPatternFault};
 ghost use Rattle.ly_lexread.specs.declared.fault.LexFault.TheVariants.{OutOfMemory};
+ghost use Rattle.ly_lexread.specs.declared.fault.LexFaultKind.TheVariants.{BadDefinition};
 
-use crate::blanks::are_blanks;
+use crate::blanks::{are_blanks, behind_blanks};
 use crate::defined::{NameLine, NameLines};
-use crate::fault::{LexFault, pattern_fault};
+use crate::fault::{LexFault, LexFaultKind};
 use ly_base::Limits;
-use ly_ere::{NamedText, Names, expression_length, read_names};
+use ly_ere::{EreFault, NamedText, Names, expression_length, read_names};
 use std::alloc::{AllocError, Global};
 
-/// Reads the expressions of definitions, which may use one another in any order.
+/// Reads the expressions of the definitions of a file, which may use one another in any order.
 ///
 /// The fault is that of the least line: a `Pattern` where a text is no expression, has a name that isn't defined or
 /// leads into a cycle, and else `BadDefinition` where more than blanks stands behind the expression. A definition that
 /// weighs too much is a fault only where nothing else is wrong with any of them.
 pub(crate) fn read_definition_texts(
     alloc: Global,
+    file: &[u8],
     definitions: &NameLines<'_>,
     limits: &Limits,
 ) -> Result<Names, LexFault>
-    ensures { IsReadAs (λ names. names) (AreDefinitions definitions.now) (AreLightNames limits.now.pattern_weight)
+    ensures read { IsReadAs (λ names. names) (AreDefinitions definitions.now) (AreLightNames limits.now.pattern_weight)
         (HasHeavyDefinition limits.now.pattern_weight definitions.now) result }
+    ensures within { IfErr result (IsAtMost (length file.now)) }
 {
     let lines = definitions.lines();
     let texts = texts_of(alloc, lines)?;
     let names = match read_names(alloc, &texts.list, limits) {
         Ok(names) => names,
         Err((place, fault)) => {
-            return Err(texts.first_fault(pattern_fault(number_at(lines, place), fault)));
+            let fault = pattern_fault(file.len(), text_left(lines, place), fault);
+            return Err(texts.first_fault(fault, file));
         }
     };
     match texts.flaw {
-        Some(line) => Err(LexFault::BadDefinition { line }),
+        Some(left) => Err(flaw_fault(file, left)),
         None => Ok(names),
     }
 }
 
-/// The number of the line at a place of a list; 0 where there is none.
-fn number_at(lines: &[NameLine<'_>], place: usize) -> u64 {
+/// How many bytes of the file are left from the text of the line at a place of a list on; none where there is no line.
+fn text_left(lines: &[NameLine<'_>], place: usize) -> usize {
     match lines.get(place) {
-        Some(line) => line.number,
+        Some(line) => line.text_left,
         None => 0,
+    }
+}
+
+/// The fault of a file of so many bytes in which the pattern is refused from which so many are left.
+pub(crate) fn pattern_fault(whole: usize, left: usize, fault: EreFault) -> LexFault
+    ensures memory { fault ≡ ere.OutOfMemory → result ≡ OutOfMemory }
+    ensures other { fault ≢ ere.OutOfMemory → IsPatternFault (ere_kind fault) result }
+    ensures within { IsAtMost whole result }
+{
+    match fault {
+        EreFault::Refused { kind, offset } => LexFault::Refused {
+            kind: LexFaultKind::Pattern(kind),
+            offset: whole.saturating_sub(left.saturating_sub(offset)),
+        },
+        EreFault::OutOfMemory => LexFault::OutOfMemory,
+    }
+}
+
+/// The fault of a file in which more than blanks stands behind the expression of a definition, from where so many bytes
+/// are left.
+fn flaw_fault(file: &[u8], left: usize) -> LexFault
+    ensures these { (offset : ℕ) × (result ≡ LexFault.Refused BadDefinition offset) }
+    ensures within { IsAtMost (length file.now) result }
+{
+    LexFault::Refused {
+        kind: LexFaultKind::BadDefinition,
+        offset: file.len().saturating_sub(left),
     }
 }
 
@@ -54,8 +89,8 @@ fn number_at(lines: &[NameLine<'_>], place: usize) -> u64 {
 pub(crate) struct NameTexts<'t> {
     /// They, in the order of the lines.
     list: Vec<NamedText<'t>>,
-    /// The number of the first line where more than blanks stands behind the expression.
-    flaw: Option<u64>,
+    /// How many bytes of the file are left from the first byte on that is no blank behind an expression, if there is one.
+    flaw: Option<usize>,
 }
 
 /// The texts of the expressions on these lines.
@@ -75,7 +110,7 @@ fn texts_of<'t>(alloc: Global, lines: &[NameLine<'t>]) -> Result<NameTexts<'t>, 
 impl<'t> NameTexts<'t> {
     /// That of one more line.
     fn push(&mut self, line: NameLine<'t>) -> Result<(), AllocError>
-        ensures { (ds : List (List ℕ × List ℕ)) → AreCut ds self.old
+        ensures { (ds : List DefinedLine) → AreCut ds self.old
             → OnOk result (AreCut (ds ++ parts_of line.entry ∷ []) self.new) }
     {
         let (text, is_whole) = expression_in(line.defined.text);
@@ -83,33 +118,43 @@ impl<'t> NameTexts<'t> {
             name: line.defined.name,
             text,
         })?;
-        self.flaw = first_flaw(self.flaw, is_whole, line.number);
+        self.flaw = first_flaw(self.flaw, is_whole, left_behind(line, text));
         Ok(())
     }
 
     /// The fault that is answered where this one is found among the expressions.
-    fn first_fault(&self, fault: LexFault) -> LexFault
+    fn first_fault(&self, fault: LexFault, file: &[u8]) -> LexFault
         ensures whole { self.now.flaw ≡ None → result ≡ fault }
         ensures flawed { self.now.flaw ≢ None → result ≢ OutOfMemory
-            → (result ≡ fault) ⊎ ((line : ℕ) × (result ≡ LexFault.BadDefinition line)) }
+            → (result ≡ fault) ⊎ ((offset : ℕ) × (result ≡ LexFault.Refused BadDefinition offset)) }
         ensures light { self.now.flaw ≢ None → IsTooHeavy result → ⊥ }
+        ensures within { IsAtMost (length file.now) fault → IsAtMost (length file.now) result }
     {
         match self.flaw {
             None => fault,
-            Some(line) => fault.or_earlier(LexFault::BadDefinition { line }),
+            Some(left) => fault.or_earlier(flaw_fault(file, left), file),
         }
     }
 }
 
-/// The first line that has a flaw, where one more is read.
-fn first_flaw(flaw: Option<u64>, is_whole: bool, number: u64) -> Option<u64>
+/// The first flaw, where one more line is read.
+fn first_flaw(flaw: Option<usize>, is_whole: bool, left: usize) -> Option<usize>
     ensures none { result ≡ None → (flaw ≡ None) × (is_whole ≡ true) }
     ensures some { result ≢ None → (flaw ≢ None) ⊎ (is_whole ≡ false) }
 {
     match flaw {
-        Some(line) => Some(line),
-        None => { if is_whole { None } else { Some(number) } }
+        Some(flaw) => Some(flaw),
+        None => { if is_whole { None } else { Some(left) } }
     }
+}
+
+/// How many bytes of the file are left behind the expression on a line, and blanks behind that.
+fn left_behind(line: NameLine<'_>, expression: &[u8]) -> usize {
+    let text = line.defined.text;
+    let behind = text.strip_prefix(expression).unwrap_or(b"");
+    let left = behind_blanks(behind).unwrap_or(behind);
+    let before = text.len().saturating_sub(left.len());
+    line.text_left.saturating_sub(before)
 }
 
 /// The text of the expression behind a name and its blanks, and whether nothing but blanks stands behind it.

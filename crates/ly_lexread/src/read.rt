@@ -1,13 +1,16 @@
-ghost use Rattle.std.specs.Prelude.{List, map, IfOk, MatchOption};
+ghost use Rattle.std.specs.Prelude.{◌≡◌, ◌-◌, ◌≤◌, ℕ, List, length, map, IfErr, IfOk, MatchOption};
 ghost use Rattle.ly_lexread.specs.Action.{AreEffects, Effect};
+ghost use Rattle.ly_lexread.specs.Faults.{IsAtMost};
 ghost use Rattle.ly_lexread.specs.LexText.{IsHeavyBehind, IsLight, IsRead, IsReadAs};
 ghost use Rattle.ly_lexread.specs.Private.Definitions.{preamble_of};
-ghost use Rattle.ly_lexread.specs.Private.File.{IsBehind, IsFileOf};
+ghost use Rattle.ly_lexread.specs.Private.File.{IsBehind, IsFileOf, IsStatedIn};
 ghost use Rattle.ly_lexread.specs.Private.Statements.{saying_of};
 
+use crate::action::Said;
+use crate::defined::NameLine;
 use crate::definitions::{Preamble, first_fault, read_definitions};
-use crate::fault::LexFault;
-use crate::file::LexFile;
+use crate::fault::{LexFault, LexFaultKind};
+use crate::file::{LexFile, StartCondition};
 use crate::names::read_definition_texts;
 use crate::rest::Rest;
 use crate::rules::{Section, read_rules};
@@ -26,12 +29,13 @@ use std::alloc::{AllocError, Global};
 /// definition, that is refused (a definition that is too heavy comes behind all other faults of the definitions);
 /// `BadAction` for an action; `BarAtEnd` where no rule follows a `|`; `OutOfMemory` where a growth was refused.
 pub fn read_lex(alloc: Global, bytes: &[u8], limits: &Limits) -> Result<LexFile, LexFault>
-    ensures { IsRead limits.now.pattern_weight bytes.now result }
+    ensures read { IsRead limits.now.pattern_weight bytes.now result }
+    ensures within { IfErr result (IsAtMost (length bytes.now)) }
 {
     let text = Rest::of(bytes);
     match read_definitions(alloc, text) {
         Ok((preamble, behind)) => {
-            let read = read_behind(alloc, &preamble, behind, limits);
+            let read = read_behind(alloc, bytes, &preamble, behind, limits);
             drop(preamble);
             read
         }
@@ -43,21 +47,72 @@ pub fn read_lex(alloc: Global, bytes: &[u8], limits: &Limits) -> Result<LexFile,
 /// expressions of definitions and for rules.
 fn read_behind(
     alloc: Global,
+    bytes: &[u8],
     preamble: &Preamble<'_>,
     behind: Rest<'_>,
     limits: &Limits,
 ) -> Result<LexFile, LexFault>
-    ensures { IsReadAs (λ file. file) (IsBehind (preamble_of preamble.now) behind.entry.bytes.now)
+    requires { behind.whole ≡ length bytes.now }
+    ensures read { IsReadAs (λ file. file)
+        (IsBehind (length bytes.now) (preamble_of preamble.now) behind.entry.bytes.now)
         (IsLight limits.now.pattern_weight)
         (IsHeavyBehind limits.now.pattern_weight (preamble_of preamble.now) behind.entry.bytes.now) result }
+    ensures within { IfErr result (IsAtMost (length bytes.now)) }
 {
-    let names = read_definition_texts(alloc, &preamble.definitions, limits)?;
+    let names = read_definition_texts(alloc, bytes, &preamble.definitions, limits)?;
     let section = read_rules(alloc, behind, &preamble.conditions, &names, limits)?;
-    let last = section.lines.last().copied().unwrap_or(behind.line);
-    match file_of(alloc, names, section, preamble.conditions.count())? {
+    let bar = bar_offset(&section.said, bytes.len());
+    let stated = stated_in(alloc, preamble, bytes.len())?;
+    match file_of(alloc, names, section, stated)? {
         Some(file) => Ok(file),
-        None => Err(LexFault::BarAtEnd { line: last }),
+        None => Err(LexFault::Refused {
+            kind: LexFaultKind::BarAtEnd,
+            offset: bar,
+        }),
     }
+}
+
+/// Which byte the `|` of the last rule is in a file of so many; where it has none, all of them.
+fn bar_offset(said: &[Said], whole: usize) -> usize
+    ensures { result ≤ whole }
+{
+    match said.last() {
+        Some(Said::Next(left)) => whole.saturating_sub(*left),
+        _ => whole,
+    }
+}
+
+/// What the definitions of a file say but for names: its conditions, and where the lines stand that define names.
+#[derive(Drop)]
+pub(crate) struct Stated {
+    /// How many conditions there are.
+    conditions: u32,
+    /// They, in the order of their numbers.
+    start_conditions: Vec<StartCondition>,
+    /// Which byte of the file is the first of each line that defines a name.
+    starts: Vec<usize>,
+}
+
+/// What definitions say in a file of so many bytes.
+fn stated_in(alloc: Global, preamble: &Preamble<'_>, whole: usize) -> Result<Stated, AllocError>
+    ensures { IfOk result (IsStatedIn whole (preamble_of preamble.now)) }
+{
+    Ok(Stated {
+        conditions: preamble.conditions.count(),
+        start_conditions: preamble.conditions.named(alloc, whole)?,
+        starts: starts_of(alloc, preamble.definitions.lines(), whole)?,
+    })
+}
+
+/// Which byte of a file of so many is the first of each of these lines.
+fn starts_of(alloc: Global, lines: &[NameLine<'_>], whole: usize) -> Result<Vec<usize>, AllocError>
+    ensures { IfOk result (λ starts. starts.items ≡ map (λ l. whole - l.left) lines.now) }
+{
+    let mut starts = Vec::new(alloc);
+    for line in lines {
+        starts.push(whole.saturating_sub(line.left))?;
+    }
+    Ok(starts)
 }
 
 /// The lex file of these definitions and rules. `None` where the last rule says `|`.
@@ -65,20 +120,26 @@ fn file_of(
     alloc: Global,
     names: Names,
     section: Section,
-    conditions: u32,
+    stated: Stated,
 ) -> Result<Option<LexFile>, AllocError>
     ensures { IfOk result (λ said. MatchOption said
         ((es : List Effect) → AreEffects (map saying_of section.said.items) es → ⊥)
-        (IsFileOf names section.rules.items (map saying_of section.said.items) conditions)) }
+        (IsFileOf names section (map saying_of section.said.items) stated)) }
 {
-    let Section { rules, said, lines } = section;
+    let Section {
+        rules,
+        said,
+        starts,
+    } = section;
     match share_actions(alloc, said)? {
         Some(actions) => Ok(Some(LexFile {
             names,
             rules,
             actions,
-            conditions,
-            lines,
+            conditions: stated.conditions,
+            start_conditions: stated.start_conditions,
+            rule_starts: starts,
+            definition_starts: stated.starts,
         })),
         None => Ok(None),
     }

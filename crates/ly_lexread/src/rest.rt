@@ -1,22 +1,53 @@
-ghost use Rattle.std.specs.Prelude.{◌≡◌, [], ◌<◌, ℕ, List, ◌≤◌, drop, length, not, nat_eq, IfSome, MatchOption};
+ghost use Rattle.std.specs.Prelude.{◌≡◌, [], ◌-◌, ◌<◌, ℕ, List, ◌≤◌, drop, length, not, nat_eq, IfSome, MatchOption};
 ghost use Rattle.std.specs.List.{position_or_len};
-ghost use Rattle.ly_lexread.specs.Lines.{LineBefore, LineOf};
+ghost use Rattle.ly_lexread.specs.Lines.{LineBefore, LineOf, left_in};
+
+use crate::fault::{LexFault, LexFaultKind};
 
 /// What is left of a file.
 #[derive(Clone, Copy)]
 pub(crate) struct Rest<'t> {
     /// Its bytes.
     pub(crate) bytes: &'t [u8],
-    /// The number of its first line, counted from 1.
-    pub(crate) line: u64,
+    /// How many bytes the whole file has.
+    pub(crate) whole: usize,
 }
 
 impl<'t> Rest<'t> {
     /// A whole file.
     pub(crate) fn of(bytes: &'t [u8]) -> Self
-        ensures { result.bytes ≡ bytes.entry }
+        ensures bytes { result.bytes ≡ bytes.entry }
+        ensures whole { result.whole ≡ length bytes.now }
     {
-        Rest { bytes, line: 1 }
+        Rest {
+            bytes,
+            whole: bytes.len(),
+        }
+    }
+
+    /// Which byte of the file comes first.
+    pub(crate) fn offset(self) -> usize
+        ensures { result ≡ self.entry.whole - length self.entry.bytes.now }
+    {
+        self.whole.saturating_sub(self.bytes.len())
+    }
+
+    /// Which byte of the file comes first in what is left of a text that stands in front.
+    pub(crate) fn offset_in(self, front: &[u8], left: &[u8]) -> usize
+        ensures { result ≤ self.entry.whole }
+    {
+        let line = Line {
+            bytes: front,
+            text: self,
+        };
+        self.whole.saturating_sub(line.left_from(left))
+    }
+
+    /// Which byte of the file is the last one; that of an empty file is the first.
+    pub(crate) fn last_offset(self) -> usize
+        ensures { result ≡ self.entry.whole - 1 }
+    {
+        self.whole.saturating_sub(1)
     }
 
     /// The first line, without its newline, and what is left behind it; `None` where nothing is left.
@@ -24,14 +55,14 @@ impl<'t> Rest<'t> {
         ensures these { MatchOption result (self.entry.bytes.now ≡ [])
             (λ found. LineBefore self.entry.bytes.now found.0.now found.1.bytes.now) }
         ensures shorter { IfSome result (λ found. length found.1.bytes.now < length self.entry.bytes.now) }
+        ensures whole { IfSome result (λ found. found.1.whole ≡ self.entry.whole) }
     {
         if self.bytes.is_empty() {
             return None;
         }
         let (first, end) = self.bytes.split_at(line_length(self.bytes));
         let bytes = behind_newline(end);
-        let line = self.line.saturating_add(1);
-        Some((first, Rest { bytes, line }))
+        Some((first, Rest { bytes, ..self }))
     }
 
     /// The first line, without its newline.
@@ -41,20 +72,34 @@ impl<'t> Rest<'t> {
         let (line, _end) = self.bytes.split_at(line_length(self.bytes));
         line
     }
+}
 
-    /// The number of the last line; that of a file without lines is 1.
-    pub(crate) fn last_line(self) -> u64 {
-        let text = match self.bytes {
-            [front @ .., b'\n'] => front,
-            all => all,
-        };
-        self.line.saturating_add(newlines(text))
+/// The first line of what is left of a file.
+#[derive(Clone, Copy)]
+pub(crate) struct Line<'t> {
+    /// Its bytes, without its newline.
+    pub(crate) bytes: &'t [u8],
+    /// What is left of the file from its first byte on.
+    pub(crate) text: Rest<'t>,
+}
+
+impl Line<'_> {
+    /// How many bytes of the file are left, where this is left of the line.
+    pub(crate) fn left_from(self, left: &[u8]) -> usize
+        ensures { result ≡ left_in self.entry.text.bytes.now self.entry.bytes.now left.now }
+    {
+        let before = self.bytes.len().saturating_sub(left.len());
+        self.text.bytes.len().saturating_sub(before)
     }
 
-    /// The number of the line in which what stands behind starts.
-    pub(crate) fn line_before(self, behind: &[u8]) -> u64 {
-        self.line
-            .saturating_add(newlines(self.bytes).saturating_sub(newlines(behind)))
+    /// The fault of the file at the first byte of what is left of the line.
+    pub(crate) fn fault(self, kind: LexFaultKind, left: &[u8]) -> LexFault
+        ensures { (offset : ℕ) × (result ≡ LexFault.Refused kind offset) × (offset ≤ self.entry.text.whole) }
+    {
+        LexFault::Refused {
+            kind,
+            offset: self.text.whole.saturating_sub(self.left_from(left)),
+        }
     }
 }
 
@@ -77,9 +122,4 @@ pub(crate) fn behind_newline(end: &[u8]) -> &[u8]
         Some((_newline, behind)) => behind,
         None => end,
     }
-}
-
-/// How many newlines there are.
-fn newlines(bytes: &[u8]) -> u64 {
-    bytes.iter().filter(|byte| **byte == b'\n').count() as u64
 }

@@ -4,18 +4,20 @@ ghost use Rattle.ly_ere.specs.declared.pattern.Rule.{Rule};
 ghost use Rattle.ly_ere.specs.Names.{Definition};
 ghost use Rattle.ly_lexread.specs.Action.{Saying};
 ghost use Rattle.ly_lexread.specs.Conditions.{Condition};
-ghost use Rattle.ly_lexread.specs.Faults.{IsOfText, IsTooHeavy};
+ghost use Rattle.ly_lexread.specs.Faults.{IsAtMost, IsTooHeavy};
 ghost use Rattle.ly_lexread.specs.LexText.{IsReadAs};
 ghost use Rattle.ly_lexread.specs.Private.Rules.{AreSkipped, BeginsWithRule};
 ghost use Rattle.ly_lexread.specs.Private.Statements.{saying_of};
+ghost use Rattle.ly_lexread.specs.Private.Rules.{AreRulesAt};
 ghost use Rattle.ly_lexread.specs.Rules.{AreLight, AreRulesOver, HasHeavyRule, IsHeavyRule, RuleBefore, Rules, Skips};
 
 use crate::action::{Said, read_action};
-use crate::active::read_active;
+use crate::active::{fault_in_list, read_active};
 use crate::conditions::Conditions;
-use crate::fault::{LexFault, pattern_fault};
+use crate::fault::{LexFault, LexFaultKind};
 use crate::kind::{LineKind, kind_of};
-use crate::rest::Rest;
+use crate::names::pattern_fault;
+use crate::rest::{Line, Rest};
 use crate::skipped::behind_block;
 use ly_base::Limits;
 use ly_ere::{Names, Rule, read_front};
@@ -28,19 +30,20 @@ pub(crate) struct Section {
     pub(crate) rules: Vec<Rule>,
     /// What each says of its action.
     pub(crate) said: Vec<Said>,
-    /// The line on which each begins.
-    pub(crate) lines: Vec<u64>,
+    /// Which byte of the file is the first of each.
+    pub(crate) starts: Vec<usize>,
 }
 
 impl Section {
-    /// Adds a rule, with what it says of its action and the line on which it begins.
-    fn push(&mut self, rule: Rule, said: Said, line: u64) -> Result<(), AllocError>
+    /// Adds a rule, with what it says of its action and which byte of the file is its first.
+    fn push(&mut self, rule: Rule, said: Said, start: usize) -> Result<(), AllocError>
         ensures rules { OnOk result (self.new.rules.items ≡ self.old.rules.items ++ rule ∷ []) }
         ensures said { OnOk result (self.new.said.items ≡ self.old.said.items ++ said ∷ []) }
+        ensures starts { OnOk result (self.new.starts.items ≡ self.old.starts.items ++ start ∷ []) }
     {
         self.rules.push(rule)?;
         self.said.push(said)?;
-        self.lines.push(line)?;
+        self.starts.push(start)?;
         Ok(())
     }
 }
@@ -53,20 +56,21 @@ pub(crate) fn read_rules(
     names: &Names,
     limits: &Limits,
 ) -> Result<Section, LexFault>
-    ensures { IsReadAs (λ read. (read.rules.items, map saying_of read.said.items))
-        (λ (x : List Rule × List Saying). Rules conditions.now names.now text.entry.bytes.now x.0 x.1)
-        (λ x. AreLight limits.now.pattern_weight names.now x.0)
+    ensures read { IsReadAs (λ read. (read.rules.items, map saying_of read.said.items, read.starts.items))
+        (λ (x : List Rule × List Saying × List ℕ). AreRulesAt text.entry.whole conditions.now names.now
+        text.entry.bytes.now x.0 x.1 x.2) (λ x. AreLight limits.now.pattern_weight names.now x.0)
         (HasHeavyRule limits.now.pattern_weight conditions.now names.now text.entry.bytes.now) result }
+    ensures within { IfErr result (IsAtMost text.entry.whole) }
 {
     let mut left = skip_unused(text)?;
     let mut section = Section {
         rules: Vec::new(alloc),
         said: Vec::new(alloc),
-        lines: Vec::new(alloc),
+        starts: Vec::new(alloc),
     };
     while begins_with_rule(left) {
         let (rule, saying, behind) = read_rule(alloc, left, conditions, names, limits)?;
-        section.push(rule, saying, left.line)?;
+        section.push(rule, saying, left.offset())?;
         left = skip_unused(behind)?;
     }
     Ok(section)
@@ -76,11 +80,12 @@ pub(crate) fn read_rules(
 fn skip_unused(text: Rest<'_>) -> Result<Rest<'_>, LexFault>
     ensures ok { IfOk result (λ left. AreSkipped text.entry.bytes.now left.bytes.now) }
     ensures settled { IfOk result (λ left. AreRulesOver left.bytes.now ⊎ BeginsWithRule left.bytes.now) }
-    ensures within { IfOk result (λ left. length left.bytes.now ≤ length text.entry.bytes.now) }
-    ensures of_text { IfErr result IsOfText }
+    ensures shorter { IfOk result (λ left. length left.bytes.now ≤ length text.entry.bytes.now) }
+    ensures whole { IfOk result (λ left. left.whole ≡ text.entry.whole) }
     ensures light { IfErr result (λ fault. IsTooHeavy fault → ⊥) }
     ensures refused { IfErr result (λ _. (cs : List Condition) (names : List Definition) (rules : List Rule)
-        (sayings : List Saying) → Rules cs names text.entry.bytes.now rules sayings → ⊥) }
+        (sayings : List Saying) (lefts : List ℕ) → Rules cs names text.entry.bytes.now rules sayings lefts → ⊥) }
+    ensures within { IfErr result (IsAtMost text.entry.whole) }
 {
     let mut left = text;
     while let Some(behind) = behind_unused(left)? {
@@ -96,10 +101,11 @@ fn behind_unused(text: Rest<'_>) -> Result<Option<Rest<'_>>, LexFault>
         (λ rest. Skips text.entry.bytes.now rest.bytes.now)) }
     ensures shorter { IfOk result (λ found. IfSome found
         (λ rest. length rest.bytes.now < length text.entry.bytes.now)) }
-    ensures of_text { IfErr result IsOfText }
+    ensures whole { IfOk result (λ found. IfSome found (λ rest. rest.whole ≡ text.entry.whole)) }
     ensures light { IfErr result (λ fault. IsTooHeavy fault → ⊥) }
     ensures refused { IfErr result (λ _. (cs : List Condition) (names : List Definition) (rules : List Rule)
-        (sayings : List Saying) → Rules cs names text.entry.bytes.now rules sayings → ⊥) }
+        (sayings : List Saying) (lefts : List ℕ) → Rules cs names text.entry.bytes.now rules sayings lefts → ⊥) }
+    ensures within { IfErr result (IsAtMost text.entry.whole) }
 {
     let Some((line, behind)) = text.first_line() else {
         return Ok(None);
@@ -108,7 +114,10 @@ fn behind_unused(text: Rest<'_>) -> Result<Option<Rest<'_>>, LexFault>
         LineKind::Unused => Ok(Some(behind)),
         LineKind::Block => match behind_block(behind) {
             Some(rest) => Ok(Some(rest)),
-            None => Err(LexFault::BadDefinition { line: text.line }),
+            None => Err(LexFault::Refused {
+                kind: LexFaultKind::BadDefinition,
+                offset: text.offset(),
+            }),
         },
         _ => Ok(None),
     }
@@ -133,18 +142,22 @@ fn read_rule<'t>(
     limits: &Limits,
 ) -> Result<(Rule, Said, Rest<'t>), LexFault>
     requires { BeginsWithRule text.bytes.now }
-    ensures { IsReadAs (λ read. (read.0, saying_of read.1, read.2.bytes.now))
+    ensures read { IsReadAs (λ read. (read.0, saying_of read.1, read.2.bytes.now))
         (λ (x : Rule × Saying × List ℕ). RuleBefore conditions.now names.now text.entry.bytes.now x.0 x.1 x.2)
         (λ x. AreLight limits.now.pattern_weight names.now (x.0 ∷ []))
         (IsHeavyRule limits.now.pattern_weight conditions.now names.now text.entry.bytes.now) result }
+    ensures whole { IfOk result (λ read. read.2.whole ≡ text.entry.whole) }
+    ensures within { IfErr result (IsAtMost text.entry.whole) }
 {
     let line = text.line_bytes();
+    let here = Line { bytes: line, text };
     let Some((active, body)) = read_active(alloc, line, conditions)? else {
-        return Err(LexFault::UnknownCondition { line: text.line });
+        let at = fault_in_list(line, conditions);
+        return Err(here.fault(LexFaultKind::UnknownCondition, at));
     };
     let (pattern, length) = match read_front(alloc, body, names, limits) {
         Ok(front) => front,
-        Err(fault) => return Err(pattern_fault(text.line, fault)),
+        Err(fault) => return Err(pattern_fault(text.whole, here.left_from(body), fault)),
     };
     let on_line = body.len() - length;
     let (_front, bytes) = text.bytes.split_at(line.len() - on_line);

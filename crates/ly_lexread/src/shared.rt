@@ -19,7 +19,7 @@ pub(crate) fn share_actions(
     while let Some(last) = said.pop() {
         let action = match last {
             Said::Own(action) => action,
-            Said::Next => match actions.last() {
+            Said::Next(_) => match actions.last() {
                 Some(next) => next.copy(alloc)?,
                 None => return Ok(None),
             },

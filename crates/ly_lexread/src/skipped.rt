@@ -10,6 +10,7 @@ pub(crate) fn behind_block(inside: Rest<'_>) -> Option<Rest<'_>>
     ensures these { MatchOption result ((rest : List ℕ) → BlockEnds inside.entry.bytes.now rest → ⊥)
         (λ rest. BlockEnds inside.entry.bytes.now rest.bytes.now) }
     ensures shorter { IfSome result (λ rest. length rest.bytes.now ≤ length inside.entry.bytes.now) }
+    ensures whole { IfSome result (λ rest. rest.whole ≡ inside.entry.whole) }
 {
     let mut left = inside;
     while let Some((line, behind)) = left.first_line() {
@@ -33,12 +34,12 @@ pub(crate) fn behind_comment(text: Rest<'_>) -> Option<Rest<'_>>
     ensures these { MatchOption result ((rest : List ℕ) → CommentEnds text.entry.bytes.now rest → ⊥)
         (λ rest. CommentEnds text.entry.bytes.now rest.bytes.now) }
     ensures shorter { IfSome result (λ rest. length rest.bytes.now < length text.entry.bytes.now) }
+    ensures whole { IfSome result (λ rest. rest.whole ≡ text.entry.whole) }
 {
     let inside = text.bytes.strip_prefix(b"/*")?;
     let behind = after_comment(inside)?;
     let bytes = behind_line(behind);
-    let line = text.line_before(bytes);
-    Some(Rest { bytes, line })
+    Some(Rest { bytes, ..text })
 }
 
 /// What stands behind the line at the front.

@@ -139,7 +139,7 @@ fn returned_location(lex: &MendedLex, name: &[u8]) -> Option<Location> {
         _ => false,
     };
     let rule = lex.file.actions.iter().position(returns)?;
-    let start = line_start(&lex.text, *lex.file.lines.get(rule)?);
+    let start = *lex.file.rule_starts.get(rule)?;
     let before = word_place(from_place(&lex.text, start), name)?;
     Some(Location::of(&lex.text, start.saturating_add(before)))
 }

@@ -1,13 +1,12 @@
 //! What to write in place of what a lex file is refused for.
 use crate::advice::Advice;
-use crate::conditions::known_conditions;
-use crate::lex_places::{defined_names, place_of};
+use crate::lex_names::{defined_names, known_conditions};
 use crate::lex_units::{Kind, Unit, action_start, first_line};
 use crate::location::{Location, from_place, line_start};
 use crate::nearest::nearest;
 use ly_base::{Language, OutOfMemory, is_blank, leading_name};
-use ly_ere::EreFault;
-use ly_lexread::LexFault;
+use ly_ere::EreFaultKind;
+use ly_lexread::LexFaultKind;
 use std::alloc::Global;
 
 /// The advice behind a fault, by its place in a text and what that belongs to.
@@ -15,7 +14,7 @@ pub(crate) fn lex_advice(
     alloc: Global,
     text: &[u8],
     unit: Unit,
-    fault: &LexFault,
+    kind: LexFaultKind,
     at: Location,
 ) -> Result<Advice, OutOfMemory> {
     let line = first_line(from_place(text, line_start(text, at.line)));
@@ -26,17 +25,14 @@ pub(crate) fn lex_advice(
         return Ok(Advice::Words("close the braces of the action before this line with `}`"));
     }
     let rest = from_place(line, at.before());
-    let near = match fault {
-        LexFault::Pattern {
-            inner: EreFault::UnknownName,
-            ..
-        } => near_name(alloc, text, rest)?,
-        LexFault::UnknownCondition { .. } => near_condition(alloc, text, line, rest)?,
+    let near = match kind {
+        LexFaultKind::Pattern(EreFaultKind::UnknownName) => near_name(alloc, text, rest)?,
+        LexFaultKind::UnknownCondition => near_condition(alloc, text, rest)?,
         _ => None,
     };
     Ok(match near {
         Some(near) => near,
-        None => Advice::Words(words_for(unit, fault, line, rest)),
+        None => Advice::Words(words_for(unit, kind, line, at.before())),
     })
 }
 
@@ -88,15 +84,9 @@ fn near_name(alloc: Global, text: &[u8], rest: &[u8]) -> Result<Option<Advice>, 
 }
 
 /// The name of a condition that is near to one in front of a rule, or behind BEGIN.
-fn near_condition(
-    alloc: Global,
-    text: &[u8],
-    line: &[u8],
-    rest: &[u8],
-) -> Result<Option<Advice>, OutOfMemory> {
+fn near_condition(alloc: Global, text: &[u8], rest: &[u8]) -> Result<Option<Advice>, OutOfMemory> {
     let known = known_conditions(alloc, text)?;
-    let list = if line.starts_with(b"<") { line } else { rest };
-    match nearest(alloc, unknown_in(list, &known), &known)? {
+    match nearest(alloc, unknown_in(rest, &known), &known)? {
         Some(near) => Ok(Some(Advice::Near(Vec::from_slice(alloc, near)?))),
         None => Ok(None),
     }
@@ -119,19 +109,26 @@ fn is_unknown(word: &[u8], known: &[&[u8]]) -> bool {
     is_name && !known.contains(&word)
 }
 
-/// The advice for a fault of POSIX's forms.
-fn words_for(unit: Unit, fault: &LexFault, line: &[u8], rest: &[u8]) -> &'static str {
-    match fault {
-        LexFault::NoRulesMark { .. } => "write a line `%%` before the first rule",
-        LexFault::BadDefinition { .. } => definition_advice(unit, line, rest),
-        LexFault::UnknownCondition { .. } => "declare it among the definitions: `%x NAME`",
-        LexFault::ConditionTwice { .. } => "a condition is declared once, and `INITIAL` never",
-        LexFault::BadAction { .. } => action_advice(line),
-        LexFault::BarAtEnd { .. } =>
+/// The advice for a fault of POSIX's forms, of a line of which so many bytes stand before what is at fault.
+fn words_for(unit: Unit, kind: LexFaultKind, line: &[u8], before: usize) -> &'static str {
+    let rest = from_place(line, before);
+    match kind {
+        LexFaultKind::NoRulesMark => "write a line `%%` before the first rule",
+        LexFaultKind::BadDefinition => definition_advice(unit, line, rest),
+        LexFaultKind::UnknownCondition => "declare it among the definitions: `%x NAME`",
+        LexFaultKind::ConditionTwice => "a condition is declared once, and `INITIAL` never",
+        LexFaultKind::BadAction => action_advice(line),
+        LexFaultKind::BarAtEnd =>
             "`|` is the action of the next rule: the last rule needs one of its own",
-        LexFault::Pattern { inner, .. } => pattern_advice(inner, rest),
-        LexFault::OutOfMemory => "",
+        LexFaultKind::Pattern(EreFaultKind::StrayOperator) if opens_options(line, before) =>
+            "groups are `( .. )`, without options",
+        LexFaultKind::Pattern(kind) => pattern_advice(kind),
     }
+}
+
+/// Whether the byte of a line behind so many is the `?` of a group with options, as `(?i:`.
+fn opens_options(line: &[u8], before: usize) -> bool {
+    from_place(line, before.saturating_sub(1)).starts_with(b"(?")
 }
 
 /// The advice for what is no definition.
@@ -177,33 +174,40 @@ fn action_advice(line: &[u8]) -> &'static str {
 }
 
 /// The advice for what is no pattern.
-fn pattern_advice(fault: &EreFault, rest: &[u8]) -> &'static str {
-    match fault {
-        EreFault::Empty => "a string of no byte is `\"\"`; a rule begins with its pattern",
-        EreFault::UnclosedQuote => "close the string with `\"`, or write `\\\"` for the byte",
-        EreFault::UnclosedBracket => "close the set with `]`, or write `\\[` for the byte",
-        EreFault::UnclosedGroup => "close the group with `)`, or write `\\(` for the byte",
-        EreFault::StrayOperator if rest.starts_with(b"(?") =>
-            "groups are `( .. )`, without options",
-        EreFault::StrayOperator =>
+fn pattern_advice(kind: EreFaultKind) -> &'static str {
+    match kind {
+        EreFaultKind::Empty => "a string of no byte is `\"\"`; a rule begins with its pattern",
+        EreFaultKind::UnclosedQuote => "close the string with `\"`, or write `\\\"` for the byte",
+        EreFaultKind::UnclosedBracket => "close the set with `]`, or write `\\[` for the byte",
+        EreFaultKind::UnclosedGroup => "close the group with `)`, or write `\\(` for the byte",
+        EreFaultKind::StrayOperator =>
             "write a backslash before the byte, or quotes round it, if it stands for itself",
-        EreFault::BadRange =>
+        EreFaultKind::BadRange =>
             "write the lesser byte first, and `-` first or last in a set if it stands for itself",
-        EreFault::EmptySet => "a set has one byte at least",
-        EreFault::UnknownClass =>
+        EreFaultKind::EmptySet => "a set has one byte at least",
+        EreFaultKind::UnknownClass =>
             "classes are `[:alpha:]`, `[:digit:]`, `[:alnum:]`, `[:space:]` and the others of POSIX",
-        EreFault::BadInterval =>
+        EreFaultKind::BadInterval =>
             "intervals are `{m}`, `{m,}` and `{m,n}`; for the byte write `\\{`",
-        EreFault::EscapeTooLarge => "bytes go to 255: `\\377` and `\\xff`",
-        EreFault::UnknownName => "define it before the first `%%`; for the byte write `\\{`",
-        EreFault::NameCycle => "a definition may not use itself, nor others that use it",
-        EreFault::AnchorInside =>
+        EreFaultKind::EscapeTooLarge => "bytes go to 255: `\\377` and `\\xff`",
+        EreFaultKind::UnknownName => "define it before the first `%%`; for the byte write `\\{`",
+        EreFaultKind::NameCycle => "a definition may not use itself, nor others that use it",
+        EreFaultKind::AnchorInside =>
             "`^` stands in front of the pattern and `$` at its end: write `\\^` or `\\$` for the byte",
-        EreFault::TrailingTwice => "a pattern has one `/` or one `$`; for the byte write `\\/`",
-        EreFault::TrailingBothVary =>
+        EreFaultKind::TrailingTwice => "a pattern has one `/` or one `$`; for the byte write `\\/`",
+        EreFaultKind::TrailingBothVary =>
             "what stands before the `/`, or what stands behind it, has to have one length",
-        EreFault::TrailingHeadEmpty => "what stands before the `/` has to have a byte",
-        EreFault::TooHeavy => "intervals are written out: shorter ones weigh less",
-        EreFault::OutOfMemory => "",
+        EreFaultKind::TrailingHeadEmpty => "what stands before the `/` has to have a byte",
+        EreFaultKind::TooHeavy => "intervals are written out: shorter ones weigh less",
     }
+}
+
+/// The place where bytes stand in a line first.
+fn place_of(line: &[u8], bytes: &[u8]) -> Option<usize> {
+    for place in 0..line.len() {
+        if from_place(line, place).starts_with(bytes) {
+            return Some(place);
+        }
+    }
+    None
 }

@@ -3,13 +3,12 @@ use crate::edit::if_changed;
 use crate::finding::{Finding, Findings, MOST};
 use crate::lex_advice::lex_advice;
 use crate::lex_mending::mended;
-use crate::lex_places::lex_location;
 use crate::lex_units::unit_at;
-use crate::location::is_newline;
+use crate::location::{Location, is_newline};
 use crate::text_marks::{has_byte_order_mark, without_marks};
 use ly_base::{Limits, OutOfMemory};
 use ly_generate::GenFault;
-use ly_lexread::{LexFault, LexFile, read_lex};
+use ly_lexread::{LexFault, LexFaultKind, LexFile, read_lex};
 use std::alloc::Global;
 
 /// A lex file that is read, its faults mended.
@@ -33,10 +32,12 @@ pub(crate) fn find_lex_faults(
         match read_lex(alloc, &text, limits) {
             Ok(file) => return Ok(Some(MendedLex { text, file })),
             Err(LexFault::OutOfMemory) => return Err(OutOfMemory),
-            Err(fault) => match mend_fault(alloc, findings, &text, fault, limits)? {
-                Some(next) => text = next,
-                None => break,
-            },
+            Err(LexFault::Refused { kind, offset }) => {
+                match mend_fault(alloc, findings, &text, kind, offset)? {
+                    Some(next) => text = next,
+                    None => break,
+                }
+            }
         }
     }
     Ok(None)
@@ -61,26 +62,26 @@ fn mend_fault(
     alloc: Global,
     findings: &mut Findings,
     text: &[u8],
-    fault: LexFault,
-    limits: &Limits,
+    kind: LexFaultKind,
+    offset: usize,
 ) -> Result<Option<Vec<u8>>, OutOfMemory> {
-    let unit = unit_at(text, fault.line().unwrap_or(1));
-    let at = lex_location(alloc, text, unit, &fault, limits)?;
+    let at = Location::of(text, offset);
+    let unit = unit_at(text, at.line);
     let has_rules = has_rules(text);
     let advice = if has_rules {
-        lex_advice(alloc, text, unit, &fault, at)?
+        lex_advice(alloc, text, unit, kind, at)?
     } else {
         Advice::Words("no line begins with `%%`: write one before the first rule")
     };
     findings.add(Finding {
-        fault: GenFault::Lex(fault),
+        fault: GenFault::Lex(LexFault::Refused { kind, offset }),
         at,
         advice,
     })?;
     if !has_rules {
         return Ok(None);
     }
-    Ok(if_changed(text, mended(alloc, text, unit, &fault)?))
+    Ok(if_changed(text, mended(alloc, text, unit, kind)?))
 }
 
 /// Whether a line begins with `%%`.
@@ -96,30 +97,32 @@ fn find_mark_fault(
     plain: &[u8],
     limits: &Limits,
 ) -> Result<(), OutOfMemory> {
-    let Some(fault) = refusal(alloc, bytes, limits)? else {
+    let Some((kind, offset)) = refusal(alloc, bytes, limits)? else {
         return Ok(());
     };
-    if refusal(alloc, plain, limits)? == Some(fault) {
+    let at = Location::of(bytes, offset);
+    if let Some((same, other)) = refusal(alloc, plain, limits)?
+        && same == kind
+        && Location::of(plain, other).line == at.line
+    {
         return Ok(());
     }
-    let at = lex_location(
-        alloc,
-        bytes,
-        unit_at(bytes, fault.line().unwrap_or(1)),
-        &fault,
-        limits,
-    )?;
     findings.add(Finding {
-        fault: GenFault::Lex(fault),
+        fault: GenFault::Lex(LexFault::Refused { kind, offset }),
         at,
         advice: Advice::of_marks(has_byte_order_mark(bytes)),
     })
 }
 
-/// Why a text is refused, if it is.
-fn refusal(alloc: Global, text: &[u8], limits: &Limits) -> Result<Option<LexFault>, OutOfMemory> {
+/// Why a text is refused, and which byte is at fault, if it is.
+fn refusal(
+    alloc: Global,
+    text: &[u8],
+    limits: &Limits,
+) -> Result<Option<(LexFaultKind, usize)>, OutOfMemory> {
     match read_lex(alloc, text, limits).err() {
+        None => Ok(None),
+        Some(LexFault::Refused { kind, offset }) => Ok(Some((kind, offset))),
         Some(LexFault::OutOfMemory) => Err(OutOfMemory),
-        fault => Ok(fault),
     }
 }

@@ -1,12 +1,11 @@
 //! How a fault of a lex file is mended, so that what stands behind it can be read.
-use crate::conditions::known_conditions;
 use crate::edit::push_all;
-use crate::lex_places::defined_names;
+use crate::lex_names::{defined_names, known_conditions};
 use crate::lex_units::{Kind, Unit, first_line};
 use crate::location::{from_place, is_blank_byte, is_newline, line_start};
 use crate::nearest::MOST_NAMES;
 use ly_base::{Language, OutOfMemory, leading_name};
-use ly_lexread::LexFault;
+use ly_lexread::LexFaultKind;
 use std::alloc::Global;
 
 /// The text in which a fault is mended, by the lines that it stands in: a rule becomes one that does nothing, a
@@ -15,12 +14,12 @@ pub(crate) fn mended(
     alloc: Global,
     text: &[u8],
     unit: Unit,
-    fault: &LexFault,
+    fault: LexFaultKind,
 ) -> Result<Vec<u8>, OutOfMemory> {
     let by = match unit.kind {
         Kind::Rule => Vec::from_slice(alloc, b"x ;")?,
         Kind::Definition => plain_definition(alloc, text, unit)?,
-        Kind::Directive if matches!(fault, LexFault::ConditionTwice { .. }) => {
+        Kind::Directive if matches!(fault, LexFaultKind::ConditionTwice) => {
             new_conditions(alloc, text, unit)?
         }
         _ => Vec::new(alloc),

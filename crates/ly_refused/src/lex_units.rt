@@ -2,6 +2,7 @@
 use crate::location::{from_place, is_newline, length_to_blank, line_length};
 use crate::pieces::braces_length;
 use ly_base::{after_comment, is_blank};
+use ly_lexread::{LineKind, kind_of};
 use std::alloc::{AllocError, Global};
 
 /// What lines stand for together.
@@ -94,7 +95,7 @@ pub fn indented_lines(alloc: Global, text: &[u8]) -> Result<Vec<u64>, AllocError
 /// The lines at the front of a text that stand for one thing, behind those of another.
 fn unit_behind(unit: Unit, text: &[u8], in_rules: bool) -> Unit {
     let first = unit.last.saturating_add(1);
-    let kind = kind_of(first_line(text), in_rules);
+    let kind = kind_in(first_line(text), in_rules);
     let (more, open) = match kind {
         Kind::Block => (lines_to_block_end(text), false),
         Kind::Comment => (lines_to_comment_end(text), false),
@@ -110,15 +111,15 @@ fn unit_behind(unit: Unit, text: &[u8], in_rules: bool) -> Unit {
 }
 
 /// What a line begins.
-fn kind_of(line: &[u8], in_rules: bool) -> Kind {
-    match line {
-        [] | [b' ' | b'\t', ..] => Kind::Unused,
-        [b'%', b'%', ..] => Kind::Mark,
-        [b'%', b'{', ..] => Kind::Block,
-        _ if in_rules => Kind::Rule,
-        [b'%', ..] => Kind::Directive,
-        [b'/', b'*', ..] => Kind::Comment,
-        _ => Kind::Definition,
+fn kind_in(line: &[u8], in_rules: bool) -> Kind {
+    match kind_of(line) {
+        LineKind::Unused => Kind::Unused,
+        LineKind::Mark => Kind::Mark,
+        LineKind::Block => Kind::Block,
+        LineKind::Directive | LineKind::Comment | LineKind::Plain if in_rules => Kind::Rule,
+        LineKind::Directive => Kind::Directive,
+        LineKind::Comment => Kind::Comment,
+        LineKind::Plain => Kind::Definition,
     }
 }
 

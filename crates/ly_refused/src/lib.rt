@@ -9,7 +9,6 @@
 #![tactic(auto)]
 
 mod advice;
-mod conditions;
 mod edit;
 mod faults;
 mod finding;
@@ -18,7 +17,7 @@ mod join_mending;
 mod lex_advice;
 mod lex_faults;
 mod lex_mending;
-mod lex_places;
+mod lex_names;
 mod lex_units;
 mod location;
 mod nearest;
@@ -32,6 +31,5 @@ mod yacc_mending;
 mod yacc_places;
 mod yacc_units;
 
-pub use conditions::known_conditions;
 pub use faults::say_faults;
 pub use lex_units::indented_lines;

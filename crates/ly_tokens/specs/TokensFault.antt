@@ -13,13 +13,7 @@ use Rattle.ly_tokens.specs.declared.scanner_fault.ScannerFault.TheVariants as sc
 
 abbrev pub fault_of_lex : LexFault → TokensFault
 fault_of_lex lex.OutOfMemory = OutOfMemory
-fault_of_lex (lex.NoRulesMark line) = Lex (lex.NoRulesMark line)
-fault_of_lex (lex.BadDefinition line) = Lex (lex.BadDefinition line)
-fault_of_lex (lex.UnknownCondition line) = Lex (lex.UnknownCondition line)
-fault_of_lex (lex.ConditionTwice line) = Lex (lex.ConditionTwice line)
-fault_of_lex (lex.BadAction line) = Lex (lex.BadAction line)
-fault_of_lex (lex.BarAtEnd line) = Lex (lex.BarAtEnd line)
-fault_of_lex (lex.Pattern line inner) = Lex (lex.Pattern line inner)
+fault_of_lex (lex.Refused kind offset) = Lex (lex.Refused kind offset)
 
 abbrev pub fault_of_scanner : ScannerFault → TokensFault
 fault_of_scanner (scanner.Positions fault) = Positions fault

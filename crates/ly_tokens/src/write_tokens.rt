@@ -1,13 +1,14 @@
-ghost use Rattle.std.specs.Prelude.{◌≡◌, ℕ, ◌<◌, ◌≤◌, List, length, map, take, Err, IfOk, IfErr, IsErrOf, OnOk};
+ghost use Rattle.std.specs.Prelude.{◌≡◌, ◌≢◌, ℕ, ◌<◌, ◌≤◌, List, length, map, take, Err, IfOk, IfErr, IsErrOf, OnOk};
 ghost use Rattle.std.specs.Io.KnownBytes.{Appends, IsAtEnd};
 ghost use Rattle.ly_ere.specs.Names.{defined};
 ghost use Rattle.ly_print.specs.Device.{next_count};
 ghost use Rattle.ly_base.specs.Limits.{version_2};
 ghost use Rattle.ly_print.specs.TextWriter.{IsCutShort};
 ghost use Rattle.ly_base.specs.declared.lexeme.End.{End};
-ghost use Rattle.ly_lexread.specs.Faults.{IsOfText, IsTooHeavy};
+ghost use Rattle.ly_lexread.specs.Faults.{IsAtMost, IsTooHeavy};
 ghost use Rattle.ly_lexread.specs.LexText.{IsHeavyText, IsLight, LexText};
 ghost use Rattle.ly_lexread.specs.declared.fault.LexFault.{LexFault};
+ghost use Rattle.ly_lexread.specs.declared.fault.LexFault.TheVariants as lex_fault;
 ghost use Rattle.ly_lexread.specs.declared.file.LexFile.{LexFile};
 ghost use Rattle.ly_position.specs.declared.fault.PosFault.{PosFault};
 ghost use Rattle.ly_position.specs.declared.fault.PosFault.TheVariants.{TooManyPositions};
@@ -58,7 +59,8 @@ pub fn tokens<R: Source, W: Sink>(
         → IsHeavyText version_2.pattern_weight lex.now }
     ensures none_light { (fault : LexFault) → result ≡ Err (TokensFault.Lex fault) → IsTooHeavy fault
         → (file : LexFile) → LexText lex.now file → IsLight version_2.pattern_weight file → ⊥ }
-    ensures of_text { (fault : LexFault) → result ≡ Err (TokensFault.Lex fault) → IsOfText fault }
+    ensures of_text { (fault : LexFault) → result ≡ Err (TokensFault.Lex fault) → fault ≢ lex_fault.OutOfMemory }
+    ensures within { (fault : LexFault) → result ≡ Err (TokensFault.Lex fault) → IsAtMost (length lex.now) fault }
     ensures heavy { (fault : PosFault) → result ≡ Err (TokensFault.Positions fault)
         → (fault ≡ TooManyPositions) × AreTooHeavy version_2 lex.now }
     ensures many { (fault : SubsetFault) → result ≡ Err (TokensFault.States fault)

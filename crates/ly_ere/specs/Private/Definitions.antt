@@ -6,12 +6,14 @@ use Rattle.std.specs.Option.{ForSome}
 use Rattle.std.specs.Str.{bytes_eq}
 use Rattle.ly_ere.specs.Definitions.{ArePlaced, DefinedText, HasText, IsNoText}
 use Rattle.ly_ere.specs.Expression.{Expression, empty}
+use Rattle.ly_ere.specs.Faults.{IsAtMost, ere_kind}
 use Rattle.ly_ere.specs.Names.{Definition, number_of}
 use Rattle.ly_ere.specs.Patterns.{IsExpression}
 use Rattle.ly_ere.specs.Private.Uses.{uses_of}
 use Rattle.ly_ere.specs.declared.definitions.Refusal.{Refusal}
 use Rattle.ly_ere.specs.declared.definitions.DefinitionTexts.{DefinitionTexts}
-use Rattle.ly_ere.specs.declared.fault.EreFault.TheVariants.{NameCycle, OutOfMemory, TooHeavy}
+use Rattle.ly_ere.specs.declared.fault.EreFault.TheVariants.{OutOfMemory}
+use Rattle.ly_ere.specs.declared.fault.EreFaultKind.TheVariants.{NameCycle, TooHeavy}
 
 -- Text place of the list is no expression, and the fault is one of its text.
 pub record IsTextRefusal (known : List Definition) (list : List DefinedText) (refusal : Refusal) : Type 0 where
@@ -19,8 +21,9 @@ pub record IsTextRefusal (known : List Definition) (list : List DefinedText) (re
   pub is : slice_get list refusal.place ≡ Some text
   pub none : IsNoText known text.text
   pub memory : refusal.fault ≢ OutOfMemory
-  pub weight : refusal.fault ≢ TooHeavy
-  pub cycle : refusal.fault ≢ NameCycle
+  pub weight : ere_kind refusal.fault ≢ Some TooHeavy
+  pub cycle : ere_kind refusal.fault ≢ Some NameCycle
+  pub at : IsAtMost (length text.text) refusal.fault
 
 -- what each text uses
 abbrev pub text_uses : DefinitionTexts → List (List ℕ)

@@ -36,4 +36,4 @@ EndsBy Braces w = word_of w ≡ close_brace
 -- what a rule says of its action
 abbrev pub saying_of : Said → Saying
 saying_of (Own a) = own (effect_of a)
-saying_of Next = next
+saying_of (Next left) = next

@@ -15,7 +15,7 @@ returns-in_err-ranges-clause-refused c =
     let within = rw c.in_ok-end.ensures.ok_part at c.named_end.ensures.within in
     let p = err_from_is_err_and c.from_residual-in_err-ranges.result c.from_residual-in_err-ranges.ensures.1 in
     rw p.1 (class_nowhere c.args.text.now c.in_ok-end.end within.0
-    (rw c.in_ok-end.ensures.ok_part at c.named_end.ensures.first) c.in_err-ranges.ensures.refused)
+    (rw c.in_ok-end.ensures.ok_part at c.named_end.ensures.first) (rw c.in_err-ranges.ensures.ok_part at c.class.ensures.none))
 
 pub loop-low-preserved : goal.loop-low-preserved
 loop-low-preserved c = rw (add-one, take-suc c.in_ok-ranges.ranges.now c.loop-low.low-index (0, 0) c.loop-low-test.true)
@@ -28,6 +28,6 @@ returns-clause-item c =
     let ends = rw c.in_ok-end.ensures.ok_part at c.named_end.ensures.ends in (
       c.in_ok-ranges.ranges.now,
       class_there c.args.text.now c.in_ok-end.end within.0 c.requires ends
-          c.in_ok-ranges.ranges.now c.in_ok-ranges.ensures.ok,
+          c.in_ok-ranges.ranges.now (rw c.in_ok-ranges.ensures.ok_part at c.class.ensures.some),
       rw (take_all c.loop-low.low-index c.in_ok-ranges.ranges.now c.loop-low-test.false) at c.loop-low.invariant,
     )

@@ -1,11 +1,13 @@
 use Rattle.std.proofs.Common.{◌∙◌, sym, arith}
+use Rattle.std.proofs.lemmas.Result.{IfOk-weaker}
 use Rattle.ly_ere.proofs.PointLemmas.{bare_point, escaped_point, named_point}
 use Rattle.ly_ere.proofs.bracket.point.Goals as goal
 
 pub returns-then-byte-eq92-clause-point : goal.returns-then-byte-eq92-clause-point
-returns-then-byte-eq92-clause-point c = escaped_point c.args.text.now c.in_ok-escape.field-0.0 c.in_ok-escape.field-0.1
-    (omega (arith, c.in-Some.ensures.item.3.0)) (omega (arith, c.in-Some.ensures.item.3.1 0))
-    c.in_ok-escape.ensures.escape
+returns-then-byte-eq92-clause-point c = IfOk-weaker c.leading_escape.result _ _
+    (λ found. escaped_point c.args.text.now found.0 found.1
+    (omega (arith, c.in-Some.ensures.item.3.0)) (omega (arith, c.in-Some.ensures.item.3.1 0)))
+    c.leading_escape.ensures.escape
 
 pub returns-then-begins-clause-point : goal.returns-then-begins-clause-point
 returns-then-begins-clause-point c = named_point c.args.text.now c.named_byte.result (sym c.begins.ensures

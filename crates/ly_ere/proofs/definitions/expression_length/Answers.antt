@@ -20,7 +20,7 @@ loop-length-preserved c =
     let line = c.args.line.now in
     let at = c.loop-length.at in
     let goes_on : IsBehind (drop at line) → ⊥ = rw whole_slice at c.loop-length-test.ensures in
-    let next = rw whole_slice at c.in-Ok.ensures in
+    let next = rw whole_slice at c.in-Ok.ensures.element in
     record {
       within = omega (arith, c.loop-length.invariant.within, next.front.1, length-drop at line);
       ahead = λ n ws l are b. one_taken line at _ next goes_on b (c.loop-length.invariant.ahead n ws l are b);
@@ -31,7 +31,7 @@ returns-in-Err-clause-only c n ws l are b =
     let line = c.args.line.now in
     let at = c.loop-length.at in
     let goes_on : IsBehind (drop at line) → ⊥ = rw whole_slice at c.loop-length-test.ensures in
-    let nothing = rw whole_slice at c.in-Err.ensures in
+    let nothing = rw whole_slice at c.in-Err.ensures.element in
     absurd (none_taken nothing goes_on b (c.loop-length.invariant.ahead n ws l are b))
 
 pub returns-clause-only : goal.returns-clause-only

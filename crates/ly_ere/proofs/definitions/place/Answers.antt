@@ -96,7 +96,7 @@ returns-in-Err-clause-refused c =
     c.loop-number.names c.loop-number.numbers.items (get_or c.args.order.now c.loop-number.number 0) _ _ c.in-Err.fault
     c.loop-number.invariant.placing step c.in-Err.ensures.only
     (λ e. subst (λ x. c.args.limits.now.pattern_weight < weight_of (defined c.loop-number.names) x) is
-    (c.in-Err.ensures.heavy e))
+    (c.in-Err.ensures.heavy e)) c.in-Err.ensures.front
     (read_spelled _ (named_texts c.args.list.now) c.args.texts.now c.requires.read c.requires.whole)
 
 pub index_mut-requires : goal.index_mut-requires

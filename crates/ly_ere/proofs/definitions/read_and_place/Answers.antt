@@ -8,7 +8,8 @@ use Rattle.ly_ere.specs.Definitions.{known_names}
 use Rattle.ly_ere.specs.Private.Turns.{ArePut}
 use Rattle.ly_ere.specs.declared.definitions.Refusal.{Refusal}
 use Rattle.ly_ere.specs.declared.definitions.DefinitionTexts.{DefinitionTexts}
-use Rattle.ly_ere.specs.declared.fault.EreFault.TheVariants.{NameCycle}
+use Rattle.ly_ere.specs.declared.fault.EreFault.TheVariants.{Refused}
+use Rattle.ly_ere.specs.declared.fault.EreFaultKind.TheVariants.{NameCycle}
 use Rattle.ly_ere.specs.declared.turns.InTurn.{InTurn}
 use Rattle.ly_ere.proofs.DefinitionLemmas.{refused_cycle, refused_text}
 use Rattle.ly_ere.proofs.definitions.read_and_place.Goals as goal
@@ -21,7 +22,7 @@ put t us p is h = subst (λ (vs : List (Vec ℕ Global)). ArePut (map (λ (v : V
 refused : (most : ℕ) (list : List DefinedText) → AreDistinct list → (t : DefinitionTexts)
     → AreRead (known_names list) list t
     → (p : InTurn) → ArePut (text_uses t) p → (r : Refusal)
-    → (t.refusal ≡ Some r) ⊎ ((p.left ≡ Some r.place) × (r.fault ≡ NameCycle)) → AreRefused most list r.place r.fault
+    → (t.refusal ≡ Some r) ⊎ ((p.left ≡ Some r.place) × (r.fault ≡ Refused NameCycle 0)) → AreRefused most list r.place r.fault
 refused most list distinct t a p h r (inl is) = refused_text most list distinct r (a.refusal r is)
 refused most list distinct t a p h r (inr is) =
     let left = subst (λ o. MatchOption o ((n : ℕ) → n < length (text_uses t) → Contains p.order.items n)

@@ -19,11 +19,11 @@ returns-in_err-file-clause-refused c = when_becomes c.from_residual.result lex.O
       record {
         ok = tt;
         light = tt;
-        of_text = c.in_err-file.ensures.of_text;
-        refused = c.in_err-file.ensures.refused;
-        heavy = c.in_err-file.ensures.heavy;
-        none_light = c.in_err-file.ensures.none_light;
+        refused = c.in_err-file.ensures.read.refused;
+        heavy = c.in_err-file.ensures.read.heavy;
+        none_light = c.in_err-file.ensures.read.none_light;
       },
+      c.in_err-file.ensures.within,
     ))
 
 pub returns-in_err-yacc-clause-refused : goal.returns-in_err-yacc-clause-refused
@@ -39,7 +39,7 @@ returns-in_err-spec-clause-refused c = when_becomes c.from_residual-in_err-spec.
       ne,
       c.in_ok-file.file,
       written_of c.in_ok-yacc.yacc,
-      c.in_ok-file.ensures.ok,
+      c.in_ok-file.ensures.read.ok,
       c.in_ok-yacc.ensures.ok,
       c.in_err-spec.ensures.fault,
     ))
@@ -49,14 +49,14 @@ returns-in_err-subsets-clause-refused c = when_same c.from_residual-in_err-subse
     (gen_of_scanner c.in_err-subsets.field-0.0) (IsRefusedFor c.args.limits.now c.args.lex.now c.args.yacc.now)
     c.from_residual-in_err-subsets.ensures.1
     (scanner_refused c.args.limits.now c.args.lex.now c.args.yacc.now c.in_ok-file.file c.in_err-subsets.field-0.0
-    c.in_ok-file.ensures.ok c.in_ok-file.ensures.light c.in_err-subsets.ensures.refused)
+    c.in_ok-file.ensures.read.ok c.in_ok-file.ensures.read.light c.in_err-subsets.ensures.refused)
 
 pub returns-clause-says : goal.returns-clause-says
 returns-clause-says c = record {
   specifies = record {
     file = c.in_ok-file.file;
-    lex_text = c.in_ok-file.ensures.ok;
-    light = c.in_ok-file.ensures.light;
+    lex_text = c.in_ok-file.ensures.read.ok;
+    light = c.in_ok-file.ensures.read.light;
     written = written_of c.in_ok-yacc.yacc;
     yacc_text = c.in_ok-yacc.ensures.ok;
     joined = c.in_ok-spec.ensures.ok;

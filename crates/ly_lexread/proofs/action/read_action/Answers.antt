@@ -72,4 +72,4 @@ pub returns-in-Err-clause-refused : goal.returns-in-Err-clause-refused
 returns-in-Err-clause-refused c = rw (← c.split_at.ensures.front, ← c.split_at.ensures.back)
     (λ ne. line_refused c.args.conditions.now c.split_at.result.0.now c.split_at.result.1.now c.next_word.result.1.now
     c.next_word.result.0 c.next_word.ensures.front c.if-is.ensures c.if-is-2.ensures
-    (c.in-Err.ensures.refused (λ e. ne (c.in_text.ensures.memory e))))
+    (c.in-Err.ensures.refused (λ e. ne (c.on_line.ensures.memory e))))

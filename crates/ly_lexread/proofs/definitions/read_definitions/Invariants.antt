@@ -1,4 +1,4 @@
-use Rattle.std.proofs.Common.{List, ℕ, length}
+use Rattle.std.proofs.Common.{List, ℕ, length, ◌≡◌}
 use Rattle.ly_lexread.specs.Definitions.{at_first, Definitions, Preamble}
 use Rattle.ly_lexread.specs.Private.Definitions.{preamble_of}
 use Rattle.ly_lexread.proofs.definitions.read_definitions.Given as goal
@@ -10,6 +10,7 @@ invariant-loop-line l = record {
       → Definitions at_first l.text.bytes.now all rest;
   complete : (all : Preamble) (rest : List ℕ) → Definitions at_first l.text.bytes.now all rest
       → Definitions (preamble_of l.preamble) l.left.bytes.now all rest;
+  whole : l.left.whole ≡ l.text.whole;
 }
 
 abbrev pub decreases-loop-line : goal.decreases-loop-line

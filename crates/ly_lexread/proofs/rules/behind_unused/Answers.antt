@@ -11,9 +11,9 @@ returns-in-Unused-clause-ok c = (
 )
 
 pub returns-in-None-clause-refused : goal.returns-in-None-clause-refused
-returns-in-None-clause-refused c = λ cs names rules sayings.
+returns-in-None-clause-refused c = λ cs names rules sayings lefts.
     rules_unclosed cs names c.args.text.bytes.now c.in-Some.line.now c.in-Some.behind.bytes.now rules sayings
-    c.in-Some.ensures.these (sym c.kind_of.ensures ∙ c.in-Block.is) c.in-None.ensures.these
+    lefts c.in-Some.ensures.these (sym c.kind_of.ensures ∙ c.in-Block.is) c.in-None.ensures.these
 
 pub returns-in_default-kind_of-clause-ok : goal.returns-in_default-kind_of-clause-ok
 returns-in_default-kind_of-clause-ok c = settled c.args.text.bytes.now c.in-Some.line.now c.in-Some.behind.bytes.now

@@ -8,20 +8,20 @@ use Rattle.ly_lexread.proofs.AnswerLemmas.{answer_fault, answer_ok, answer_patte
 use Rattle.ly_lexread.proofs.RuleLemmas.{action_text, active_found, no_active, rule_line, says_there}
 use Rattle.ly_lexread.proofs.rules.read_rule.Goals as goal
 
-pub returns-in_default : goal.returns-in_default
-returns-in_default c = answer_fault _ _ _ _ _ (λ _. tt) (λ h. h) (λ _ x v.
+pub returns-in_default-clause-read : goal.returns-in_default-clause-read
+returns-in_default-clause-read c = rw c.fault.ensures.1 (answer_fault _ _ _ _ _ (λ h. h) (λ _ x v.
     no_active c.args.conditions.now c.args.names.now c.args.text.bytes.now c.line_bytes-line.result.now
     c.line_bytes-line.ensures.0 x.2 x.0 x.1 c.line_bytes-line.ensures.1
-    (at_none c.in_ok-active.field-0 _ _ c.in_default.not-Some c.in_ok-active.ensures) v)
+    (at_none c.in_ok-active.field-0 _ _ c.in_default.not-Some c.in_ok-active.ensures) v))
 
-pub returns-in-Err : goal.returns-in-Err
-returns-in-Err c =
+pub returns-in-Err-clause-read : goal.returns-in-Err-clause-read
+returns-in-Err-clause-read c =
     let cs = c.args.conditions.now in
     let line = c.line_bytes-line.result.now in
     let active = active_found cs line c.in_ok-active.field-0 c.in-Some.active c.in-Some.body c.in-Some.is
     c.in_ok-active.ensures in
     answer_pattern _ c.args.limits.now.pattern_weight cs c.args.names.now c.args.text.bytes.now
-    c.in-Some.active.items c.in-Some.body.now c.line_bytes-line.ensures.0 c.args.text.line c.in-Err.fault
+    c.in-Some.active.items c.in-Some.body.now c.line_bytes-line.ensures.0 c.in-Err.fault
     c.pattern_fault.result
     (rule_line cs c.args.text.bytes.now line c.line_bytes-line.ensures.0 c.in-Some.active.items c.in-Some.body.now
     c.requires c.line_bytes-line.ensures.1 active) c.pattern_fault.ensures.memory c.pattern_fault.ensures.other
@@ -50,8 +50,8 @@ read_action-requires c =
     c.in-Ok.ensures.ok.within c.split_at.ensures.back in
     at.within
 
-pub returns-in_err-said : goal.returns-in_err-said
-returns-in_err-said c =
+pub returns-in_err-said-clause-read : goal.returns-in_err-said-clause-read
+returns-in_err-said-clause-read c =
     let cs = c.args.conditions.now in
     let text = c.args.text.bytes.now in
     let line = c.line_bytes-line.result.now in
@@ -66,15 +66,15 @@ returns-in_err-said c =
     let on_line = length body - taken in
     let l = rule_line cs text line tail c.in-Some.active.items body c.requires c.line_bytes-line.ensures.1 active in
     let e = err_from_is_err_and c.from_residual-in_err-said.result c.from_residual-in_err-said.ensures.1 in
-    rw (e.1, e.2) (answer_fault _ _ _ _ _ c.in_err-said.ensures.of_text c.in_err-said.ensures.light (λ ne x v.
+    rw (e.1, e.2) (answer_fault _ _ _ _ _ c.in_err-said.ensures.light (λ ne x v.
     let said = says_there cs c.args.names.now text c.in-Some.active.items body tail x.2 taken c.in-Ok.front.0 x.0 x.1 l
     c.in-Ok.ensures.ok v in
     c.in_err-said.ensures.refused ne x.1 x.2
     (subst (λ i. SaysAction cs (take on_line c.split_at.result.1.now) i x.1 x.2) (sym at.ends)
     (subst (λ i. SaysAction cs i tail x.1 x.2) (sym at.on_line) said))))
 
-pub returns : goal.returns
-returns c =
+pub returns-clause-read : goal.returns-clause-read
+returns-clause-read c =
     let cs = c.args.conditions.now in
     let text = c.args.text.bytes.now in
     let line = c.line_bytes-line.result.now in

@@ -1,4 +1,4 @@
-use Rattle.std.proofs.Common.{List, ℕ, length, ◌≤◌}
+use Rattle.std.proofs.Common.{List, ℕ, length, ◌≡◌, ◌≤◌}
 use Rattle.ly_ere.specs.Names.{Definition}
 use Rattle.ly_ere.specs.declared.pattern.Rule.{Rule}
 use Rattle.ly_lexread.specs.Action.{Saying}
@@ -12,8 +12,10 @@ abbrev pub invariant-loop-behind : goal.invariant-loop-behind
 invariant-loop-behind l = record {
   skipped : (rest : List ℕ) → AreSkipped l.left.bytes.now rest → AreSkipped l.text.bytes.now rest;
   complete : (cs : List Condition) (names : List Definition) (rules : List Rule) (sayings : List Saying)
-      → Rules cs names l.text.bytes.now rules sayings → Rules cs names l.left.bytes.now rules sayings;
+      (lefts : List ℕ)
+      → Rules cs names l.text.bytes.now rules sayings lefts → Rules cs names l.left.bytes.now rules sayings lefts;
   within : length l.left.bytes.now ≤ length l.text.bytes.now;
+  whole : l.left.whole ≡ l.text.whole;
 }
 
 abbrev pub decreases-loop-behind : goal.decreases-loop-behind

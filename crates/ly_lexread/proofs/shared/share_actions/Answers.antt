@@ -11,7 +11,7 @@ returns-in-None c =
     let none : c.loop-last.actions.items ≡ []
     = sym c.deref.ensures.value ∙ last_none c.deref.result.now (sym c.in-None.ensures.value) in
     bar_at_end c.args.said.items c.loop-last.said.items c.pop.new.self.items i.0 c.loop-last.actions.items i.1 i.2
-    c.in-Some.last c.in-Some.ensures.items c.in-Next.is none
+    c.in-Some.last _ c.in-Some.ensures.items c.in-Next.is none
 
 pub loop-last-preserved : goal.loop-last-preserved
 loop-last-preserved c =
@@ -23,7 +23,7 @@ loop-last-preserved c =
           w.action-is c.in_ok-push.ensures.items
       | in-Next+in-Some-last+in_ok-action-in-Some-last w ↦
           next_on c.args.said.items c.loop-last.said.items c.pop.new.self.items i.0 c.loop-last.actions.items i.1 i.2
-          c.in-Some.last c.match-last.action w.in-Some-last.next.now c.push.new.self.items c.in-Some.ensures.items
+          c.in-Some.last _ c.match-last.action w.in-Some-last.next.now c.push.new.self.items c.in-Some.ensures.items
           w.in-Next.is (last_is c.loop-last.actions.items w.deref.result.now w.in-Some-last.next.now
           w.deref.ensures.value
           w.in-Some-last.ensures.value)

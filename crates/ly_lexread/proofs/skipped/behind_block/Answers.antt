@@ -1,4 +1,4 @@
-use Rattle.std.proofs.Common.{arith}
+use Rattle.std.proofs.Common.{◌∙◌, arith}
 use Rattle.ly_lexread.specs.Lines.{last, more}
 use Rattle.ly_lexread.proofs.LineLemmas.{block_behind}
 use Rattle.ly_lexread.proofs.skipped.behind_block.Goals as goal
@@ -8,6 +8,9 @@ returns-then-closes_block-clause-these c =
     c.loop-line.invariant.sound c.in-Some.behind.bytes.now
     (last c.loop-line.left.bytes.now c.in-Some.line.now c.in-Some.behind.bytes.now c.in-Some.ensures.these
     c.if-closes_block.ensures)
+
+pub returns-then-closes_block-clause-whole : goal.returns-then-closes_block-clause-whole
+returns-then-closes_block-clause-whole c = c.in-Some.ensures.whole ∙ c.loop-line.invariant.whole
 
 pub loop-line-preserved : goal.loop-line-preserved
 loop-line-preserved c =
@@ -20,4 +23,5 @@ loop-line-preserved c =
       complete = λ rest d. block_behind left line behind rest c.in-Some.ensures.these c.if-closes_block.ensures
           (c.loop-line.invariant.complete rest d);
       within = omega (arith, c.loop-line.invariant.within, c.in-Some.ensures.shorter);
+      whole = c.in-Some.ensures.whole ∙ c.loop-line.invariant.whole;
     }

@@ -1,4 +1,4 @@
-use Rattle.std.proofs.Common.{List, ℕ, length, ◌≤◌}
+use Rattle.std.proofs.Common.{List, ℕ, length, ◌≡◌, ◌≤◌}
 use Rattle.ly_lexread.specs.Lines.{BlockEnds}
 use Rattle.ly_lexread.proofs.skipped.behind_block.Given as goal
 
@@ -8,6 +8,7 @@ invariant-loop-line l = record {
   sound : (rest : List ℕ) → BlockEnds l.left.bytes.now rest → BlockEnds l.initial.inside.bytes.now rest;
   complete : (rest : List ℕ) → BlockEnds l.initial.inside.bytes.now rest → BlockEnds l.left.bytes.now rest;
   within : length l.left.bytes.now ≤ length l.initial.inside.bytes.now;
+  whole : l.left.whole ≡ l.initial.inside.whole;
 }
 
 abbrev pub decreases-loop-line : goal.decreases-loop-line

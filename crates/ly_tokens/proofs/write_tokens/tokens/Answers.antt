@@ -1,8 +1,8 @@
-use Rattle.std.proofs.Common.{◌≡◌, ◌∙◌, ℕ, List, Option, Err, Result, sym, ap, subst}
+use Rattle.std.proofs.Common.{◌≡◌, ◌∙◌, ℕ, List, Option, Err, Result, sym, ap, length, subst}
 use Rattle.std.specs.Prelude.{IfErr}
 use Rattle.std.specs.Result.{IsErrAnd}
 use Rattle.std.proofs.lemmas.Result.{IfOk-weaker, err_from_is_err_and}
-use Rattle.ly_lexread.specs.Faults.{IsTooHeavy}
+use Rattle.ly_lexread.specs.Faults.{IsAtMost, IsTooHeavy}
 use Rattle.ly_tokens.specs.declared.outcome.TokenEnd.{TokenEnd}
 use Rattle.ly_lexread.specs.declared.fault.LexFault.{LexFault}
 use Rattle.ly_lexread.specs.declared.fault.LexFault.TheVariants as lex
@@ -20,13 +20,7 @@ use Rattle.ly_tokens.proofs.write_tokens.tokens.Goals as goal
 -- a fault of the lex file is the one that its reader gave
 same_lex : (f fault : LexFault) → Lex fault ≡ fault_of_lex f → fault ≡ f
 same_lex lex.OutOfMemory fault e = absurd cc
-same_lex (lex.NoRulesMark line) fault e = cc
-same_lex (lex.BadDefinition line) fault e = cc
-same_lex (lex.UnknownCondition line) fault e = cc
-same_lex (lex.ConditionTwice line) fault e = cc
-same_lex (lex.BadAction line) fault e = cc
-same_lex (lex.BarAtEnd line) fault e = cc
-same_lex (lex.Pattern line inner) fault e = cc
+same_lex (lex.Refused kind offset) fault e = cc
 
 not_memory : (f fault : LexFault) → Lex fault ≡ fault_of_lex f → f ≡ lex.OutOfMemory → ⊥
 not_memory f fault e is = let memory : fault_of_lex f ≡ OutOfMemory = ap fault_of_lex is in cc
@@ -41,13 +35,13 @@ gave r f fault h is = let p = err_from_is_err_and r h in same_fault r (Lex fault
 pub returns-in_err-file-clause-refused : goal.returns-in_err-file-clause-refused
 returns-in_err-file-clause-refused g c = λ fault is light file text.
     let e = gave c.from_residual.result c.in_err-file.field-0.0 fault c.from_residual.ensures.1 is in
-    c.in_err-file.ensures.refused (not_memory c.in_err-file.field-0.0 fault e)
+    c.in_err-file.ensures.read.refused (not_memory c.in_err-file.field-0.0 fault e)
     (λ heavy. light (subst IsTooHeavy (sym (same_lex c.in_err-file.field-0.0 fault e)) heavy)) file text
 
 pub returns-in_err-file-clause-none_light : goal.returns-in_err-file-clause-none_light
 returns-in_err-file-clause-none_light g c = λ fault is heavy file text.
     let e = gave c.from_residual.result c.in_err-file.field-0.0 fault c.from_residual.ensures.1 is in
-    c.in_err-file.ensures.none_light (subst IsTooHeavy (same_lex c.in_err-file.field-0.0 fault e) heavy) file text
+    c.in_err-file.ensures.read.none_light (subst IsTooHeavy (same_lex c.in_err-file.field-0.0 fault e) heavy) file text
 
 answers : {limits : Sizes} {file : LexFile} {left : Option (List ℕ)} {e : End} {answer bytes : List ℕ}
     → LexText bytes file → IsLight limits.pattern_weight file → FileAnswers limits file left e answer
@@ -65,7 +59,7 @@ answers {limits} {file} spelled light a = record {
 
 pub returns-clause-answered : goal.returns-clause-answered
 returns-clause-answered g c = IfOk-weaker c.write_answer.result _ _
-    (λ end a. (a.0, answers c.in_ok-file.ensures.ok c.in_ok-file.ensures.light a.1, a.2))
+    (λ end a. (a.0, answers c.in_ok-file.ensures.read.ok c.in_ok-file.ensures.read.light a.1, a.2))
     c.write_answer.ensures.answered
 
 pub returns-clause-beginning : goal.returns-clause-beginning
@@ -74,7 +68,7 @@ returns-clause-beginning g c = λ written is.
       short.0,
       (
         short.1.0,
-        answers c.in_ok-file.ensures.ok c.in_ok-file.ensures.light short.1.1,
+        answers c.in_ok-file.ensures.read.ok c.in_ok-file.ensures.read.light short.1.1,
         short.1.2.within,
         short.1.2.went_out,
       ),
@@ -96,12 +90,22 @@ pub returns-clause-of_text : goal.returns-clause-of_text
 returns-clause-of_text g c = λ fault is. absurd (subst (λ r. IfErr r (HasNoTokens version_2 c.in_ok-file.file)) is
     c.write_answer.ensures.refused)
 
+pub returns-in_err-file-clause-within : goal.returns-in_err-file-clause-within
+returns-in_err-file-clause-within g c = λ fault is.
+    let e = gave c.from_residual.result c.in_err-file.field-0.0 fault c.from_residual.ensures.1 is in
+    subst (IsAtMost (length c.args.lex.now)) (sym (same_lex c.in_err-file.field-0.0 fault e))
+    c.in_err-file.ensures.within
+
+pub returns-clause-within : goal.returns-clause-within
+returns-clause-within g c = λ fault is. absurd (subst (λ r. IfErr r (HasNoTokens version_2 c.in_ok-file.file)) is
+    c.write_answer.ensures.refused)
+
 pub returns-clause-heavy : goal.returns-clause-heavy
 returns-clause-heavy g c = λ fault is.
     let heavy = subst (λ r. IfErr r (HasNoTokens version_2 c.in_ok-file.file)) is c.write_answer.ensures.refused in
-    (heavy.0, (c.in_ok-file.file, c.in_ok-file.ensures.ok, c.in_ok-file.ensures.light, heavy.1))
+    (heavy.0, (c.in_ok-file.file, c.in_ok-file.ensures.read.ok, c.in_ok-file.ensures.read.light, heavy.1))
 
 pub returns-clause-many : goal.returns-clause-many
 returns-clause-many g c = λ fault is.
     let many = subst (λ r. IfErr r (HasNoTokens version_2 c.in_ok-file.file)) is c.write_answer.ensures.refused in
-    (many.0, (c.in_ok-file.file, c.in_ok-file.ensures.ok, c.in_ok-file.ensures.light, many.1, many.2))
+    (many.0, (c.in_ok-file.file, c.in_ok-file.ensures.read.ok, c.in_ok-file.ensures.read.light, many.1, many.2))

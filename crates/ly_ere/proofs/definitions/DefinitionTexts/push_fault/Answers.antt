@@ -9,7 +9,7 @@ use Rattle.ly_ere.proofs.DefinitionLemmas.{read_none, refusals_later}
 use Rattle.ly_ere.proofs.definitions.DefinitionTexts.push_fault.Goals as goal
 
 pub returns-then-is_none : goal.returns-then-is_none
-returns-then-is_none c known list d a none =
+returns-then-is_none c known list d a none at =
     let new : Refusal = record { place = c.len-place.result; fault = c.args.fault } in
     let refusal : (r : Refusal) → Some new ≡ Some r → IsTextRefusal known (list ++ d ∷ []) r
     = λ r is. subst (IsTextRefusal known (list ++ d ∷ [])) (some_one is) (record {
@@ -20,6 +20,7 @@ returns-then-is_none c known list d a none =
       memory = c.requires.memory;
       weight = c.requires.weight;
       cycle = c.requires.cycle;
+      at = at;
     }) in
     read_none known list d c.args.self.now _ a _ c.in_ok-push.ensures.items none c.new.ensures.items
     (λ e. none_some (sym e)) refusal
@@ -29,7 +30,7 @@ none_is_none None some e = cc
 none_is_none (Some r) some e = none_some (sym e)
 
 pub returns-else-is_none : goal.returns-else-is_none
-returns-else-is_none c known list d a none =
+returns-else-is_none c known list d a none at =
     let self = c.args.self.now in
     let u : DefinitionTexts
     = record { expressions = self.expressions; uses = c.push.new.self; refusal = self.refusal } in

@@ -27,5 +27,6 @@ pub returns : goal.returns
 returns c = c.loop-place.invariant
     ∙ (ap (places 0) (take_all c.loop-place.place c.deref-exclusive-items.result.now c.loop-place-test.false)
     ∙ (ap (places 0) c.deref-exclusive-items.ensures.value
-    ∙ (places_zip (λ k. k.items) c.self.inside.names.keys c.self.inside.exclusive.items 0 c.self.invariant.0
+    ∙ (places_zip (λ k. k.items) c.self.inside.names.keys c.self.inside.exclusive.items
+    c.self.inside.lefts.items 0 c.self.invariant.0 c.self.invariant.1
     ∙ ap inclusive c.self.view_is)))
