@@ -19,7 +19,7 @@ pub use answer_fault::AnswerFault;
 pub use answering::answer;
 pub use generating::{Built, build, generate};
 pub use ly_base::{Limits, Version};
-pub use ly_drive::{DriveFault, Feed, FeedFault, FinishFault, Need, Outcome, drive};
+pub use ly_drive::{DriveFault, Feed, FeedFault, Need, Outcome, TextFault, drive};
 pub use ly_generate::{
     GenFault, Report, Specification, read_specification, refusal_is_exact, sentences_are_answered,
     settle, steady_tables, tables_answer_as_specified,
