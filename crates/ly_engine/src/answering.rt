@@ -3,7 +3,7 @@ ghost use Rattle.std.specs.Io.KnownBytes.{IsAtEnd};
 ghost use Rattle.ly_print.specs.Device.{next_count};
 ghost use Rattle.ly_base.specs.Limits.{version_2};
 ghost use Rattle.ly_base.specs.declared.version.Version.TheVariants.{V2};
-ghost use Rattle.ly_drive.specs.Answering.{IsAnsweredBy, IsBegunBy, IsReadAsNeeded, IsTooLong};
+ghost use Rattle.ly_drive.specs.Answering.{IsAnsweredBy, IsBegunBy, IsOpenBehind, IsReadAsNeeded, IsTooLong};
 ghost use Rattle.ly_tables.specs.TableSet.{TableSet as Tables};
 ghost use Rattle.ly_generate.specs.Accepted.{IsRefusedFor};
 ghost use Rattle.ly_engine.specs.AnswerFault.{IsBeforeReading, IsBeforeWriting, IsWrite};
@@ -13,14 +13,15 @@ ghost use Rattle.ly_generate.specs.declared.gen_fault.GenFault.TheVariants as ge
 
 use crate::answer_fault::AnswerFault;
 use ly_base::{Limits, Version};
-use ly_drive::{DriveFault, Outcome, run};
+use ly_drive::{Outcome, TextFault, run};
 use ly_generate::{Report, file_tables};
 use ly_print::{Sink, Source};
 use std::alloc::Global;
 
 /// Answers the text that a reader gives by a lex file and a yacc file (POSIX, XCU lex and yacc), and writes the answer.
 /// Nothing is read before the tables are made, and at most 4,096 bytes at a time; nothing is written before the outcome
-/// is known, and nothing is read after it is, so only at a tree the reader is known to be at its end.
+/// is known, and nothing is asked of the reader after it is, so only at a tree the reader is known to be at its end, and
+/// a read that fails was one that had to be made.
 ///
 /// Its faults are those of `AnswerFault`.
 pub fn answer<R: Source, W: Sink>(
@@ -32,19 +33,25 @@ pub fn answer<R: Source, W: Sink>(
 ) -> Result<Outcome, AnswerFault>
     ensures answered { IfOk result (λ o. (s : Tables) × IsGenerated V2 version_2 lex.now yacc.now s
         × IsAnsweredBy s (R.remaining reader.old) (W.contents writer.old) (W.contents writer.new) o) }
-    ensures beginning { (written : ℕ) → result ≡ Err (AnswerFault.Write written) → (s : Tables)
+    ensures beginning { (written : ℕ) → result ≡ Err (AnswerFault.Text (TextFault.Write written)) → (s : Tables)
         × IsGenerated V2 version_2 lex.now yacc.now s
         × IsBegunBy s (R.remaining reader.old) (W.contents writer.old) (W.contents writer.new) written }
-    ensures refused { (fault : code.GenFault) → result ≡ Err (AnswerFault.Refused fault)
+    ensures refused { (fault : code.GenFault) → result ≡ Err (AnswerFault.Gen fault)
         → (fault ≢ gen.OutOfMemory) × IsRefusedFor version_2 lex.now yacc.now fault }
-    ensures long { result ≡ Err AnswerFault.TooLong → IsTooLong (R.remaining reader.old) }
+    ensures never_faulty { result ≢ Err (AnswerFault.Text TextFault.FaultyTables) }
+    ensures long { result ≡ Err (AnswerFault.Text TextFault.TooLong) → IsTooLong (R.remaining reader.old) }
     ensures unread { IfErr result (λ e. IsBeforeReading e → reader.new ≡ reader.old) }
     ensures ended { result ≡ Ok Outcome.Tree → IsAtEnd (R.remaining reader.new) }
-    ensures needed { (IsErrOf result AnswerFault.Read → ⊥) → (reader.new ≡ reader.old)
+    ensures needed { (IsErrOf result (AnswerFault.Text TextFault.Read) → ⊥) → (reader.new ≡ reader.old)
         ⊎ ((s : Tables) × IsGenerated V2 version_2 lex.now yacc.now s
         × IsReadAsNeeded 4096 s (R.remaining reader.old) (R.remaining reader.new)) }
-    ensures read { IsErrOf result AnswerFault.Read → R.failures reader.new ≡ next_count (R.failures reader.old) }
-    ensures reader_held { (IsErrOf result AnswerFault.Read → ⊥) → R.failures reader.new ≡ R.failures reader.old }
+    ensures asked { IsErrOf result (AnswerFault.Text TextFault.Read) → (s : Tables)
+        × IsGenerated V2 version_2 lex.now yacc.now s
+        × IsOpenBehind s (R.remaining reader.old) (R.remaining reader.new) }
+    ensures read { IsErrOf result (AnswerFault.Text TextFault.Read)
+        → R.failures reader.new ≡ next_count (R.failures reader.old) }
+    ensures reader_held { (IsErrOf result (AnswerFault.Text TextFault.Read) → ⊥)
+        → R.failures reader.new ≡ R.failures reader.old }
     ensures write { IfErr result (λ e. IsWrite e → W.failures writer.new ≡ next_count (W.failures writer.old)) }
     ensures writer_held { OnOk result (W.failures writer.new ≡ W.failures writer.old) }
     ensures untouched { IfErr result (λ e. IsBeforeWriting e → writer.new ≡ writer.old) }
@@ -52,15 +59,5 @@ pub fn answer<R: Source, W: Sink>(
     let generated = file_tables(alloc, lex, yacc, &Limits::V2, Version::V2, Report::Unwanted)?;
     let answered = run(alloc, &generated.set, reader, writer);
     drop(generated);
-    match answered {
-        Ok(outcome) => Ok(outcome),
-        Err(DriveFault::TooLong) => Err(AnswerFault::TooLong),
-        Err(DriveFault::Read) => Err(AnswerFault::Read),
-        Err(DriveFault::Write { written }) => Err(AnswerFault::Write { written }),
-        Err(DriveFault::OutOfMemory) => Err(AnswerFault::OutOfMemory),
-        // the table set was read from no file
-        Err(DriveFault::Tables(_)) => unreachable!(),
-        // and one that two files generate is never at fault
-        Err(DriveFault::TableFault) => unreachable!(),
-    }
+    Ok(answered?)
 }
