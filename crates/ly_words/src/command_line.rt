@@ -11,7 +11,7 @@ use crate::line::line;
 use clap::ArgMatches;
 use clap::error::ErrorKind;
 use ly_base::Version;
-use std::alloc::Global;
+use std::alloc::{AllocError, Global};
 
 /// Where `clap` takes the words, nothing else can be wrong with them.
 const NO_VERSION: &str = "error: invalid value for '--format <VERSION>': it must be 1 or 2\n";
@@ -159,6 +159,6 @@ fn refusal(alloc: Global, error: &clap::Error) -> CommandFault
     match error.to_string(alloc) {
         Ok(text) if is_asked_for => CommandFault::Help(text),
         Ok(text) => CommandFault::Bad(text),
-        Err(_) => CommandFault::OutOfMemory,
+        Err(AllocError) => CommandFault::OutOfMemory,
     }
 }

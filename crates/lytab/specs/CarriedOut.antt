@@ -68,10 +68,9 @@ pub record HasCounts (bytes : List ℕ) (version : Version) (counts : SetCounts)
   pub rules : counts.rules ≡ length set.rules
   pub parser_states : counts.parser_states ≡ length set.defaults
 
--- the end of the line that names a version
-abbrev pub version_words : Version → List ℕ
-version_words V1 = codes "version 1\n"
-version_words V2 = codes "version 2\n"
+abbrev pub version_number : Version → ℕ
+version_number V1 = 1
+version_number V2 = 2
 
 -- the line that says how many there are, and which version the file has
 abbrev pub set_line : SetCounts → Version → List ℕ
@@ -79,8 +78,8 @@ set_line counts version = codes "tables: " ++ (decimal counts.terminals ++ codes
     ++ (decimal counts.nonterminals ++ codes " nonterminals, ")
     ++ (decimal counts.scanner_rules ++ codes " scanner rules, ")
     ++ (decimal counts.scanner_states ++ codes " scanner states, ")
-    ++ (decimal counts.rules ++ codes " rules, ") ++ (decimal counts.parser_states ++ codes " parser states, ")
-    ++ version_words version
+    ++ (decimal counts.rules ++ codes " rules, ") ++ (decimal counts.parser_states ++ codes " parser states, version ")
+    ++ (decimal (version_number version) ++ codes "\n")
 
 -- that line was written
 pub record IsCheckTold (before after : Option (List ℕ)) (c : Completion) : Type 0 where

@@ -29,7 +29,7 @@ pub fn build_tables<'a, F: Files, W: Sink>(
     output: &mut W,
 ) -> Result<Completion, Failure<'a>>
     ensures built { IfOk result (IsBuildTold ⟦<Counted<F::File> as Sink>⟧.contents version_2 version
-        (option_map (λ s. s.now) paths.report) (W.contents output.old) (W.contents output.new)) }
+        (option_map (λ s. s.now) paths.entry.report) (W.contents output.old) (W.contents output.new)) }
     ensures refused { IfErr result (IsRefusalOfBuild version) }
     ensures devices { IsOutputTold result output.old output.new (W.failures output.old) (W.failures output.new) }
 {
@@ -63,7 +63,7 @@ fn write_files<'a, F: Files>(
 ) -> Result<(), FileFault<'a>>
     ensures tables { OnOk result (HasTaken ⟦<Counted<F::File> as Sink>⟧.contents built.now.tables.items) }
     ensures report { OnOk result
-        (IsWrittenIf ⟦<Counted<F::File> as Sink>⟧.contents (option_map (λ s. s.now) paths.report) built.now.report) }
+        (IsWrittenIf ⟦<Counted<F::File> as Sink>⟧.contents (option_map (λ s. s.now) paths.entry.report) built.now.report) }
 {
     write_file(files, paths.tables, &built.tables)?;
     match (paths.report, &built.report) {

@@ -1,7 +1,7 @@
 //! The command `check`.
 ghost use Rattle.std.specs.Prelude.{◌≡◌, ◌++◌, IfErr, IfOk, OnOk, string_bytes};
 ghost use Rattle.std.specs.Fmt.{decimal};
-ghost use Rattle.lytab.specs.CarriedOut.{HasCounts, IsCheckTold, set_line, version_words};
+ghost use Rattle.lytab.specs.CarriedOut.{HasCounts, IsCheckTold, set_line, version_number};
 ghost use Rattle.lytab.specs.Devices.{IsOutputTold};
 ghost use Rattle.lytab.specs.Refusal.{IsRefusalOfCheck};
 ghost use Rattle.ly_tables.specs.Refusal.{IsRefusedAs};
@@ -55,18 +55,18 @@ fn line_of(alloc: Global, counts: &SetCounts, version: Version) -> Result<String
     push_count(&mut line, counts.scanner_rules, " scanner rules, ")?;
     push_count(&mut line, counts.scanner_states, " scanner states, ")?;
     push_count(&mut line, counts.rules, " rules, ")?;
-    push_count(&mut line, counts.parser_states, " parser states, ")?;
-    line.push_str(version_line(version))?;
+    push_count(&mut line, counts.parser_states, " parser states, version ")?;
+    push_count(&mut line, number_of(version), "\n")?;
     Ok(line)
 }
 
-/// The end of that line, which names the version.
-fn version_line(version: Version) -> &'static str
-    ensures { result.now ≡ version_words version }
+/// The number of a version of table files.
+fn number_of(version: Version) -> usize
+    ensures { result ≡ version_number version }
 {
     match version {
-        Version::V1 => "version 1\n",
-        Version::V2 => "version 2\n",
+        Version::V1 => 1,
+        Version::V2 => 2,
     }
 }
 

@@ -26,7 +26,7 @@ pub fn explain_files<'a, F: Files, W: Sink>(
     output: &mut W,
 ) -> Result<Completion, Failure<'a>>
     ensures said { IfOk result (IsExplanationTold ⟦<Counted<F::File> as Sink>⟧.contents
-        (option_map (λ s. s.now) paths.states) (option_map (λ s. s.now) paths.graph) (W.contents output.old)
+        (option_map (λ s. s.now) paths.entry.states) (option_map (λ s. s.now) paths.entry.graph) (W.contents output.old)
         (W.contents output.new)) }
     ensures failed { IfErr result IsOfDevice }
     ensures devices { IsOutputTold result output.old output.new (W.failures output.old) (W.failures output.new) }
@@ -57,10 +57,10 @@ fn write_files<'a, F: Files>(
     explanation: &Explanation,
 ) -> Result<(), FileFault<'a>>
     ensures states { OnOk result
-        (IsWrittenIf ⟦<Counted<F::File> as Sink>⟧.contents (option_map (λ s. s.now) paths.states)
+        (IsWrittenIf ⟦<Counted<F::File> as Sink>⟧.contents (option_map (λ s. s.now) paths.entry.states)
         explanation.now.states) }
     ensures picture { OnOk result
-        (IsWrittenIf ⟦<Counted<F::File> as Sink>⟧.contents (option_map (λ s. s.now) paths.graph)
+        (IsWrittenIf ⟦<Counted<F::File> as Sink>⟧.contents (option_map (λ s. s.now) paths.entry.graph)
         explanation.now.picture) }
 {
     if let (Some(path), Some(states)) = (paths.states, &explanation.states) {
