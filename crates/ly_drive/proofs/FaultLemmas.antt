@@ -3,32 +3,20 @@ use Rattle.std.proofs.Common.{◌≡◌, ◌∙◌, ◌<◌, ℕ, Err, List, Ok,
 use Rattle.std.specs.Io.KnownBytes.{Appends}
 use Rattle.std.specs.Prelude.{IsErrAnd, IsErrOf, Result}
 use Rattle.ly_print.specs.TextWriter.{IsCutShort}
-use Rattle.ly_drive.specs.DriveFault.{drive_fault_of}
 use Rattle.ly_drive.specs.declared.fault.DriveFault.{DriveFault}
-use Rattle.ly_drive.specs.declared.fault.DriveFault.TheVariants.{TableFault, Write}
-use Rattle.ly_feed.specs.declared.finish_fault.FinishFault.{FinishFault}
-use Rattle.ly_feed.specs.declared.finish_fault.FinishFault.TheVariants as finish
+use Rattle.ly_drive.specs.declared.fault.DriveFault.TheVariants.{Text}
+use Rattle.ly_feed.specs.declared.text_fault.TextFault.{TextFault}
 
 -- one that isn't answered wasn't handed on
-pub other_fault : {A : Type 0} (r : Result A DriveFault) (e fault : DriveFault) → IsErrAnd r (λ x. x ≡ e)
-    → (IsErrOf r fault → ⊥) → e ≡ fault → ⊥
+pub other_fault : {A E : Type 0} (r : Result A E) (e fault : E) → IsErrAnd r (λ x. x ≡ e) → (IsErrOf r fault → ⊥)
+    → e ≡ fault → ⊥
 other_fault (Ok x) e fault h not is = absurd h
 other_fault (Err x) e fault h not is = not (ap Err (h ∙ is))
 
-pub same_count : (n k : ℕ) → Write n ≡ Write k → n ≡ k
-same_count n k e = cc
-
--- a failed write that is told is that of the feed
-pub write_of : (e : FinishFault) (written : ℕ) → drive_fault_of e ≡ Write written → e ≡ finish.Write written
-write_of finish.TableFault written is = absurd cc
-write_of (finish.Write n) written is = ap finish.Write (same_count n written is)
-write_of finish.OutOfMemory written is = absurd cc
-
--- and so are tables at fault
-pub tables_of : (e : FinishFault) → drive_fault_of e ≡ TableFault → e ≡ finish.TableFault
-tables_of finish.TableFault is = cc
-tables_of (finish.Write n) is = absurd cc
-tables_of finish.OutOfMemory is = absurd cc
+-- nor was a fault of the text, as a fault of driving
+pub other_text : {A B : Type 0} (r : Result A DriveFault) (e fault : TextFault) → IsErrAnd r (λ x. x ≡ Text e)
+    → (IsErrOf r (Text fault) → ⊥) → IsErrOf {T = B} (Err e) fault → ⊥
+other_text r e fault h not is = let same : e ≡ fault = cc in other_fault r (Text e) (Text fault) h not (ap Text same)
 
 -- so many bytes of a text that is written whole went out
 pub cut_short : (b n : Option (List ℕ)) (count written : ℕ) (bytes text : List ℕ) → count ≡ written → bytes ≡ text

@@ -1,13 +1,11 @@
 -- A text that a reader gives piece by piece.
 use Rattle.std.proofs.Common.{◌≡◌, ◌∙◌, ◌<◌, ◌≤◌, ◌+◌, ◌-◌, ℕ, List, [], ◌++◌, Option, Some, None, Ok, Err, Result, ap}
 use Rattle.std.proofs.Common.{append_assoc, arith, length, length-append, refl, subst, sym}
-use Rattle.std.specs.Io.KnownBytes.{Consumes, IsAtEnd}
-use Rattle.std.specs.Prelude.{◌^◌, false, IfErr, IfSome}
+use Rattle.std.specs.Io.KnownBytes.{Appends, Consumes, IsAtEnd}
+use Rattle.std.specs.Prelude.{◌^◌, false, IfErr, IfOk, IfSome}
 use Rattle.std.proofs.KnownBytes.{Consumes-nil, Consumes-trans}
-use Rattle.ly_drive.specs.Answering.{IsFaultyOn, IsReadAsNeeded, IsTooLong}
+use Rattle.ly_drive.specs.Answering.{IsAnsweredBy, IsFaultyOn, IsReadAsNeeded, IsTooLong}
 use Rattle.ly_drive.specs.Private.Reading.{IsGiven, IsReadInto, IsReadSoFar}
-use Rattle.ly_drive.specs.declared.fault.DriveFault.{DriveFault}
-use Rattle.ly_drive.specs.declared.fault.DriveFault.TheVariants.{OutOfMemory, Read, TableFault, Tables, TooLong, Write}
 use Rattle.ly_feed.proofs.OnwardLemmas.{from_start, onward_on, onward_with}
 use Rattle.ly_feed.specs.Held.{Held, IsAnswerOf, IsOnward, IsRestOf, IsSettledBy, nothing_read, seen}
 use Rattle.ly_feed.specs.Onward.{Onward, none_yet}
@@ -16,6 +14,8 @@ use Rattle.ly_feed.specs.TableAnswer.{IsVerdict, TableAnswer, begun, with_more}
 use Rattle.ly_feed.specs.Verdict.{Verdict, faulty, printed}
 use Rattle.ly_feed.specs.Vocabularies.{vocabulary_of}
 use Rattle.ly_feed.specs.declared.outcome.Outcome.{Outcome}
+use Rattle.ly_feed.specs.declared.text_fault.TextFault.{TextFault}
+use Rattle.ly_feed.specs.declared.text_fault.TextFault.TheVariants.{FaultyTables, OutOfMemory, Read, TooLong, Write}
 use Rattle.ly_scan.specs.Pieces.{IsUndecided}
 use Rattle.ly_tables.specs.TableSet.{TableSet, machine_of}
 
@@ -48,14 +48,13 @@ long_given None taken rest n low all = tt
 long_given (Some g) taken rest n low all = omega (arith, low, sym (length-append taken rest) ∙ ap length all)
 
 -- a read that didn't fail gave a piece
-pub given_by : (most : ℕ) (f g : Held) (before after : Option (List ℕ)) (e : DriveFault)
+pub given_by : (most : ℕ) (f g : Held) (before after : Option (List ℕ)) (e : TextFault)
     → IsReadInto most f before after g (Err e) → (e ≡ Read → ⊥)
     → (piece : List ℕ) × IsGiven most before after piece
-given_by most f g before after TableFault is not = (is.0, is.1)
+given_by most f g before after FaultyTables is not = (is.0, is.1)
 given_by most f g before after TooLong is not = (is.0, is.1)
 given_by most f g before after OutOfMemory is not = is
 given_by most f g before after Read is not = absurd (not refl)
-given_by most f g before after (Tables fault) is not = absurd is
 given_by most f g before after (Write written) is not = absurd is
 
 -- where nothing is read yet the next match isn't decided
@@ -181,3 +180,13 @@ module _ (s : TableSet) (given : Option (List ℕ)) where
           text.1,
           (h.0, text.2, h.2, h.3 ∙ ap (λ x. printed (vocabulary_of x) h.0) so_far.set),
         )
+
+    -- where there is one
+    pub answered : {E : Type 0} (g : Held) (old new : Option (List ℕ)) (r : Result Outcome E) → g ≡ f
+        → Consumes before after [] → IsAtEnd after
+        → IfOk r (λ o. (answer : List ℕ) × IsAnswerOf g o answer × Appends old new answer)
+        → IfOk r (IsAnsweredBy s given old new)
+    answered g old new (Ok o) same took end told =
+        let text = ended_so g o told.0 same took end told.1 in
+        (text.0, told.0, text.1, text.2, told.2)
+    answered g old new (Err e) same took end told = tt

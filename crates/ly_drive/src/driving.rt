@@ -8,10 +8,11 @@ ghost use Rattle.ly_tables.specs.declared.fault.TableFault.TheVariants.{OutOfMem
 ghost use Rattle.ly_drive.specs.Answering.{IsAnsweredBy, IsBegunBy, IsDriven, IsFaultyOn, IsReadAsNeeded, IsTooLong};
 ghost use Rattle.ly_drive.specs.DriveFault.{IsBeforeWriting, IsOfFile, IsWrite};
 ghost use Rattle.ly_feed.specs.Held.{nothing_read};
+ghost use Rattle.ly_feed.specs.TextFault as text;
 
 use crate::fault::DriveFault;
 use crate::reading::read_into;
-use ly_feed::{Feed, Need, Outcome};
+use ly_feed::{Feed, Need, Outcome, TextFault};
 use ly_print::{Sink, Source, write_whole};
 use ly_tables::{TableSet, a_file_has_one_set, read_tables};
 use std::alloc::Global;
@@ -29,19 +30,22 @@ pub fn drive<R: Source, W: Sink>(
 ) -> Result<Outcome, DriveFault>
     ensures answered { IfOk result (λ o. (s : Tables) × IsDriven tables.now s
         × IsAnsweredBy s (R.remaining reader.old) (W.contents writer.old) (W.contents writer.new) o) }
-    ensures beginning { (written : ℕ) → result ≡ Err (DriveFault.Write written) → (s : Tables) × IsDriven tables.now s
+    ensures beginning { (written : ℕ) → result ≡ Err (DriveFault.Text (TextFault.Write written)) → (s : Tables)
+        × IsDriven tables.now s
         × IsBegunBy s (R.remaining reader.old) (W.contents writer.old) (W.contents writer.new) written }
-    ensures faulty { result ≡ Err DriveFault.TableFault → (s : Tables) × IsDriven tables.now s
+    ensures faulty { result ≡ Err (DriveFault.Text TextFault.FaultyTables) → (s : Tables) × IsDriven tables.now s
         × IsFaultyOn s (R.remaining reader.old) }
     ensures refused { (fault : file.TableFault) → result ≡ Err (DriveFault.Tables fault)
         → (fault ≢ OutOfMemory) × IsRefusedAs tables.now fault }
-    ensures long { result ≡ Err DriveFault.TooLong → IsTooLong (R.remaining reader.old) }
+    ensures long { result ≡ Err (DriveFault.Text TextFault.TooLong) → IsTooLong (R.remaining reader.old) }
     ensures unread { IfErr result (λ e. IsOfFile e → reader.new ≡ reader.old) }
     ensures ended { result ≡ Ok Outcome.Tree → IsAtEnd (R.remaining reader.new) }
-    ensures needed { (s : Tables) → IsDriven tables.now s → (IsErrOf result DriveFault.Read → ⊥)
+    ensures needed { (s : Tables) → IsDriven tables.now s → (IsErrOf result (DriveFault.Text TextFault.Read) → ⊥)
         → IsReadAsNeeded 4096 s (R.remaining reader.old) (R.remaining reader.new) }
-    ensures read { IsErrOf result DriveFault.Read → R.failures reader.new ≡ next_count (R.failures reader.old) }
-    ensures reader_held { (IsErrOf result DriveFault.Read → ⊥) → R.failures reader.new ≡ R.failures reader.old }
+    ensures read { IsErrOf result (DriveFault.Text TextFault.Read)
+        → R.failures reader.new ≡ next_count (R.failures reader.old) }
+    ensures reader_held { (IsErrOf result (DriveFault.Text TextFault.Read) → ⊥)
+        → R.failures reader.new ≡ R.failures reader.old }
     ensures write { IfErr result (λ e. IsWrite e → W.failures writer.new ≡ next_count (W.failures writer.old)) }
     ensures writer_held { OnOk result (W.failures writer.new ≡ W.failures writer.old) }
     ensures untouched { IfErr result (λ e. IsBeforeWriting e → writer.new ≡ writer.old) }
@@ -50,7 +54,7 @@ pub fn drive<R: Source, W: Sink>(
     let (set, _version) = read_tables(alloc, tables)?;
     let answered = run(alloc, &set, reader, writer);
     drop(set);
-    answered
+    Ok(answered?)
 }
 
 /// How many bytes are asked for at a time.
@@ -59,28 +63,27 @@ const PIECE: usize = 4_096;
 /// Answers the text that a reader gives by a table set, and writes the answer. Nothing is written before the outcome is
 /// known, and nothing is read after it is, so only at a tree the reader is known to be at its end.
 ///
-/// Its faults are those of `DriveFault`; none is of a table file.
+/// Its faults are those of `TextFault`.
 pub fn run<R: Source, W: Sink>(
     alloc: Global,
     set: &TableSet,
     reader: &mut R,
     writer: &mut W,
-) -> Result<Outcome, DriveFault>
+) -> Result<Outcome, TextFault>
     ensures answered { IfOk result (IsAnsweredBy set.now (R.remaining reader.old) (W.contents writer.old)
         (W.contents writer.new)) }
-    ensures beginning { (written : ℕ) → result ≡ Err (DriveFault.Write written)
+    ensures beginning { (written : ℕ) → result ≡ Err (TextFault.Write written)
         → IsBegunBy set.now (R.remaining reader.old) (W.contents writer.old) (W.contents writer.new) written }
-    ensures faulty { result ≡ Err DriveFault.TableFault → IsFaultyOn set.now (R.remaining reader.old) }
-    ensures long { result ≡ Err DriveFault.TooLong → IsTooLong (R.remaining reader.old) }
-    ensures not_of_file { IfErr result (λ e. IsOfFile e → ⊥) }
+    ensures faulty { result ≡ Err TextFault.FaultyTables → IsFaultyOn set.now (R.remaining reader.old) }
+    ensures long { result ≡ Err TextFault.TooLong → IsTooLong (R.remaining reader.old) }
     ensures ended { result ≡ Ok Outcome.Tree → IsAtEnd (R.remaining reader.new) }
-    ensures needed { (IsErrOf result DriveFault.Read → ⊥)
+    ensures needed { (IsErrOf result TextFault.Read → ⊥)
         → IsReadAsNeeded 4096 set.now (R.remaining reader.old) (R.remaining reader.new) }
-    ensures read { IsErrOf result DriveFault.Read → R.failures reader.new ≡ next_count (R.failures reader.old) }
-    ensures reader_held { (IsErrOf result DriveFault.Read → ⊥) → R.failures reader.new ≡ R.failures reader.old }
-    ensures write { IfErr result (λ e. IsWrite e → W.failures writer.new ≡ next_count (W.failures writer.old)) }
+    ensures read { IsErrOf result TextFault.Read → R.failures reader.new ≡ next_count (R.failures reader.old) }
+    ensures reader_held { (IsErrOf result TextFault.Read → ⊥) → R.failures reader.new ≡ R.failures reader.old }
+    ensures write { IfErr result (λ e. text.IsWrite e → W.failures writer.new ≡ next_count (W.failures writer.old)) }
     ensures writer_held { OnOk result (W.failures writer.new ≡ W.failures writer.old) }
-    ensures untouched { IfErr result (λ e. IsBeforeWriting e → writer.new ≡ writer.old) }
+    ensures untouched { IfErr result (λ e. text.IsBeforeWriting e → writer.new ≡ writer.old) }
 {
     let mut room = vec![in alloc; 0u8; PIECE]?;
     let mut feed = Feed::new(alloc, set)?;
@@ -96,24 +99,23 @@ fn feed_all<R: Source, W: Sink>(
     room: &mut [u8],
     reader: &mut R,
     writer: &mut W,
-) -> Result<Outcome, DriveFault>
+) -> Result<Outcome, TextFault>
     requires begins { feed.old ≡ nothing_read feed.old.set }
     requires room { 0 < length room.old }
     ensures answered { IfOk result (IsAnsweredBy feed.old.set (R.remaining reader.old) (W.contents writer.old)
         (W.contents writer.new)) }
-    ensures beginning { (written : ℕ) → result ≡ Err (DriveFault.Write written)
+    ensures beginning { (written : ℕ) → result ≡ Err (TextFault.Write written)
         → IsBegunBy feed.old.set (R.remaining reader.old) (W.contents writer.old) (W.contents writer.new) written }
-    ensures faulty { result ≡ Err DriveFault.TableFault → IsFaultyOn feed.old.set (R.remaining reader.old) }
-    ensures long { result ≡ Err DriveFault.TooLong → IsTooLong (R.remaining reader.old) }
-    ensures not_of_file { IfErr result (λ e. IsOfFile e → ⊥) }
+    ensures faulty { result ≡ Err TextFault.FaultyTables → IsFaultyOn feed.old.set (R.remaining reader.old) }
+    ensures long { result ≡ Err TextFault.TooLong → IsTooLong (R.remaining reader.old) }
     ensures ended { result ≡ Ok Outcome.Tree → IsAtEnd (R.remaining reader.new) }
-    ensures needed { (IsErrOf result DriveFault.Read → ⊥)
+    ensures needed { (IsErrOf result TextFault.Read → ⊥)
         → IsReadAsNeeded (length room.old) feed.old.set (R.remaining reader.old) (R.remaining reader.new) }
-    ensures read { IsErrOf result DriveFault.Read → R.failures reader.new ≡ next_count (R.failures reader.old) }
-    ensures reader_held { (IsErrOf result DriveFault.Read → ⊥) → R.failures reader.new ≡ R.failures reader.old }
-    ensures write { IfErr result (λ e. IsWrite e → W.failures writer.new ≡ next_count (W.failures writer.old)) }
+    ensures read { IsErrOf result TextFault.Read → R.failures reader.new ≡ next_count (R.failures reader.old) }
+    ensures reader_held { (IsErrOf result TextFault.Read → ⊥) → R.failures reader.new ≡ R.failures reader.old }
+    ensures write { IfErr result (λ e. text.IsWrite e → W.failures writer.new ≡ next_count (W.failures writer.old)) }
     ensures writer_held { OnOk result (W.failures writer.new ≡ W.failures writer.old) }
-    ensures untouched { IfErr result (λ e. IsBeforeWriting e → writer.new ≡ writer.old) }
+    ensures untouched { IfErr result (λ e. text.IsBeforeWriting e → writer.new ≡ writer.old) }
 {
     loop {
         match read_into(feed, reader, room)? {
@@ -122,7 +124,7 @@ fn feed_all<R: Source, W: Sink>(
                 write_whole(writer, &answer)?;
                 return Ok(outcome);
             }
-            None => return Ok(feed.finish_into(writer)?),
+            None => return feed.finish_into(writer),
         }
     }
 }

@@ -1,88 +1,60 @@
 ghost use Rattle.std.specs.Prelude.{◌≡◌};
-ghost use Rattle.ly_drive.specs.DriveFault.{drive_fault_of, fault_of_tables};
-ghost use Rattle.ly_drive.specs.declared.fault.DriveFault.TheVariants.{OutOfMemory, Write};
+ghost use Rattle.ly_drive.specs.DriveFault.{drive_name, drive_number, fault_of_tables};
+ghost use Rattle.ly_drive.specs.declared.fault.DriveFault.TheVariants.{Text};
 
-use ly_base::OutOfMemory as NoMemory;
-use ly_feed::FinishFault;
-use ly_print::WriteFault;
-use ly_tables::TableFault as FileFault;
-use std::alloc::AllocError;
+use ly_feed::TextFault;
+use ly_tables::TableFault;
 use thiserror::Error;
 
-/// Why there is no answer to a text by tables.
+/// Why there is no answer to a text by a table file.
 #[derive(Clone, Copy, Debug, PartialEq, Eq, Error)]
 pub enum DriveFault {
     /// The bytes are no table file that can be driven. Nothing was read or written.
     #[error("{0}")]
-    Tables(FileFault),
-    /// The tables are at fault on the text: a goto is missing, a body goes past the bottom of the stack, they accept
-    /// without a tree, or a cut leaves no byte or more than its match has. Never for tables that were generated.
-    /// Nothing was written.
-    #[error("the tables are at fault")]
-    TableFault,
-    /// More than 2^64-1 bytes were read, and no answer was known by then. Nothing was written.
-    #[error("the text is too long")]
-    TooLong,
-    /// The reader failed in this call. Nothing was written.
-    #[error("the text could not be read")]
-    Read,
-    /// The writer failed in this call, and just the first `written` bytes of the answer went out.
-    #[error("the answer could not be written after {written} bytes")]
-    Write {
-        /// How many bytes went out.
-        written: usize,
-    },
-    /// A growth was refused, or the tree has more than 2^48 long leaves or nodes, which no memory holds.
-    /// Nothing was written.
-    #[error("out of memory")]
-    OutOfMemory,
+    Tables(TableFault),
+    /// The text has no answer, or not all of it was written. Want of memory where the table file is read is this too:
+    /// nothing was read then.
+    #[error("{0}")]
+    Text(TextFault),
 }
 
-impl From<AllocError> for DriveFault {
-    ghost from_gives = { λ _ e. e ≡ OutOfMemory };
+impl DriveFault {
+    /// The fault's number; a device that fails and want of memory have none.
+    pub fn number(&self) -> Option<u8>
+        ensures { result ≡ drive_number self.now }
+    {
+        match self {
+            DriveFault::Tables(fault) => fault.number(),
+            DriveFault::Text(fault) => fault.number(),
+        }
+    }
 
-    fn from(_error: AllocError) -> DriveFault {
-        DriveFault::OutOfMemory
+    /// The fault's name.
+    pub fn name(&self) -> &'static str
+        ensures { result.now ≡ drive_name self.now }
+    {
+        match self {
+            DriveFault::Tables(fault) => fault.name(),
+            DriveFault::Text(fault) => fault.name(),
+        }
     }
 }
 
-impl From<NoMemory> for DriveFault {
-    ghost from_gives = { λ _ e. e ≡ OutOfMemory };
-
-    fn from(_error: NoMemory) -> DriveFault {
-        DriveFault::OutOfMemory
-    }
-}
-
-impl From<FileFault> for DriveFault {
+impl From<TableFault> for DriveFault {
     ghost from_gives = { λ fault e. e ≡ fault_of_tables fault };
 
-    fn from(fault: FileFault) -> DriveFault {
+    fn from(fault: TableFault) -> DriveFault {
         match fault {
-            FileFault::OutOfMemory => DriveFault::OutOfMemory,
+            TableFault::OutOfMemory => DriveFault::Text(TextFault::OutOfMemory),
             fault => DriveFault::Tables(fault),
         }
     }
 }
 
-impl From<FinishFault> for DriveFault {
-    ghost from_gives = { λ fault e. e ≡ drive_fault_of fault };
+impl From<TextFault> for DriveFault {
+    ghost from_gives = { λ fault e. e ≡ Text fault };
 
-    fn from(fault: FinishFault) -> DriveFault {
-        match fault {
-            FinishFault::TableFault => DriveFault::TableFault,
-            FinishFault::Write { written } => DriveFault::Write { written },
-            FinishFault::OutOfMemory => DriveFault::OutOfMemory,
-        }
-    }
-}
-
-impl From<WriteFault> for DriveFault {
-    ghost from_gives = { λ fault e. e ≡ Write fault.written };
-
-    fn from(fault: WriteFault) -> DriveFault {
-        DriveFault::Write {
-            written: fault.written,
-        }
+    fn from(fault: TextFault) -> DriveFault {
+        DriveFault::Text(fault)
     }
 }

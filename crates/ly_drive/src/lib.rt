@@ -15,6 +15,6 @@ mod reading;
 pub use driving::{drive, run};
 pub use fault::DriveFault;
 pub use ly_feed::{
-    Feed, FeedFault, FinishFault, Need, Outcome, a_beginning_says_it, a_text_has_a_verdict,
+    Feed, FeedFault, Need, Outcome, TextFault, a_beginning_says_it, a_text_has_a_verdict,
     a_text_has_one_verdict, decided_matches_change_nothing,
 };

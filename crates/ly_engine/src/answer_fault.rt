@@ -1,5 +1,8 @@
+ghost use Rattle.std.specs.Prelude.{◌≡◌};
 ghost use Rattle.ly_engine.specs.AnswerFault.{Becomes};
+ghost use Rattle.ly_engine.specs.declared.answer_fault.AnswerFault.TheVariants.{Text};
 
+use ly_drive::TextFault;
 use ly_generate::GenFault;
 use thiserror::Error;
 
@@ -8,23 +11,11 @@ use thiserror::Error;
 pub enum AnswerFault {
     /// The files are refused. Nothing was read or written.
     #[error("{0}")]
-    Refused(GenFault),
-    /// More than 2^64-1 bytes were read, and no answer was known by then. Nothing was written.
-    #[error("the text is too long")]
-    TooLong,
-    /// The reader failed in this call. Nothing was written.
-    #[error("the text could not be read")]
-    Read,
-    /// The writer failed in this call, and just the first `written` bytes of the answer went out.
-    #[error("the answer could not be written after {written} bytes")]
-    Write {
-        /// How many bytes went out.
-        written: usize,
-    },
-    /// A growth was refused, or the tree has more than 2^48 long leaves or nodes, which no memory holds.
-    /// Nothing was written.
-    #[error("out of memory")]
-    OutOfMemory,
+    Gen(GenFault),
+    /// The text has no answer, or not all of it was written. Want of memory while tables are made is this too: nothing
+    /// was read then. The tables are never at fault.
+    #[error("{0}")]
+    Text(TextFault),
 }
 
 impl From<GenFault> for AnswerFault {
@@ -32,8 +23,16 @@ impl From<GenFault> for AnswerFault {
 
     fn from(fault: GenFault) -> AnswerFault {
         match fault {
-            GenFault::OutOfMemory => AnswerFault::OutOfMemory,
-            fault => AnswerFault::Refused(fault),
+            GenFault::OutOfMemory => AnswerFault::Text(TextFault::OutOfMemory),
+            fault => AnswerFault::Gen(fault),
         }
+    }
+}
+
+impl From<TextFault> for AnswerFault {
+    ghost from_gives = { λ fault e. e ≡ Text fault };
+
+    fn from(fault: TextFault) -> AnswerFault {
+        AnswerFault::Text(fault)
     }
 }

@@ -13,7 +13,7 @@ ghost use Rattle.ly_generate.specs.declared.gen_fault.GenFault.TheVariants as ge
 
 use crate::answer_fault::AnswerFault;
 use ly_base::{Limits, Version};
-use ly_drive::{DriveFault, Outcome, run};
+use ly_drive::{Outcome, TextFault, run};
 use ly_generate::{Report, file_tables};
 use ly_print::{Sink, Source};
 use std::alloc::Global;
@@ -32,19 +32,22 @@ pub fn answer<R: Source, W: Sink>(
 ) -> Result<Outcome, AnswerFault>
     ensures answered { IfOk result (λ o. (s : Tables) × IsGenerated V2 version_2 lex.now yacc.now s
         × IsAnsweredBy s (R.remaining reader.old) (W.contents writer.old) (W.contents writer.new) o) }
-    ensures beginning { (written : ℕ) → result ≡ Err (AnswerFault.Write written) → (s : Tables)
+    ensures beginning { (written : ℕ) → result ≡ Err (AnswerFault.Text (TextFault.Write written)) → (s : Tables)
         × IsGenerated V2 version_2 lex.now yacc.now s
         × IsBegunBy s (R.remaining reader.old) (W.contents writer.old) (W.contents writer.new) written }
-    ensures refused { (fault : code.GenFault) → result ≡ Err (AnswerFault.Refused fault)
+    ensures refused { (fault : code.GenFault) → result ≡ Err (AnswerFault.Gen fault)
         → (fault ≢ gen.OutOfMemory) × IsRefusedFor version_2 lex.now yacc.now fault }
-    ensures long { result ≡ Err AnswerFault.TooLong → IsTooLong (R.remaining reader.old) }
+    ensures never_faulty { result ≢ Err (AnswerFault.Text TextFault.FaultyTables) }
+    ensures long { result ≡ Err (AnswerFault.Text TextFault.TooLong) → IsTooLong (R.remaining reader.old) }
     ensures unread { IfErr result (λ e. IsBeforeReading e → reader.new ≡ reader.old) }
     ensures ended { result ≡ Ok Outcome.Tree → IsAtEnd (R.remaining reader.new) }
-    ensures needed { (IsErrOf result AnswerFault.Read → ⊥) → (reader.new ≡ reader.old)
+    ensures needed { (IsErrOf result (AnswerFault.Text TextFault.Read) → ⊥) → (reader.new ≡ reader.old)
         ⊎ ((s : Tables) × IsGenerated V2 version_2 lex.now yacc.now s
         × IsReadAsNeeded 4096 s (R.remaining reader.old) (R.remaining reader.new)) }
-    ensures read { IsErrOf result AnswerFault.Read → R.failures reader.new ≡ next_count (R.failures reader.old) }
-    ensures reader_held { (IsErrOf result AnswerFault.Read → ⊥) → R.failures reader.new ≡ R.failures reader.old }
+    ensures read { IsErrOf result (AnswerFault.Text TextFault.Read)
+        → R.failures reader.new ≡ next_count (R.failures reader.old) }
+    ensures reader_held { (IsErrOf result (AnswerFault.Text TextFault.Read) → ⊥)
+        → R.failures reader.new ≡ R.failures reader.old }
     ensures write { IfErr result (λ e. IsWrite e → W.failures writer.new ≡ next_count (W.failures writer.old)) }
     ensures writer_held { OnOk result (W.failures writer.new ≡ W.failures writer.old) }
     ensures untouched { IfErr result (λ e. IsBeforeWriting e → writer.new ≡ writer.old) }
@@ -52,15 +55,5 @@ pub fn answer<R: Source, W: Sink>(
     let generated = file_tables(alloc, lex, yacc, &Limits::V2, Version::V2, Report::Unwanted)?;
     let answered = run(alloc, &generated.set, reader, writer);
     drop(generated);
-    match answered {
-        Ok(outcome) => Ok(outcome),
-        Err(DriveFault::TooLong) => Err(AnswerFault::TooLong),
-        Err(DriveFault::Read) => Err(AnswerFault::Read),
-        Err(DriveFault::Write { written }) => Err(AnswerFault::Write { written }),
-        Err(DriveFault::OutOfMemory) => Err(AnswerFault::OutOfMemory),
-        // the table set was read from no file
-        Err(DriveFault::Tables(_)) => unreachable!(),
-        // and one that two files generate is never at fault
-        Err(DriveFault::TableFault) => unreachable!(),
-    }
+    Ok(answered?)
 }

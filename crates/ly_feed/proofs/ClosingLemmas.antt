@@ -12,8 +12,8 @@ use Rattle.ly_feed.specs.ScanPart.{ScanPart}
 use Rattle.ly_feed.specs.TableAnswer.{IsRest, Progress, end_at}
 use Rattle.ly_feed.specs.Verdict.{Verdict, accepted, faulty, refused}
 use Rattle.ly_feed.specs.declared.flaw.Flaw.{Flaw}
-use Rattle.ly_feed.specs.declared.run_fault.RunFault.{RunFault}
-use Rattle.ly_feed.specs.declared.run_fault.RunFault.TheVariants as run
+use Rattle.ly_feed.specs.declared.text_fault.TextFault.{TextFault}
+use Rattle.ly_feed.specs.declared.text_fault.TextFault.TheVariants as text
 use Rattle.ly_feed.specs.declared.running.Halt.{Halt}
 use Rattle.ly_feed.specs.declared.running.Halt.TheVariants.{Flawed}
 use Rattle.ly_feed.specs.declared.running.Ended.{Ended}
@@ -43,12 +43,15 @@ module _ (p : ScanPart) (m : Machine) (w : Progress) where
   )
 
   -- a fault that is handed on
-  pub closed_fault : (r : Parse) (forest : Grown) (e : RunFault) (result : Result Ended RunFault)
+  pub closed_fault : (r : Parse) (forest : Grown) (e : TextFault) (result : Result Ended TextFault)
       → IsRunOn true p m w r (Err e) → IsErrAnd result (λ x. x ≡ e) → IsClosed p m w forest result
   closed_fault r forest e (Ok x) run is = absurd is
-  closed_fault r forest run.TableFault (Err x) run is = subst (λ y. IsClosed p m w forest (Err y)) (sym is)
+  closed_fault r forest text.FaultyTables (Err x) run is = subst (λ y. IsClosed p m w forest (Err y)) (sym is)
       (settled_here true p m w faulty run)
-  closed_fault r forest run.OutOfMemory (Err x) run is = subst (λ y. IsClosed p m w forest (Err y)) (sym is) tt
+  closed_fault r forest text.OutOfMemory (Err x) run is = subst (λ y. IsClosed p m w forest (Err y)) (sym is) tt
+  closed_fault r forest text.TooLong (Err x) run is = absurd run
+  closed_fault r forest text.Read (Err x) run is = absurd run
+  closed_fault r forest (text.Write written) (Err x) run is = absurd run
 
   module _ (q : Place) (r : Parse) (on : Onward true p m w (progress_of q r)) (ends : q.rest ≡ [])
       (machine : r.machine ≡ m) where
@@ -67,7 +70,7 @@ module _ (p : ScanPart) (m : Machine) (w : Progress) where
     said v here = settled_here true p m w v
         (settled_on true p m v fed_in_one_way on (settled_at_end true p m (progress_of q r) v refl here))
 
-    pub closed : (forest : Grown) (result : Result Ended RunFault) → IsLast r q.at forest result
+    pub closed : (forest : Grown) (result : Result Ended TextFault) → IsLast r q.at forest result
         → IsClosed p m w forest result
     closed forest (Ok (Accepted root)) f = (
       accepted f.0,
@@ -85,6 +88,9 @@ module _ (p : ScanPart) (m : Machine) (w : Progress) where
       refl,
       tt,
     )
-    closed forest (Err run.TableFault) f =
+    closed forest (Err text.FaultyTables) f =
         said faulty (fails_last p m (progress_of q r) (end_at q) ends (fed_there fed.faulty f))
-    closed forest (Err run.OutOfMemory) f = tt
+    closed forest (Err text.OutOfMemory) f = tt
+    closed forest (Err text.TooLong) f = absurd f
+    closed forest (Err text.Read) f = absurd f
+    closed forest (Err (text.Write written)) f = absurd f

@@ -1,26 +1,24 @@
 -- How a feed answers a text that has ended.
 use Rattle.std.proofs.Common.{◌≡◌, ℕ, List, [], Err, Ok, Option, Result, ap, refl, subst, sym}
 use Rattle.std.specs.Io.KnownBytes.{Appends}
-use Rattle.std.specs.Prelude.{Bool, IfOk, IsErrAnd}
+use Rattle.std.specs.Prelude.{Bool, IfErr, IfOk, IsErrAnd}
 use Rattle.ly_base.specs.Lexed.{Place}
 use Rattle.ly_feed.proofs.SettledLemmas.{nothing_more}
-use Rattle.ly_feed.specs.FinishFault.{finish_fault_of}
 use Rattle.ly_feed.specs.Held.{Held, IsAnswerOf, IsRestOf}
 use Rattle.ly_feed.specs.Private.Feeding.{held_from}
 use Rattle.ly_feed.specs.Private.Running.{IsClosed, IsVerdictOf, progress_of}
 use Rattle.ly_feed.specs.ScanPart.{ScanPart, scan_part_of}
 use Rattle.ly_feed.specs.TableAnswer.{IsRest, Progress}
+use Rattle.ly_feed.specs.TextFault.{IsOfEnding, IsOfWriting}
 use Rattle.ly_feed.specs.Verdict.{IsOutcome, Verdict, faulty, printed}
 use Rattle.ly_feed.specs.Vocabularies.{vocabulary_of}
-use Rattle.ly_feed.specs.declared.finish_fault.FinishFault.{FinishFault}
-use Rattle.ly_feed.specs.declared.finish_fault.FinishFault.TheVariants.{TableFault}
 use Rattle.ly_feed.specs.declared.flaw.Flaw.TheVariants as flaw
 use Rattle.ly_feed.specs.declared.outcome.Outcome.{Outcome}
 use Rattle.ly_feed.specs.declared.outcome.Outcome.TheVariants.{NoRule, Syntax, Tree}
-use Rattle.ly_feed.specs.declared.run_fault.RunFault.{RunFault}
-use Rattle.ly_feed.specs.declared.run_fault.RunFault.TheVariants as run
 use Rattle.ly_feed.specs.declared.running.Ended.{Ended}
 use Rattle.ly_feed.specs.declared.running.Ended.TheVariants.{Accepted, Refused}
+use Rattle.ly_feed.specs.declared.text_fault.TextFault.{TextFault}
+use Rattle.ly_feed.specs.declared.text_fault.TextFault.TheVariants as text
 use Rattle.ly_pack.specs.Machine.{Machine}
 use Rattle.ly_parse.specs.Parse.{Parse}
 use Rattle.ly_tables.specs.TableSet.{TableSet, machine_of}
@@ -35,12 +33,35 @@ rest_of set q z s over f v view at said = subst (λ x. IsRestOf x [] v) view
     (subst (λ x. IsRest (scan_part_of set) (machine_of set) (progress_of x s) v) at said))
 
 -- the tables' fault
-pub at_fault : {A : Type 0} (p : ScanPart) (m : Machine) (w : Progress) (forest : Grown) (e : RunFault)
-    (result : Result A FinishFault) → IsClosed p m w forest (Err e) → IsErrAnd result (λ x. x ≡ finish_fault_of e)
-    → result ≡ Err TableFault → IsRest p m w faulty
+pub at_fault : {A : Type 0} (p : ScanPart) (m : Machine) (w : Progress) (forest : Grown) (e : TextFault)
+    (result : Result A TextFault) → IsClosed p m w forest (Err e) → IsErrAnd result (λ x. x ≡ e)
+    → result ≡ Err text.FaultyTables → IsRest p m w faulty
 at_fault p m w forest e (Ok x) closed is failed = absurd is
-at_fault p m w forest run.TableFault (Err x) closed is failed = closed
-at_fault p m w forest run.OutOfMemory (Err x) closed is failed = absurd cc
+at_fault p m w forest text.FaultyTables (Err x) closed is failed = closed
+at_fault p m w forest text.OutOfMemory (Err x) closed is failed = absurd cc
+at_fault p m w forest text.TooLong (Err x) closed is failed = absurd closed
+at_fault p m w forest text.Read (Err x) closed is failed = absurd closed
+at_fault p m w forest (text.Write written) (Err x) closed is failed = absurd closed
+
+-- a text that has ended is not too long, and nothing is read then
+pub fault_of_ending : {A : Type 0} (p : ScanPart) (m : Machine) (w : Progress) (forest : Grown) (e : TextFault)
+    (result : Result A TextFault) → IsClosed p m w forest (Err e) → IsErrAnd result (λ x. x ≡ e)
+    → IfErr result IsOfEnding
+fault_of_ending p m w forest e (Ok x) closed is = tt
+fault_of_ending p m w forest text.FaultyTables (Err x) closed is = subst IsOfEnding (sym is) tt
+fault_of_ending p m w forest text.OutOfMemory (Err x) closed is = subst IsOfEnding (sym is) tt
+fault_of_ending p m w forest text.TooLong (Err x) closed is = absurd closed
+fault_of_ending p m w forest text.Read (Err x) closed is = absurd closed
+fault_of_ending p m w forest (text.Write written) (Err x) closed is = absurd closed
+
+-- a fault of writing is one of the end
+pub writing_ends : {A : Type 0} (r : Result A TextFault) → IfErr r IsOfWriting → IfErr r IsOfEnding
+writing_ends (Ok x) is = tt
+writing_ends (Err text.OutOfMemory) is = tt
+writing_ends (Err (text.Write written)) is = tt
+writing_ends (Err text.FaultyTables) is = absurd is
+writing_ends (Err text.TooLong) is = absurd is
+writing_ends (Err text.Read) is = absurd is
 
 -- a verdict that a value stands for has an outcome
 pub outcome_of : (forest : Grown) (ended : Ended) (v : Verdict) → IsVerdictOf forest ended v

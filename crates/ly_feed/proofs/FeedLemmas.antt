@@ -24,10 +24,10 @@ use Rattle.ly_feed.specs.declared.need.Need.{Need}
 use Rattle.ly_feed.specs.declared.need.Need.TheVariants.{Settled}
 use Rattle.ly_feed.specs.declared.outcome.Outcome.{Outcome}
 use Rattle.ly_feed.specs.declared.outcome.Outcome.TheVariants as out
-use Rattle.ly_feed.specs.declared.run_fault.RunFault.{RunFault}
 use Rattle.ly_feed.specs.declared.running.Halt.{Halt}
 use Rattle.ly_feed.specs.declared.running.Halt.TheVariants.{Flawed}
-use Rattle.ly_feed.specs.declared.run_fault.RunFault.TheVariants as run
+use Rattle.ly_feed.specs.declared.text_fault.TextFault.{TextFault}
+use Rattle.ly_feed.specs.declared.text_fault.TextFault.TheVariants as text
 use Rattle.ly_feed.specs.FeedFaultNames.{feed_fault_of}
 use Rattle.ly_pack.specs.Machine.{Machine}
 use Rattle.ly_parse.proofs.FedOnceLemmas.{fed_in_one_way}
@@ -128,13 +128,16 @@ module _ (set : TableSet) (q : Place) (s : Parse) (over : Bool) (piece : List �
   )
 
   -- a fault that is handed on
-  pub is_faulty : (g : Held) (e : RunFault) (result : Result Need FeedFault) (t : Parse)
+  pub is_faulty : (g : Held) (e : TextFault) (result : Result Need FeedFault) (t : Parse)
       → IsRunOn false p m (progress_of (behind q piece) s) t (Err e) → IsErrAnd result (λ x. x ≡ feed_fault_of e)
       → IsOver f g → seen f + length piece < 2 ^ 64 → TakesPiece f piece g result
   is_faulty g e (Ok x) t run is over few = absurd is
-  is_faulty g run.TableFault (Err x) t run is over few = subst (λ y. TakesPiece f piece g (Err y)) (sym is) (
+  is_faulty g text.FaultyTables (Err x) t run is over few = subst (λ y. TakesPiece f piece g (Err y)) (sym is) (
     over,
     few,
     settled_rest p m (progress_of q s) piece faulty run,
   )
-  is_faulty g run.OutOfMemory (Err x) t run is over few = subst (λ y. TakesPiece f piece g (Err y)) (sym is) over
+  is_faulty g text.OutOfMemory (Err x) t run is over few = subst (λ y. TakesPiece f piece g (Err y)) (sym is) over
+  is_faulty g text.TooLong (Err x) t run is over few = absurd run
+  is_faulty g text.Read (Err x) t run is over few = absurd run
+  is_faulty g (text.Write written) (Err x) t run is over few = absurd run

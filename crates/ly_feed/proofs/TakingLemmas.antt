@@ -1,27 +1,27 @@
 -- What becomes of a lexeme, and of the end of a text.
-use Rattle.std.proofs.Common.{◌≡◌, ◌∙◌, ◌+◌, ℕ, [], ◌∷◌, Option, Some, None, ap, subst, sym}
+use Rattle.std.proofs.Common.{◌≡◌, ◌∙◌, ◌≤◌, ◌+◌, ℕ, [], ◌∷◌, Option, Some, None, ap, refl, subst, sym}
 use Rattle.std.proofs.Common.{take as first}
-use Rattle.std.specs.Prelude.{Bool, option_map}
+use Rattle.std.specs.Prelude.{Bool, false, option_map}
 use Rattle.ly_base.specs.Lexed.{Place, Token, place_after}
 use Rattle.ly_base.specs.declared.lexeme.Lexeme.{Lexeme}
 use Rattle.ly_base.specs.declared.numbers.Sym.{Sym}
+use Rattle.ly_feed.proofs.FeedingLemmas.{not_accepted}
 use Rattle.ly_feed.proofs.RestLemmas.{one_token}
 use Rattle.ly_feed.proofs.SettledLemmas.{settled_fault, settled_refused}
 use Rattle.ly_feed.specs.Onward.{Onward, IsSettled, IsTokenAt, and_passes, and_reads, none_yet}
 use Rattle.ly_feed.specs.Private.Flaw.{verdict_of}
-use Rattle.ly_feed.specs.Private.Running.{IsFed, IsRefusalAt, IsTaken, progress_of}
+use Rattle.ly_feed.specs.Private.Running.{IsRefusalAt, IsTaken, progress_of}
 use Rattle.ly_feed.specs.ScanPart.{ScanPart, condition_in, scanner_in, terminal_in}
 use Rattle.ly_feed.specs.TableAnswer.{Progress}
 use Rattle.ly_feed.specs.declared.flaw.Flaw.{Flaw}
 use Rattle.ly_feed.specs.Verdict.{refused}
-use Rattle.ly_feed.specs.declared.running.Taken.{Taken}
-use Rattle.ly_feed.specs.declared.running.Taken.TheVariants.{Goes}
-use Rattle.ly_feed.specs.declared.running.Taken.TheVariants as take
-use Rattle.ly_pack.specs.Machine.{Machine}
+use Rattle.ly_pack.specs.Machine.{IsMachine, Machine}
 use Rattle.ly_parse.specs.Expected.{AreExpected}
 use Rattle.ly_parse.specs.Feeding.{Feeds, pushed, states_on}
 use Rattle.ly_parse.specs.Feeding as fed
-use Rattle.ly_parse.specs.Parse.{Parse}
+use Rattle.ly_parse.specs.Parse.{IsTake, Parse}
+use Rattle.ly_parse.specs.declared.answer.Answer.{Answer}
+use Rattle.ly_parse.specs.declared.answer.Answer.TheVariants as answers
 use Rattle.ly_scan.specs.Pieces.{StandsFast}
 
 -- a terminal that is there, as the scanner's part says
@@ -40,23 +40,35 @@ module _ (ended : Bool) (p : ScanPart) (m : Machine) where
   passes_on q s t fast none = and_passes t none_yet fast none
 
   -- what becomes of one with a token
-  pub taken : (q : Place) (s r : Parse) (t : Lexeme) (token : Token ℕ) (result : Taken)
-      → s.machine ≡ m → StandsFast ended (scanner_in p) q t → IsTokenAt p q t token → IsFed s token r result
-      → IsTaken ended p m (progress_of q s) t r result
-  taken q s r t token Goes machine fast here f = (
+  pub taken : (q : Place) (s r : Parse) (t : Lexeme) (token : Token ℕ) (result : Answer) → IsMachine m
+      → s.machine ≡ m → s.over ≡ false → 1 ≤ token.terminal → StandsFast ended (scanner_in p) q t
+      → IsTokenAt p q t token → IsTake s token r result → IsTaken ended p m (progress_of q s) t r result
+  taken q s r t token answers.Reads legal machine goes low fast here f = (
     subst (λ k. Onward ended p m (progress_of q s) (record {
       place = place_after (condition_in p) q t;
       stack = r.stack;
       count = k;
-    })) (sym f.1)
-        (and_reads t token none_yet fast here (subst (λ k. Feeds k token s.stack (pushed r.stack)) machine f.0)),
-    f.2,
+    })) (sym (f.before_end goes).1)
+        (and_reads t token none_yet fast here
+        (subst (λ k. Feeds k token s.stack (pushed r.stack)) machine (f.before_end goes).0)),
+    f.over,
   )
-  taken q s r t token take.Refused machine fast here f =
-      (token, here, subst (λ k. Feeds k token s.stack fed.refused) machine f.0, f.1, f.2, f.3)
-  taken q s r t token take.TableFault machine fast here f = settled_fault ended p m (progress_of q s) t token fast
-      here (subst (λ k. Feeds k token s.stack fed.faulty) machine f)
-  taken q s r t token take.OutOfMemory machine fast here f = tt
+  taken q s r t token answers.Refuses legal machine goes low fast here f =
+      let refused = f.before_end goes in (
+        token,
+        here,
+        subst (λ k. Feeds k token s.stack fed.refused) machine refused.0,
+        refused.1,
+        refused.2,
+        refused.3,
+      )
+  taken q s r t token answers.FaultyTables legal machine goes low fast here f =
+      settled_fault ended p m (progress_of q s) t token fast here
+      (subst (λ k. Feeds k token s.stack fed.faulty) machine (f.before_end goes))
+  taken q s r t token answers.OutOfMemory legal machine goes low fast here f = tt
+  taken q s r t token answers.Accepts legal machine goes low fast here f =
+      not_accepted s r token answers.Accepts (subst IsMachine (sym machine) legal) goes low refl f
+  taken q s r t token answers.Over legal machine goes low fast here f = f.before_end goes
 
   -- the token of a lexeme is one
   same_token : (q : Place) (t : Lexeme) (a b : Token ℕ) → IsTokenAt p q t a → IsTokenAt p q t b → a ≡ b
@@ -65,7 +77,7 @@ module _ (ended : Bool) (p : ScanPart) (m : Machine) where
 
   -- what is wrong where it is refused
   pub refused_there : (w : Progress) (t : Lexeme) (r : Parse) (flaw : Flaw) → r.machine ≡ m
-      → StandsFast ended (scanner_in p) w.place t → IsTaken ended p m w t r take.Refused
+      → StandsFast ended (scanner_in p) w.place t → IsTaken ended p m w t r answers.Refuses
       → IsRefusalAt p w.place t r flaw → IsSettled ended p m w (verdict_of flaw)
   refused_there w t r flaw machine fast f told =
       let same = same_token w.place t told.0 f.0 told.2 f.1 in

@@ -1,25 +1,28 @@
--- The numbers and the names of the faults of feeding, and which of them tell the faults of a run.
+-- The numbers and the names of the faults of feeding, and which of them tell the faults of answering a text.
 use Rattle.std.specs.Prelude.{ℕ, List, Option, Some, None, codes}
 use Rattle.ly_feed.specs.declared.feed_fault.FeedFault.{FeedFault}
-use Rattle.ly_feed.specs.declared.feed_fault.FeedFault.TheVariants.{OutOfMemory, Over, TableFault, TooLong}
-use Rattle.ly_feed.specs.declared.run_fault.RunFault.{RunFault}
-use Rattle.ly_feed.specs.declared.run_fault.RunFault.TheVariants as run
+use Rattle.ly_feed.specs.declared.feed_fault.FeedFault.TheVariants.{FaultyTables, OutOfMemory, Over, TooLong}
+use Rattle.ly_feed.specs.declared.text_fault.TextFault.{TextFault}
+use Rattle.ly_feed.specs.declared.text_fault.TextFault.TheVariants as text
 
 -- a fault's number; want of memory has none
 abbrev pub feed_fault_number : FeedFault → Option ℕ
-feed_fault_number TableFault = Some 90
+feed_fault_number FaultyTables = Some 90
 feed_fault_number Over = Some 91
 feed_fault_number TooLong = Some 92
 feed_fault_number OutOfMemory = None
 
 -- a fault's name
 abbrev pub feed_fault_name : FeedFault → List ℕ
-feed_fault_name TableFault = codes "TableFault"
+feed_fault_name FaultyTables = codes "TableFault"
 feed_fault_name Over = codes "Over"
 feed_fault_name TooLong = codes "TooLong"
 feed_fault_name OutOfMemory = codes "OutOfMemory"
 
--- a fault of a run, as it is told
-abbrev pub feed_fault_of : RunFault → FeedFault
-feed_fault_of run.TableFault = TableFault
-feed_fault_of run.OutOfMemory = OutOfMemory
+-- a fault of answering a text, as a feed tells it, which reads nothing, and writes into memory
+abbrev pub feed_fault_of : TextFault → FeedFault
+feed_fault_of text.FaultyTables = FaultyTables
+feed_fault_of text.TooLong = TooLong
+feed_fault_of text.Read = OutOfMemory
+feed_fault_of (text.Write written) = OutOfMemory
+feed_fault_of text.OutOfMemory = OutOfMemory

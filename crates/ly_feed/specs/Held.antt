@@ -10,7 +10,7 @@ use Rattle.ly_feed.specs.TableAnswer.{Progress, IsRest, begun, with_more}
 use Rattle.ly_feed.specs.Verdict.{Verdict, IsOutcome, faulty, printed}
 use Rattle.ly_feed.specs.Vocabularies.{vocabulary_of}
 use Rattle.ly_feed.specs.declared.feed_fault.FeedFault.{FeedFault}
-use Rattle.ly_feed.specs.declared.feed_fault.FeedFault.TheVariants.{OutOfMemory, Over, TableFault, TooLong}
+use Rattle.ly_feed.specs.declared.feed_fault.FeedFault.TheVariants.{OutOfMemory, Over, FaultyTables, TooLong}
 use Rattle.ly_feed.specs.declared.need.Need.{Need}
 use Rattle.ly_feed.specs.declared.need.Need.TheVariants.{More, Settled}
 use Rattle.ly_feed.specs.declared.outcome.Outcome.{Outcome}
@@ -69,7 +69,7 @@ abbrev pub TakesPiece : Held → List ℕ → Held → Result Need FeedFault →
 TakesPiece f piece g (Ok More) = IsOnward f piece g
 TakesPiece f piece g (Ok (Settled outcome answer)) = IsOver f g × (seen f + length piece < 2 ^ 64)
     × IsSettledBy f piece outcome answer.items
-TakesPiece f piece g (Err TableFault) = IsOver f g × (seen f + length piece < 2 ^ 64)
+TakesPiece f piece g (Err FaultyTables) = IsOver f g × (seen f + length piece < 2 ^ 64)
     × ((more : List ℕ) → IsRestOf f (piece ++ more) faulty)
 TakesPiece f piece g (Err TooLong) = IsOver f g × (2 ^ 64 ≤ seen f + length piece)
 TakesPiece f piece g (Err OutOfMemory) = IsOver f g
@@ -88,7 +88,7 @@ IsAnswerOf f outcome answer = (v : Verdict) × IsRestOf f [] v × IsOutcome v ou
 -- What a feed that isn't over says where the text has ended.
 abbrev pub Ends : Held → Result (Outcome × Vec ℕ Global) FeedFault → Type 0
 Ends f (Ok told) = IsAnswerOf f told.0 told.1.items
-Ends f (Err TableFault) = IsRestOf f [] faulty
+Ends f (Err FaultyTables) = IsRestOf f [] faulty
 Ends f (Err OutOfMemory) = Unit {0}
 Ends f (Err TooLong) = ⊥
 Ends f (Err Over) = ⊥

@@ -1,10 +1,10 @@
 pub mod FeedFaultNames
-pub mod FinishFault
 pub mod Held
 pub mod Laws
 pub mod Onward
 pub mod Private
 pub mod ScanPart
 pub mod TableAnswer
+pub mod TextFault
 pub mod Verdict
 pub mod Vocabularies

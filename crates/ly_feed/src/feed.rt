@@ -2,18 +2,18 @@ ghost use Rattle.std.specs.Prelude.{◌≡◌, ℕ, List, [], Err, false, IfErr,
 ghost use Rattle.std.specs.Io.KnownBytes.{Appends};
 ghost use Rattle.ly_print.specs.Device.{next_count};
 ghost use Rattle.ly_print.specs.TextWriter.{IsCutShort};
-ghost use Rattle.ly_feed.specs.FinishFault.{IsBeforeWriting, IsWrite};
 ghost use Rattle.ly_feed.specs.Held.{bytes_held, nothing_read, IsAnswerOf, IsFinish, IsOver, IsPiece, IsRestOf};
+ghost use Rattle.ly_feed.specs.TextFault.{IsBeforeWriting, IsOfEnding, IsWrite};
 ghost use Rattle.ly_feed.specs.Verdict.{faulty};
 ghost use Rattle.ly_feed.specs.declared.outcome.Outcome.{Outcome as Answered};
 
 use crate::feed_fault::FeedFault;
-use crate::finish_fault::FinishFault;
 use crate::lexer_of_set::lexer_of;
 use crate::lines::{told, write_ended};
 use crate::need::Need;
 use crate::outcome::Outcome;
 use crate::running::{Halt, TableParser, run_on, run_to_end};
+use crate::text_fault::TextFault;
 use crate::window::Window;
 use ly_base::OutOfMemory;
 use ly_parse::Parser;
@@ -135,29 +135,24 @@ impl<'a> Feed<'a> {
             return Err(FeedFault::Over);
         }
         let mut sink = MemSink::new(self.alloc);
-        match self.finish_into(&mut sink) {
-            Ok(outcome) => Ok((outcome, sink.into_bytes())),
-            Err(fault) => Err(match fault {
-                FinishFault::TableFault => FeedFault::TableFault,
-                // memory takes all bytes, while there is room
-                FinishFault::OutOfMemory | FinishFault::Write { .. } => FeedFault::OutOfMemory,
-            }),
-        }
+        let outcome = self.finish_into(&mut sink)?;
+        Ok((outcome, sink.into_bytes()))
     }
 
     /// Tells that the text has ended, and writes its answer: nothing before the outcome is known, and then nothing but
     /// a write can fail. A tree is written while it is printed. The feed is over then.
     ///
-    /// Its faults are those of `FinishFault`.
-    pub fn finish_into<W: Sink>(&mut self, writer: &mut W) -> Result<Outcome, FinishFault>
+    /// Its faults are those of `TextFault` but `TooLong` and `Read`.
+    pub fn finish_into<W: Sink>(&mut self, writer: &mut W) -> Result<Outcome, TextFault>
         requires { self.old.over ≡ false }
         ensures over { IsOver self.old self.new }
         ensures answered { IfOk result (λ o. (answer : List ℕ) × IsAnswerOf self.old o answer
             × Appends (W.contents writer.old) (W.contents writer.new) answer) }
-        ensures beginning { (written : ℕ) → result ≡ Err (FinishFault.Write written)
+        ensures beginning { (written : ℕ) → result ≡ Err (TextFault.Write written)
             → (answer : List ℕ) × (o : Answered) × IsAnswerOf self.old o answer
             × IsCutShort (W.contents writer.old) (W.contents writer.new) written answer }
-        ensures faulty { result ≡ Err FinishFault.TableFault → IsRestOf self.old [] faulty }
+        ensures faulty { result ≡ Err TextFault.FaultyTables → IsRestOf self.old [] faulty }
+        ensures ending { IfErr result IsOfEnding }
         ensures write { IfErr result (λ e. IsWrite e → W.failures writer.new ≡ next_count (W.failures writer.old)) }
         ensures writer_held { OnOk result (W.failures writer.new ≡ W.failures writer.old) }
         ensures untouched { IfErr result (λ e. IsBeforeWriting e → writer.new ≡ writer.old) }

@@ -2,7 +2,7 @@ ghost use Rattle.std.specs.Prelude.{◌≡◌};
 ghost use Rattle.ly_feed.specs.FeedFaultNames.{feed_fault_name, feed_fault_number, feed_fault_of};
 ghost use Rattle.ly_feed.specs.declared.feed_fault.FeedFault.TheVariants.{OutOfMemory};
 
-use crate::run_fault::RunFault;
+use crate::text_fault::TextFault;
 use ly_base::OutOfMemory as NoMemory;
 use std::alloc::AllocError;
 use thiserror::Error;
@@ -13,7 +13,7 @@ pub enum FeedFault {
     /// The tables are at fault on the text: a goto is missing, a body goes past the bottom of the stack, they accept
     /// without a tree, or a cut leaves no byte or more than its match has. Never for tables that were generated.
     #[error("the tables are at fault")]
-    TableFault,
+    FaultyTables,
     /// The feed was over before the call, which changed nothing.
     #[error("the text is answered")]
     Over,
@@ -31,7 +31,7 @@ impl FeedFault {
         ensures { result ≡ feed_fault_number self.now }
     {
         match self {
-            FeedFault::TableFault => Some(90),
+            FeedFault::FaultyTables => Some(90),
             FeedFault::Over => Some(91),
             FeedFault::TooLong => Some(92),
             FeedFault::OutOfMemory => None,
@@ -43,7 +43,7 @@ impl FeedFault {
         ensures { result.now ≡ feed_fault_name self.now }
     {
         match self {
-            FeedFault::TableFault => "TableFault",
+            FeedFault::FaultyTables => "TableFault",
             FeedFault::Over => "Over",
             FeedFault::TooLong => "TooLong",
             FeedFault::OutOfMemory => "OutOfMemory",
@@ -67,13 +67,17 @@ impl From<NoMemory> for FeedFault {
     }
 }
 
-impl From<RunFault> for FeedFault {
+impl From<TextFault> for FeedFault {
     ghost from_gives = { λ fault e. e ≡ feed_fault_of fault };
 
-    fn from(fault: RunFault) -> FeedFault {
+    fn from(fault: TextFault) -> FeedFault {
         match fault {
-            RunFault::TableFault => FeedFault::TableFault,
-            RunFault::OutOfMemory => FeedFault::OutOfMemory,
+            TextFault::FaultyTables => FeedFault::FaultyTables,
+            TextFault::TooLong => FeedFault::TooLong,
+            // a feed reads nothing, and memory takes all bytes while there is room
+            TextFault::Read | TextFault::Write { .. } | TextFault::OutOfMemory => {
+                FeedFault::OutOfMemory
+            }
         }
     }
 }

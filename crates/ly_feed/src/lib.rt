@@ -11,7 +11,6 @@
 
 mod feed;
 mod feed_fault;
-mod finish_fault;
 mod flaw;
 mod labels;
 mod laws;
@@ -21,16 +20,16 @@ mod meaning;
 mod names;
 mod need;
 mod outcome;
-mod run_fault;
 mod running;
+mod text_fault;
 mod window;
 
 pub use feed::Feed;
 pub use feed_fault::FeedFault;
-pub use finish_fault::FinishFault;
 pub use laws::{
     a_beginning_says_it, a_text_has_a_verdict, a_text_has_one_verdict,
     decided_matches_change_nothing,
 };
 pub use need::Need;
 pub use outcome::Outcome;
+pub use text_fault::TextFault;

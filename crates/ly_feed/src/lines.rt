@@ -4,9 +4,9 @@ ghost use Rattle.ly_base.specs.Bytes.{newline};
 ghost use Rattle.ly_print.specs.Device.{next_count};
 ghost use Rattle.ly_print.specs.Text.{no_rule_line};
 ghost use Rattle.ly_print.specs.TextWriter.{IsCutShort};
-ghost use Rattle.ly_feed.specs.FinishFault.{IsBeforeWriting, IsOfWriting, IsWrite};
 ghost use Rattle.ly_feed.specs.Private.Flaw.{token_of, verdict_of};
 ghost use Rattle.ly_feed.specs.Private.Running.{words_of, IsThere, IsVerdictOf};
+ghost use Rattle.ly_feed.specs.TextFault.{IsBeforeWriting, IsOfWriting, IsWrite};
 ghost use Rattle.ly_feed.specs.Verdict.{expected_line, printed, syntax_line, IsOutcome, Verdict};
 ghost use Rattle.ly_feed.specs.Vocabularies.{vocabulary_of};
 ghost use Rattle.ly_tree.specs.Costs.{IsPaid};
@@ -14,12 +14,12 @@ ghost use Rattle.ly_tree.specs.Forest.{term_of, StandsFor};
 ghost use Rattle.ly_tree.specs.Shown.{shown, Vocabulary};
 ghost use Rattle.ly_tree.specs.Term.{Term};
 
-use crate::finish_fault::FinishFault;
 use crate::flaw::Flaw;
 use crate::labels::TermLabels;
 use crate::names::Names;
 use crate::outcome::Outcome;
 use crate::running::Ended;
+use crate::text_fault::TextFault;
 use ly_base::{OutOfMemory, Sym};
 use ly_parse::Token;
 use ly_print::{Sink, Terminal, push_leaf, push_no_rule_line, write_whole};
@@ -36,11 +36,11 @@ pub(crate) fn write_ended<W: Sink>(
     forest: &Forest,
     ended: Ended<'_>,
     writer: &mut W,
-) -> Result<Outcome, FinishFault>
+) -> Result<Outcome, TextFault>
     requires { IsThere forest.now ended }
     ensures ok { IfOk result (λ o. (v : Verdict) → IsVerdictOf forest.now ended.entry v → IsOutcome v o
         × Appends (W.contents writer.old) (W.contents writer.new) (printed (vocabulary_of set.now) v)) }
-    ensures beginning { (written : ℕ) (v : Verdict) → result ≡ Err (FinishFault.Write written)
+    ensures beginning { (written : ℕ) (v : Verdict) → result ≡ Err (TextFault.Write written)
         → IsVerdictOf forest.now ended.entry v
         → IsCutShort (W.contents writer.old) (W.contents writer.new) written (printed (vocabulary_of set.now) v) }
     ensures of_writing { IfErr result IsOfWriting }
@@ -68,12 +68,12 @@ fn write_term<W: Sink>(
     forest: &Forest,
     root: TermRef,
     writer: &mut W,
-) -> Result<(), FinishFault>
+) -> Result<(), TextFault>
     requires known { IsSome (term_of forest.now root) }
     requires paid { (t : Term) → StandsFor forest.now root t → IsPaid forest.now t }
     ensures ok { OnOk result ((t : Term) → StandsFor forest.now root t → Appends (W.contents writer.old)
         (W.contents writer.new) (shown (words_of names.now) t ++ newline ∷ [])) }
-    ensures beginning { (written : ℕ) (t : Term) → result ≡ Err (FinishFault.Write written)
+    ensures beginning { (written : ℕ) (t : Term) → result ≡ Err (TextFault.Write written)
         → StandsFor forest.now root t
         → IsCutShort (W.contents writer.old) (W.contents writer.new) written
         (shown (words_of names.now) t ++ newline ∷ []) }

@@ -1,18 +1,15 @@
 ghost use Rattle.std.specs.Prelude.{◌≡◌, ◌<◌, ◌≤◌, ℕ, List, [], Bool, IfOk, length, false};
-ghost use Rattle.ly_feed.specs.Private.Flaw.{token_of};
 ghost use Rattle.ly_feed.specs.Private.LexerOf.{IsLexerOf};
-ghost use Rattle.ly_feed.specs.Private.Running.{progress_of, CanRun, HasToken, IsClosed, IsFed, IsLast, IsRefusalAt};
-ghost use Rattle.ly_feed.specs.Private.Running.{IsRunOn};
-ghost use Rattle.ly_feed.specs.Private.Running.{IsTaken};
+ghost use Rattle.ly_feed.specs.Private.Running.{progress_of, CanRun, HasToken, IsClosed, IsLast, IsRefusalAt};
+ghost use Rattle.ly_feed.specs.Private.Running.{IsRunOn, IsTaken};
 ghost use Rattle.ly_feed.specs.ScanPart.{scan_part_of, scanner_in, terminal_by, terminal_in};
-ghost use Rattle.ly_pack.specs.Machine.{IsMachine};
 ghost use Rattle.ly_parse.specs.Parse.{IsTellable};
 ghost use Rattle.ly_scan.specs.Pieces.{StandsFast};
 ghost use Rattle.ly_tables.specs.TableSet.{machine_of};
 
 use crate::flaw::Flaw;
 use crate::meaning::{action, terminal};
-use crate::run_fault::RunFault;
+use crate::text_fault::TextFault;
 use ly_base::{Emitted, End, Lexeme, OutOfMemory, Place, ScanAction, StateNo, Sym};
 use ly_pack::{Comb, TableAction};
 use ly_parse::{Answer, ParseFault, Parser, Refusal, Step, Token};
@@ -44,7 +41,7 @@ pub(crate) fn run_on<'t>(
     parser: &mut TableParser<'_>,
     mut place: Place<'t>,
     ended: bool,
-) -> Result<Halt<'t>, RunFault>
+) -> Result<Halt<'t>, TextFault>
     requires lexer { IsLexerOf (scan_part_of set.now) lexer.now }
     requires runs { CanRun (scan_part_of set.now) (machine_of set.now) }
     requires machine { parser.old.machine ≡ machine_of set.now }
@@ -61,32 +58,24 @@ pub(crate) fn run_on<'t>(
             // the text has ended
             Err(End::Clean) => return Ok(Halt::At(place)),
             Err(End::Stuck { byte }) => return Ok(Halt::Flawed(Flaw::NoRule { byte: byte as u64 })),
-            Err(End::BadCut { .. }) => return Err(RunFault::TableFault),
+            Err(End::BadCut { .. }) => return Err(TextFault::FaultyTables),
         };
         let ScanAction { begin, emits } = action(set, lexeme.rule);
         match take(set, parser, &place, lexeme, emits) {
-            Taken::Goes => place.advance(lexeme.taken, begin),
-            Taken::Refused => return Ok(Halt::Flawed(refusal(set, parser, place, lexeme)?)),
-            Taken::TableFault => return Err(RunFault::TableFault),
-            Taken::OutOfMemory => return Err(RunFault::OutOfMemory),
+            Answer::Reads => place.advance(lexeme.taken, begin),
+            Answer::Refuses => return Ok(Halt::Flawed(refusal(set, parser, place, lexeme)?)),
+            Answer::FaultyTables => return Err(TextFault::FaultyTables),
+            Answer::OutOfMemory => return Err(TextFault::OutOfMemory),
+            // the end alone is accepted
+            Answer::Accepts => unreachable!(),
+            // and behind a token that is read the parse isn't over
+            Answer::Over => unreachable!(),
         }
     }
 }
 
-/// What becomes of a lexeme. It has no fields, so that it goes through a register.
-#[derive(Clone, Copy)]
-enum Taken {
-    /// The run goes on behind it: it has no token, or its token is read.
-    Goes,
-    /// Its token is refused.
-    Refused,
-    /// The tables are at fault on its token.
-    TableFault,
-    /// A growth was refused.
-    OutOfMemory,
-}
-
-/// Takes a lexeme at a place: feeds the parser with its token, if its rule has one come of it.
+/// Takes a lexeme at a place: feeds the parser with its token, and says what becomes of that. A lexeme of whose rule no
+/// token comes is passed over, as if the parser read it.
 #[inline(always)] // by a call a token takes a fifteenth more instructions
 fn take(
     set: &TableSet,
@@ -94,7 +83,7 @@ fn take(
     place: &Place<'_>,
     lexeme: Lexeme,
     emits: Emitted,
-) -> Taken
+) -> Answer
     requires runs { CanRun (scan_part_of set.now) (machine_of set.now) }
     requires machine { parser.old.machine ≡ machine_of set.now }
     requires goes_on { parser.old.over ≡ false }
@@ -109,31 +98,10 @@ fn take(
 {
     let text = Front::new(place.rest(), lexeme.taken);
     let Some(terminal) = terminal(set, emits, text.bytes()) else {
-        return Taken::Goes;
+        return Answer::Reads;
     };
     let at = place.at() as u64;
-    feed(parser, &Token { terminal, at, text })
-}
-
-/// Feeds a parser with a token of the text.
-#[inline(always)] // likewise
-fn feed(parser: &mut TableParser<'_>, token: &Token<'_>) -> Taken
-    requires machine { IsMachine parser.old.machine }
-    requires goes_on { parser.old.over ≡ false }
-    requires not_end { 1 ≤ token.now.terminal.0 }
-    requires terminal { token.now.terminal.0 < parser.old.machine.terminals }
-    ensures fed { IsFed parser.old (token_of token.now) parser.new result }
-    ensures machine { parser.new.machine ≡ parser.old.machine }
-{
-    match parser.take(token) {
-        Answer::Reads => Taken::Goes,
-        Answer::Refuses => Taken::Refused,
-        Answer::TableFault => Taken::TableFault,
-        Answer::OutOfMemory => Taken::OutOfMemory,
-        // the end alone is accepted
-        Answer::Accepts => unreachable!(),
-        Answer::Over => unreachable!(),
-    }
+    parser.take(&Token { terminal, at, text })
 }
 
 /// What is wrong where the token of a lexeme was refused.
@@ -180,7 +148,7 @@ pub(crate) fn run_to_end<'t>(
     lexer: &Lexer,
     parser: &mut TableParser<'_>,
     place: Place<'t>,
-) -> Result<Ended<'t>, RunFault>
+) -> Result<Ended<'t>, TextFault>
     requires lexer { IsLexerOf (scan_part_of set.now) lexer.now }
     requires runs { CanRun (scan_part_of set.now) (machine_of set.now) }
     requires machine { parser.old.machine ≡ machine_of set.now }
@@ -196,7 +164,7 @@ pub(crate) fn run_to_end<'t>(
 }
 
 /// Feeds a parser with the end of the text, which stands at a place.
-fn close<'t>(parser: &mut TableParser<'_>, place: &Place<'t>) -> Result<Ended<'t>, RunFault>
+fn close<'t>(parser: &mut TableParser<'_>, place: &Place<'t>) -> Result<Ended<'t>, TextFault>
     requires goes_on { parser.old.over ≡ false }
     requires terminals { 0 < parser.old.machine.terminals }
     requires ended { place.now.rest ≡ [] }
@@ -224,8 +192,8 @@ fn close<'t>(parser: &mut TableParser<'_>, place: &Place<'t>) -> Result<Ended<'t
                 expected,
             }))
         }
-        Err(ParseFault::TableFault) => Err(RunFault::TableFault),
-        Err(ParseFault::OutOfMemory) => Err(RunFault::OutOfMemory),
+        Err(ParseFault::FaultyTables) => Err(TextFault::FaultyTables),
+        Err(ParseFault::OutOfMemory) => Err(TextFault::OutOfMemory),
         // the end is never read, and the parse isn't over
         Ok(Step::More) | Err(ParseFault::Over) => unreachable!(),
     }

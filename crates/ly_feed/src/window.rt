@@ -66,7 +66,7 @@ impl Window {
         ensures countable { OnOk result (self.old.at + length self.old.rest + length bytes.now < 2 ^ 64) }
         ensures long { result ≡ Err FeedFault.TooLong → 2 ^ 64 ≤ self.old.at + length self.old.rest + length bytes.now }
         ensures not_over { result ≢ Err FeedFault.Over }
-        ensures not_faulty { result ≢ Err FeedFault.TableFault }
+        ensures not_faulty { result ≢ Err FeedFault.FaultyTables }
     {
         if usize::MAX - self.given_up - self.held.len() < bytes.len() {
             return Err(FeedFault::TooLong);

@@ -14,7 +14,7 @@ use Rattle.ly_parse.specs.declared.answer.Answer.{Answer}
 use Rattle.ly_parse.specs.declared.answer.Answer.TheVariants as answers
 use Rattle.ly_parse.specs.declared.before.Before.{Before}
 use Rattle.ly_parse.specs.declared.fault.ParseFault.{ParseFault}
-use Rattle.ly_parse.specs.declared.fault.ParseFault.TheVariants.{OutOfMemory, Over, TableFault}
+use Rattle.ly_parse.specs.declared.fault.ParseFault.TheVariants.{OutOfMemory, Over, FaultyTables}
 use Rattle.ly_parse.specs.declared.level.Level as code
 use Rattle.ly_parse.specs.declared.step.Step as step
 use Rattle.ly_parse.specs.declared.step.Step.TheVariants.{Done, More, Refused}
@@ -66,7 +66,7 @@ module _ (p : Parse) (token : Token ℕ) (a : Before) (s : Parse)
       → IsAcceptance s.stack answer → Comes (with_note p a) token (with_note s b) answer
   accepts_token answers.Accepts b action x =
       (x.0, alike token (done x.0) refl (feeds_by p.machine token s.stack accept (done x.0) action x.1), x.1)
-  accepts_token answers.TableFault b action x =
+  accepts_token answers.FaultyTables b action x =
       alike token faulty refl (feeds_by p.machine token s.stack accept faulty action x)
   accepts_token answers.Reads b action x = absurd x
   accepts_token answers.Refuses b action x = absurd x
@@ -101,7 +101,7 @@ taken p token q answer goes took same ended = record {
 -- where the tables accept, a parse is over
 pub acceptance_ends : (stack : List Level) (answer : Answer) → IsAcceptance stack answer → true ≡ ends_by answer
 acceptance_ends stack answers.Accepts x = refl
-acceptance_ends stack answers.TableFault x = refl
+acceptance_ends stack answers.FaultyTables x = refl
 acceptance_ends stack answers.Reads x = absurd x
 acceptance_ends stack answers.Refuses x = absurd x
 acceptance_ends stack answers.Over x = absurd x
@@ -136,7 +136,7 @@ module _ (p : Parse) (t : Token ℕ) (q : Parse) where
         let same : told.0 ≡ x.0 = cc in
         subst (StandsFor q.forest root) same told.2),
   )) refl
-  accepted (Err TableFault) h told = told_of answers.Accepts (Err TableFault) (λ e. cc) h
+  accepted (Err FaultyTables) h told = told_of answers.Accepts (Err FaultyTables) (λ e. cc) h
       (λ x. absurd (let no : settles faulty ≡ settles (done x.0) = sym told ∙ x.2 in cc)) refl
   accepted (Ok More) h told = absurd told
   accepted (Ok (Refused k at ts)) h told = absurd told
@@ -166,8 +166,8 @@ module _ (p : Parse) (t : Token ℕ) (q : Parse) where
       subst (IsCall p t q) (sym told) (told_of answers.Reads (Ok More) (λ e. cc) h (λ x. x) refl)
   told_call answers.Accepts r h told = accepted r h told
   told_call answers.Refuses r h told = refused_call r h told
-  told_call answers.TableFault r h told =
-      subst (IsCall p t q) (sym told) (told_of answers.TableFault (Err TableFault) (λ e. cc) h (λ x. x) refl)
+  told_call answers.FaultyTables r h told =
+      subst (IsCall p t q) (sym told) (told_of answers.FaultyTables (Err FaultyTables) (λ e. cc) h (λ x. x) refl)
   told_call answers.Over r h told =
       subst (IsCall p t q) (sym told) (record {
         after_end = λ e. (refl, (h.after_end e).1);

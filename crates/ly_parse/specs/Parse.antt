@@ -8,7 +8,7 @@ use Rattle.ly_parse.specs.Feeding.{Feeds, Level, accept_with, done, faulty, push
 use Rattle.ly_parse.specs.declared.answer.Answer.{Answer}
 use Rattle.ly_parse.specs.declared.answer.Answer.TheVariants as answers
 use Rattle.ly_parse.specs.declared.fault.ParseFault.{ParseFault}
-use Rattle.ly_parse.specs.declared.fault.ParseFault.TheVariants.{OutOfMemory, Over, TableFault}
+use Rattle.ly_parse.specs.declared.fault.ParseFault.TheVariants.{OutOfMemory, Over, FaultyTables}
 use Rattle.ly_parse.specs.declared.step.Step as code
 use Rattle.ly_parse.specs.declared.step.Step.TheVariants.{Done, More, Refused}
 use Rattle.ly_tree.specs.Forest.{Grown, StandsFor}
@@ -33,7 +33,7 @@ Takes p t q (Ok More) = Feeds p.machine t p.stack (pushed q.stack) × (q.count �
 Takes p t q (Ok (Done root)) = (d : Term) × Feeds p.machine t p.stack (done d) × StandsFor q.forest root d
 Takes p t q (Ok (Refused token byte expected)) = Feeds p.machine t p.stack refused × (token ≡ p.count + 1)
     × (byte ≡ t.at) × AreExpected p.machine (states_on p.stack) (map (λ s. s.0) expected.items)
-Takes p t q (Err TableFault) = Feeds p.machine t p.stack faulty
+Takes p t q (Err FaultyTables) = Feeds p.machine t p.stack faulty
 Takes p t q (Err Over) = ⊥
 Takes p t q (Err OutOfMemory) = Unit {0}
 
@@ -62,7 +62,7 @@ Comes p t q answers.Reads = Feeds p.machine t p.stack (pushed q.stack) × (q.cou
 Comes p t q answers.Accepts = (d : Term) × Feeds p.machine t p.stack (done d) × (accept_with q.stack ≡ settles (done d))
 Comes p t q answers.Refuses = Feeds p.machine t p.stack refused × (q.asked ≡ states_on p.stack)
     × (q.count ≡ p.count) × IsTellable q
-Comes p t q answers.TableFault = Feeds p.machine t p.stack faulty
+Comes p t q answers.FaultyTables = Feeds p.machine t p.stack faulty
 Comes p t q answers.Over = ⊥
 Comes p t q answers.OutOfMemory = Unit {0}
 

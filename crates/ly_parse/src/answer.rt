@@ -11,8 +11,8 @@ pub enum Answer {
     Accepts,
     /// The token, or the end, is refused.
     Refuses,
-    /// The tables are at fault, as `ParseFault::TableFault` says.
-    TableFault,
+    /// The tables are at fault, as `ParseFault::FaultyTables` says.
+    FaultyTables,
     /// The parse was over before the call.
     Over,
     /// A growth was refused, or the forest has no more numbers, as `ParseFault::OutOfMemory` says.

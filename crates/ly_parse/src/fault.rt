@@ -11,7 +11,7 @@ pub enum ParseFault {
     /// The tables are at fault: a goto is missing, a body goes past the bottom of the stack, or they accept without a
     /// term.
     #[error("the tables are at fault")]
-    TableFault,
+    FaultyTables,
     /// The parse was over before the call.
     #[error("the parse is over")]
     Over,
@@ -28,7 +28,7 @@ impl ParseFault {
         ensures { result ≡ parse_number self.now }
     {
         match self {
-            ParseFault::TableFault => Some(90),
+            ParseFault::FaultyTables => Some(90),
             ParseFault::Over => Some(91),
             ParseFault::OutOfMemory => None,
         }
@@ -39,7 +39,7 @@ impl ParseFault {
         ensures { result.now ≡ parse_name self.now }
     {
         match self {
-            ParseFault::TableFault => "TableFault",
+            ParseFault::FaultyTables => "TableFault",
             ParseFault::Over => "Over",
             ParseFault::OutOfMemory => "OutOfMemory",
         }

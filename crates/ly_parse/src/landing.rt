@@ -70,7 +70,7 @@ impl Shortcut<Landing> {
 }
 
 impl Shortcuts<Landing> {
-    /// The shortcut from a landing, which is kept. It fails with `TableFault` where a goto is missing.
+    /// The shortcut from a landing, which is kept. It fails with `FaultyTables` where a goto is missing.
     pub(crate) fn land<A: Rows<TableAction> + Drop, G: Rows<StateNo> + Drop>(
         &mut self,
         machine: &MachineView<'_, A, G>,
@@ -83,7 +83,7 @@ impl Shortcuts<Landing> {
         requires terminal { from.terminal.0 < machine.now.terminals }
         requires kept { AreShortcuts landing_of (Lands machine.now) self.old }
         ensures ok { IfOk result (λ s. IsFrom (Lands machine.now) from s) }
-        ensures faulty { result ≡ Err fault.TableFault → Strands machine.now from }
+        ensures faulty { result ≡ Err fault.FaultyTables → Strands machine.now from }
         ensures not_over { result ≢ Err fault.Over }
         ensures kept { AreShortcuts landing_of (Lands machine.now) self.new }
     {
@@ -113,7 +113,7 @@ impl Shortcuts<Landing> {
           left = left;
           terminal = terminal;
         }) s) }
-        ensures faulty { result ≡ Err fault.TableFault → Strands machine.now (record {
+        ensures faulty { result ≡ Err fault.FaultyTables → Strands machine.now (record {
           below = below;
           left = left;
           terminal = terminal;
@@ -127,7 +127,7 @@ impl Shortcuts<Landing> {
             terminal,
         };
         let Some(shortcut) = Shortcut::behind(machine, from) else {
-            return Err(ParseFault::TableFault);
+            return Err(ParseFault::FaultyTables);
         };
         self.keep(shortcut)?;
         Ok(shortcut)

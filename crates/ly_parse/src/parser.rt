@@ -156,7 +156,7 @@ impl<'a, A: Rows<TableAction> + Drop, G: Rows<StateNo> + Drop> Parser<'a, A, G> 
             Answer::Reads => Ok(Step::More),
             Answer::Accepts => self.running.accept(),
             Answer::Refuses => self.refuse(at),
-            Answer::TableFault => Err(ParseFault::TableFault),
+            Answer::FaultyTables => Err(ParseFault::FaultyTables),
             Answer::Over => Err(ParseFault::Over),
             Answer::OutOfMemory => Err(ParseFault::OutOfMemory),
         }

@@ -162,7 +162,7 @@ impl<'a, A: Rows<TableAction> + Drop, G: Rows<StateNo> + Drop> Running<'a, A, G>
             },
             Settled::Accepts => self.acceptance(),
             Settled::Refuses => Answer::Refuses,
-            Settled::TableFault => Answer::TableFault,
+            Settled::FaultyTables => Answer::FaultyTables,
             Settled::OutOfMemory => Answer::OutOfMemory,
         }
     }
@@ -185,7 +185,7 @@ impl<'a, A: Rows<TableAction> + Drop, G: Rows<StateNo> + Drop> Running<'a, A, G>
         match self.settle(Sym(0), before) {
             Settled::Accepts => self.acceptance(),
             Settled::Refuses => Answer::Refuses,
-            Settled::TableFault => Answer::TableFault,
+            Settled::FaultyTables => Answer::FaultyTables,
             Settled::OutOfMemory => Answer::OutOfMemory,
             // the end is never shifted
             Settled::Reads(_) => unreachable!(),
@@ -197,7 +197,7 @@ impl<'a, A: Rows<TableAction> + Drop, G: Rows<StateNo> + Drop> Running<'a, A, G>
         ensures { IsAcceptance self.now.stack result }
     {
         if self.stack.is_empty() {
-            return Answer::TableFault;
+            return Answer::FaultyTables;
         }
         Answer::Accepts
     }
@@ -237,7 +237,7 @@ impl<'a, A: Rows<TableAction> + Drop, G: Rows<StateNo> + Drop> Running<'a, A, G>
         let first = self.top();
         match self.pass_by_tables(terminal) {
             Ok(action) => self.settle_behind(action, terminal, first, before),
-            Err(ParseFault::TableFault) => Settled::TableFault,
+            Err(ParseFault::FaultyTables) => Settled::FaultyTables,
             Err(ParseFault::OutOfMemory) => Settled::OutOfMemory,
             Err(ParseFault::Over) => unreachable!(),
         }
@@ -275,7 +275,7 @@ impl<'a, A: Rows<TableAction> + Drop, G: Rows<StateNo> + Drop> Running<'a, A, G>
             };
             match self.reduce(number, terminal, before) {
                 Ok(action) => next = action,
-                Err(ParseFault::TableFault) => return Settled::TableFault,
+                Err(ParseFault::FaultyTables) => return Settled::FaultyTables,
                 Err(ParseFault::OutOfMemory) => return Settled::OutOfMemory,
                 Err(ParseFault::Over) => unreachable!(),
             }
@@ -324,7 +324,7 @@ impl<'a, A: Rows<TableAction> + Drop, G: Rows<StateNo> + Drop> Running<'a, A, G>
             ≡ action_of self.old.machine (top_of self.new.stack) terminal.0) }
         ensures legal { IfOk result (λ a. IsLegal self.old.machine terminal.0 (action_from a)) }
         ensures below { OnOk result (AreAlikeBelow self.old.stack self.new.stack) }
-        ensures faulty { result ≡ Err fault.TableFault → FeedAs self.old.machine terminal.0 self.old.stack faulty }
+        ensures faulty { result ≡ Err fault.FaultyTables → FeedAs self.old.machine terminal.0 self.old.stack faulty }
         ensures not_over { result ≢ Err fault.Over }
         ensures machine { self.new.machine ≡ self.old.machine }
         ensures count { self.new.count ≡ self.old.count }
@@ -340,7 +340,7 @@ impl<'a, A: Rows<TableAction> + Drop, G: Rows<StateNo> + Drop> Running<'a, A, G>
             terminal,
         };
         let Some(shortcut) = Shortcut::find(&self.machine, from) else {
-            return Err(ParseFault::TableFault);
+            return Err(ParseFault::FaultyTables);
         };
         self.shortcuts.keep(shortcut)?;
         self.stack[place].state = shortcut.state;
@@ -372,7 +372,7 @@ impl<'a, A: Rows<TableAction> + Drop, G: Rows<StateNo> + Drop> Running<'a, A, G>
         ensures legal { IfOk result (λ a. IsLegal self.old.machine terminal.0 (action_from a)) }
         ensures noted { IfOk result (λ a. IsOpen (action_from a) → (states : List ℕ)
             → IsNoteOf states self.old.stack before.old → IsNoteOf states self.new.stack before.new) }
-        ensures faulty { result ≡ Err fault.TableFault
+        ensures faulty { result ≡ Err fault.FaultyTables
             → FailsByRule self.old.machine number.0 terminal.0 self.old.stack }
         ensures not_over { result ≢ Err fault.Over }
         ensures machine { self.new.machine ≡ self.old.machine }
@@ -382,7 +382,7 @@ impl<'a, A: Rows<TableAction> + Drop, G: Rows<StateNo> + Drop> Running<'a, A, G>
         let rule = self.machine.rule(number);
         let left = rule.left;
         let Some(below) = self.stack.len().checked_sub(rule.body_length) else {
-            return Err(ParseFault::TableFault);
+            return Err(ParseFault::FaultyTables);
         };
         let term = self.make(number, &rule.tree, below)?;
         let from = Landing {
@@ -470,7 +470,7 @@ impl<'a, A: Rows<TableAction> + Drop, G: Rows<StateNo> + Drop> Running<'a, A, G>
     {
         match self.stack.last() {
             Some(level) => Ok(Step::Done(level.term)),
-            None => Err(ParseFault::TableFault),
+            None => Err(ParseFault::FaultyTables),
         }
     }
 

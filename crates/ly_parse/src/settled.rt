@@ -11,7 +11,7 @@ pub(crate) enum Settled {
     /// It is refused.
     Refuses,
     /// The tables are at fault.
-    TableFault,
+    FaultyTables,
     /// A growth was refused.
     OutOfMemory,
 }

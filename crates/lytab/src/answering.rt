@@ -13,7 +13,7 @@ ghost use Rattle.lytab.specs.declared.completion.Completion.TheVariants as compl
 use crate::completion::Completion;
 use crate::failure::Failure;
 use crate::files::{STANDARD, open};
-use ly_drive::{DriveFault, drive};
+use ly_drive::{DriveFault, TextFault, drive};
 use ly_engine::{AnswerFault, GenFault, TokensFault, answer, tokens};
 use ly_print::{Counted, Sink, Source};
 use std::alloc::Global;
@@ -148,11 +148,11 @@ fn answer_by_tables<'a, R: Source, W: Sink>(
     match drive(alloc, tables, reader, writer) {
         Ok(outcome) => Ok(Completion::of_outcome(&outcome)),
         Err(DriveFault::Tables(fault)) => Err(Failure::Tables(fault)),
-        Err(DriveFault::TableFault) => Err(Failure::FaultyTables),
-        Err(DriveFault::TooLong) => Err(Failure::TooLong),
-        Err(DriveFault::Read) => Err(Failure::CannotRead(path)),
-        Err(DriveFault::Write { .. }) => Err(Failure::CannotWrite(STANDARD)),
-        Err(DriveFault::OutOfMemory) => Err(Failure::OutOfMemory),
+        Err(DriveFault::Text(TextFault::FaultyTables)) => Err(Failure::FaultyTables),
+        Err(DriveFault::Text(TextFault::TooLong)) => Err(Failure::TooLong),
+        Err(DriveFault::Text(TextFault::Read)) => Err(Failure::CannotRead(path)),
+        Err(DriveFault::Text(TextFault::Write { .. })) => Err(Failure::CannotWrite(STANDARD)),
+        Err(DriveFault::Text(TextFault::OutOfMemory)) => Err(Failure::OutOfMemory),
     }
 }
 
@@ -180,10 +180,11 @@ fn answer_by_files<'a, R: Source, W: Sink>(
 {
     match answer(alloc, lex, yacc, reader, writer) {
         Ok(outcome) => Ok(Completion::of_outcome(&outcome)),
-        Err(AnswerFault::Refused(fault)) => Err(Failure::Refused(fault)),
-        Err(AnswerFault::TooLong) => Err(Failure::TooLong),
-        Err(AnswerFault::Read) => Err(Failure::CannotRead(path)),
-        Err(AnswerFault::Write { .. }) => Err(Failure::CannotWrite(STANDARD)),
-        Err(AnswerFault::OutOfMemory) => Err(Failure::OutOfMemory),
+        Err(AnswerFault::Gen(fault)) => Err(Failure::Refused(fault)),
+        Err(AnswerFault::Text(TextFault::FaultyTables)) => Err(Failure::FaultyTables),
+        Err(AnswerFault::Text(TextFault::TooLong)) => Err(Failure::TooLong),
+        Err(AnswerFault::Text(TextFault::Read)) => Err(Failure::CannotRead(path)),
+        Err(AnswerFault::Text(TextFault::Write { .. })) => Err(Failure::CannotWrite(STANDARD)),
+        Err(AnswerFault::Text(TextFault::OutOfMemory)) => Err(Failure::OutOfMemory),
     }
 }

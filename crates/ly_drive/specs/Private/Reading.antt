@@ -2,8 +2,6 @@
 use Rattle.std.specs.Prelude.{◌≡◌, ◌<◌, ◌≤◌, ◌^◌, ℕ, ◌+◌, List, [], ◌++◌, Option, Some, None, Result, Ok, Err, false}
 use Rattle.std.specs.Prelude.{length}
 use Rattle.std.specs.Io.KnownBytes.{Consumes, IsAtEnd}
-use Rattle.ly_drive.specs.declared.fault.DriveFault.{DriveFault}
-use Rattle.ly_drive.specs.declared.fault.DriveFault.TheVariants.{OutOfMemory, Read, TableFault, TooLong}
 use Rattle.ly_feed.specs.Held.{Held, IsOnward, IsRestOf, IsSettledBy, seen}
 use Rattle.ly_feed.specs.Onward.{Onward}
 use Rattle.ly_feed.specs.ScanPart.{scan_part_of, scanner_in}
@@ -11,6 +9,8 @@ use Rattle.ly_feed.specs.TableAnswer.{IsVerdict, begun}
 use Rattle.ly_feed.specs.Verdict.{Verdict, faulty}
 use Rattle.ly_feed.specs.declared.need.Need.{Need}
 use Rattle.ly_feed.specs.declared.need.Need.TheVariants.{More, Settled}
+use Rattle.ly_feed.specs.declared.text_fault.TextFault.{TextFault}
+use Rattle.ly_feed.specs.declared.text_fault.TextFault.TheVariants.{FaultyTables, OutOfMemory, Read, TooLong}
 use Rattle.ly_scan.specs.Pieces.{IsUndecided}
 use Rattle.ly_tables.specs.TableSet.{TableSet, machine_of}
 
@@ -21,13 +21,13 @@ pub record IsGiven (most : ℕ) (before after : Option (List ℕ)) (piece : List
 
 -- What one read of at most so many bytes comes to: the text has ended; or a piece has come, and more is wanted, or the
 -- text is answered, or the tables are at fault, or the text is too long, or memory ran out; or the read failed.
-abbrev pub IsReadInto : ℕ → Held → Option (List ℕ) → Option (List ℕ) → Held → Result (Option Need) DriveFault → Type 0
+abbrev pub IsReadInto : ℕ → Held → Option (List ℕ) → Option (List ℕ) → Held → Result (Option Need) TextFault → Type 0
 IsReadInto most f before after g (Ok None) = IsAtEnd after × Consumes before after [] × (g ≡ f)
 IsReadInto most f before after g (Ok (Some More)) = (piece : List ℕ) × IsGiven most before after piece
     × (0 < length piece) × IsOnward f piece g
 IsReadInto most f before after g (Ok (Some (Settled outcome answer))) = (piece : List ℕ)
     × IsGiven most before after piece × IsSettledBy f piece outcome answer.items
-IsReadInto most f before after g (Err TableFault) = (piece : List ℕ) × IsGiven most before after piece
+IsReadInto most f before after g (Err FaultyTables) = (piece : List ℕ) × IsGiven most before after piece
     × ((more : List ℕ) → IsRestOf f (piece ++ more) faulty)
 IsReadInto most f before after g (Err TooLong) = (piece : List ℕ) × IsGiven most before after piece
     × (2 ^ 64 ≤ seen f + length piece)

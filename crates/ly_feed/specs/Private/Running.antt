@@ -9,13 +9,10 @@ use Rattle.ly_feed.specs.ScanPart.{ScanPart, condition_in, scanner_in, terminal_
 use Rattle.ly_feed.specs.TableAnswer.{Progress, IsRest}
 use Rattle.ly_feed.specs.Verdict.{Verdict, accepted, faulty, refused}
 use Rattle.ly_feed.specs.Vocabularies.{constructor_in, name_in}
-use Rattle.ly_feed.specs.declared.run_fault.RunFault.{RunFault}
-use Rattle.ly_feed.specs.declared.run_fault.RunFault.TheVariants.{OutOfMemory, TableFault}
+use Rattle.ly_feed.specs.declared.text_fault.TextFault.{TextFault}
+use Rattle.ly_feed.specs.declared.text_fault.TextFault.TheVariants.{FaultyTables, OutOfMemory}
 use Rattle.ly_feed.specs.declared.flaw.Flaw.{Flaw}
 use Rattle.ly_feed.specs.declared.names.Names.{Names}
-use Rattle.ly_feed.specs.declared.running.Taken.{Taken}
-use Rattle.ly_feed.specs.declared.running.Taken.TheVariants.{Goes}
-use Rattle.ly_feed.specs.declared.running.Taken.TheVariants as take
 use Rattle.ly_feed.specs.declared.running.Halt.{Halt}
 use Rattle.ly_feed.specs.declared.running.Halt.TheVariants.{At, Flawed}
 use Rattle.ly_feed.specs.declared.running.Ended.{Ended}
@@ -23,6 +20,9 @@ use Rattle.ly_feed.specs.declared.running.Ended.TheVariants.{Accepted, Refused}
 use Rattle.ly_pack.specs.Machine.{Machine, IsMachine}
 use Rattle.ly_pack.specs.Steady.{IsSteady}
 use Rattle.ly_pack.specs.Values.{rule_from}
+use Rattle.ly_parse.specs.declared.answer.Answer.{Answer}
+use Rattle.ly_parse.specs.declared.answer.Answer.TheVariants.{Accepts, Over, Reads, Refuses}
+use Rattle.ly_parse.specs.declared.answer.Answer.TheVariants as answers
 use Rattle.ly_parse.specs.Expected.{AreExpected}
 use Rattle.ly_parse.specs.Feeding.{Feeds, done, pushed, states_on}
 use Rattle.ly_parse.specs.Feeding as fed
@@ -52,28 +52,21 @@ pub record CanRun (p : ScanPart) (m : Machine) : Type 0 where
 abbrev pub progress_of : Place → Parse → Progress
 progress_of q s = record { place = q; stack = s.stack; count = s.count }
 
--- What a parse that isn't over does with a token of the text: it reads the token and goes on; or it refuses the token,
--- and a refusal can be told; or the tables are at fault. Want of memory says nothing.
-abbrev pub IsFed : Parse → Token ℕ → Parse → Taken → Type 0
-IsFed s t r Goes = Feeds s.machine t s.stack (pushed r.stack) × (r.count ≡ s.count + 1) × (r.over ≡ false)
-IsFed s t r take.Refused = Feeds s.machine t s.stack fed.refused × (r.asked ≡ states_on s.stack)
-    × (r.count ≡ s.count) × IsTellable r
-IsFed s t r take.TableFault = Feeds s.machine t s.stack fed.faulty
-IsFed s t r take.OutOfMemory = Unit {0}
-
 -- a lexeme has a token
 abbrev pub HasToken : ScanPart → Place → Lexeme → Type 0
 HasToken p q t = (token : Token ℕ) × IsTokenAt p q t token
 
 -- What becomes of a lexeme: the run goes on behind it, whatever comes; or its token is refused, and a refusal can be
--- told; or the tables are at fault, whatever comes. Want of memory says nothing.
-abbrev pub IsTaken : Bool → ScanPart → Machine → Progress → Lexeme → Parse → Taken → Type 0
-IsTaken ended p m w t r Goes = Onward ended p m w (progress_of (place_after (condition_in p) w.place t) r)
+-- told; or the tables are at fault, whatever comes. The end alone is accepted. Want of memory says nothing.
+abbrev pub IsTaken : Bool → ScanPart → Machine → Progress → Lexeme → Parse → Answer → Type 0
+IsTaken ended p m w t r Reads = Onward ended p m w (progress_of (place_after (condition_in p) w.place t) r)
     × (r.over ≡ false)
-IsTaken ended p m w t r take.Refused = (token : Token ℕ) × IsTokenAt p w.place t token
-    × Feeds m token w.stack fed.refused × (r.asked ≡ states_on w.stack) × (r.count ≡ w.count) × IsTellable r
-IsTaken ended p m w t r take.TableFault = IsSettled ended p m w faulty
-IsTaken ended p m w t r take.OutOfMemory = Unit {0}
+IsTaken ended p m w t r Refuses = (token : Token ℕ) × IsTokenAt p w.place t token × Feeds m token w.stack fed.refused
+    × (r.asked ≡ states_on w.stack) × (r.count ≡ w.count) × IsTellable r
+IsTaken ended p m w t r answers.FaultyTables = IsSettled ended p m w faulty
+IsTaken ended p m w t r answers.OutOfMemory = Unit {0}
+IsTaken ended p m w t r Accepts = ⊥
+IsTaken ended p m w t r Over = ⊥
 
 -- the flaw names the token of a lexeme, the number behind those that a parse has read, and what is expected in its
 -- place
@@ -88,11 +81,12 @@ Halts false p q = IsUndecided (scanner_in p) q
 
 -- How far a run comes: to where it halts, the parse not being over; or something is wrong, or the tables are at fault,
 -- whatever comes. Want of memory says nothing.
-abbrev pub IsRunOn : Bool → ScanPart → Machine → Progress → Parse → Result Halt RunFault → Type 0
+abbrev pub IsRunOn : Bool → ScanPart → Machine → Progress → Parse → Result Halt TextFault → Type 0
 IsRunOn ended p m w r (Ok (At q)) = Onward ended p m w (progress_of q r) × Halts ended p q × (r.over ≡ false)
 IsRunOn ended p m w r (Ok (Flawed flaw)) = IsSettled ended p m w (verdict_of flaw)
-IsRunOn ended p m w r (Err TableFault) = IsSettled ended p m w faulty
+IsRunOn ended p m w r (Err FaultyTables) = IsSettled ended p m w faulty
 IsRunOn ended p m w r (Err OutOfMemory) = Unit {0}
+IsRunOn ended p m w r (Err _) = ⊥
 
 -- the end as a token, where it stands at a byte
 abbrev pub end_token : ℕ → Token ℕ
@@ -100,13 +94,14 @@ end_token at = record { terminal = 0; at = at; bytes = [] }
 
 -- What a parse that isn't over does with the end of the text, which stands at a byte: it accepts it with a term that
 -- the forest pays for, or refuses it, or the tables are at fault. Want of memory says nothing.
-abbrev pub IsLast : Parse → ℕ → Grown → Result Ended RunFault → Type 0
+abbrev pub IsLast : Parse → ℕ → Grown → Result Ended TextFault → Type 0
 IsLast s at forest (Ok (Accepted root)) = (d : Term) × Feeds s.machine (end_token at) s.stack (done d)
     × StandsFor forest root d × IsPaid forest d
 IsLast s at forest (Ok (Refused flaw)) = (ts : _) × Feeds s.machine (end_token at) s.stack fed.refused
     × AreExpected s.machine (states_on s.stack) ts × (verdict_of flaw ≡ refused (s.count + 1) (end_token at) ts)
-IsLast s at forest (Err TableFault) = Feeds s.machine (end_token at) s.stack fed.faulty
+IsLast s at forest (Err FaultyTables) = Feeds s.machine (end_token at) s.stack fed.faulty
 IsLast s at forest (Err OutOfMemory) = Unit {0}
+IsLast s at forest (Err _) = ⊥
 
 -- the verdict that a value stands for, where a forest has the terms
 abbrev pub IsVerdictOf : Grown → Ended → Verdict → Type 0
@@ -120,7 +115,8 @@ IsThere forest (Refused flaw) = Unit {0}
 
 -- What comes of a text that has ended: what the value stands for is said of it, or the tables are at fault. Want of
 -- memory says nothing.
-abbrev pub IsClosed : ScanPart → Machine → Progress → Grown → Result Ended RunFault → Type 0
+abbrev pub IsClosed : ScanPart → Machine → Progress → Grown → Result Ended TextFault → Type 0
 IsClosed p m w forest (Ok ended) = (v : Verdict) × IsRest p m w v × IsVerdictOf forest ended v × IsThere forest ended
-IsClosed p m w forest (Err TableFault) = IsRest p m w faulty
+IsClosed p m w forest (Err FaultyTables) = IsRest p m w faulty
 IsClosed p m w forest (Err OutOfMemory) = Unit {0}
+IsClosed p m w forest (Err _) = ⊥

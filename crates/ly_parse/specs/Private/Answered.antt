@@ -6,7 +6,7 @@ use Rattle.ly_parse.specs.Parse.{Parse}
 use Rattle.ly_parse.specs.Private.Before.{before_on, IsNoteOf}
 use Rattle.ly_parse.specs.Private.Stack.{FeedAlike, FeedAs, IsAccepted, IsRefusedWith}
 use Rattle.ly_parse.specs.declared.answer.Answer.{Answer}
-use Rattle.ly_parse.specs.declared.answer.Answer.TheVariants.{Accepts, OutOfMemory, Over, Reads, Refuses, TableFault}
+use Rattle.ly_parse.specs.declared.answer.Answer.TheVariants.{Accepts, OutOfMemory, Over, Reads, Refuses, FaultyTables}
 use Rattle.ly_parse.specs.declared.before.Before.{Before}
 use Rattle.ly_parse.specs.declared.fault.ParseFault.{ParseFault}
 use Rattle.ly_parse.specs.declared.fault.ParseFault.TheVariants as fault
@@ -23,7 +23,7 @@ with_note p b = record p { asked = before_on p.stack b }
 -- what a call comes to where the tables accept
 abbrev pub IsAcceptance : List Level → Answer → Type 0
 IsAcceptance stack Accepts = (d : Term) × (accept_with stack ≡ settles (done d))
-IsAcceptance stack TableFault = accept_with stack ≡ settles faulty
+IsAcceptance stack FaultyTables = accept_with stack ≡ settles faulty
 IsAcceptance stack _ = ⊥
 
 -- what is told of a token at a byte that is refused, by the parse behind the call
@@ -35,7 +35,7 @@ abbrev pub IsTold : Parse → ℕ → Answer → Result Step ParseFault → Type
 IsTold q at Reads r = r ≡ Ok step.More
 IsTold q at Accepts r = IsAccepted q.forest q.stack r
 IsTold q at Refuses r = IsRefusal q at r
-IsTold q at TableFault r = r ≡ Err fault.TableFault
+IsTold q at FaultyTables r = r ≡ Err fault.FaultyTables
 IsTold q at Over r = r ≡ Err fault.Over
 IsTold q at OutOfMemory r = r ≡ Err fault.OutOfMemory
 
@@ -50,5 +50,5 @@ IsSettled m t stack states last b settled.Accepts = FeedAlike m t last stack
     × (action_of m (top_of last) t ≡ accept)
 IsSettled m t stack states last b settled.Refuses = FeedAlike m t last stack
     × (action_of m (top_of last) t ≡ error) × IsNoteOf states last b
-IsSettled m t stack states last b settled.TableFault = FeedAs m t stack faulty
+IsSettled m t stack states last b settled.FaultyTables = FeedAs m t stack faulty
 IsSettled m t stack states last b settled.OutOfMemory = Unit {0}

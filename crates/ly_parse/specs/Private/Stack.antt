@@ -11,7 +11,7 @@ use Rattle.ly_parse.specs.Feeding.{states_on}
 use Rattle.ly_parse.specs.Parse.{Parse}
 use Rattle.ly_parse.specs.Private.Paying.{IsStackPaid}
 use Rattle.ly_parse.specs.declared.fault.ParseFault.{ParseFault}
-use Rattle.ly_parse.specs.declared.fault.ParseFault.TheVariants.{TableFault}
+use Rattle.ly_parse.specs.declared.fault.ParseFault.TheVariants.{FaultyTables}
 use Rattle.ly_parse.specs.declared.level.Level as code
 use Rattle.ly_parse.specs.declared.step.Step as step
 use Rattle.ly_parse.specs.declared.step.Step.TheVariants.{Done, Refused}
@@ -75,7 +75,7 @@ pub data FailsByRule (m : Machine) (number t : ℕ) (stack : List Level) : Type 
 -- what a parser says where its tables accept
 abbrev pub IsAccepted : Grown → List Level → Result step.Step ParseFault → Type 0
 IsAccepted f stack (Ok (Done root)) = (d : Term) × (accept_with stack ≡ settles (done d)) × StandsFor f root d
-IsAccepted f stack (Err TableFault) = accept_with stack ≡ settles faulty
+IsAccepted f stack (Err FaultyTables) = accept_with stack ≡ settles faulty
 IsAccepted f stack _ = ⊥
 
 -- what a parser says of a token of this number and place that it refuses, where its stack had these states before

@@ -1,16 +1,16 @@
-use Rattle.std.proofs.Common.{◌≡◌, ◌∙◌, ◌<◌, [], Err, Ok, Some, ap, length, refl, subst, sym, take}
+use Rattle.std.proofs.Common.{◌≡◌, ◌∙◌, ◌<◌, List, [], ℕ, Err, Ok, Some, ap, length, refl, subst, sym, take}
 use Rattle.std.specs.Io.KnownBytes.{Appends}
+use Rattle.std.specs.Prelude.{IfOk}
 use Rattle.ly_print.specs.TextWriter.{IsCutShort}
-use Rattle.ly_drive.proofs.FaultLemmas.{cut_short, other_fault, same_count, tables_of, write_of}
-use Rattle.ly_drive.proofs.SoFarLemmas.{as_needed, at_fault, begins, ended_as_needed, ended_so, ends}
+use Rattle.ly_drive.proofs.FaultLemmas.{cut_short, other_fault}
+use Rattle.ly_drive.proofs.SoFarLemmas.{answered, as_needed, at_fault, begins, ended_as_needed, ended_so, ends}
 use Rattle.ly_drive.proofs.SoFarLemmas.{given_by, goes_on, settles}
-use Rattle.ly_drive.specs.DriveFault.{drive_fault_of}
 use Rattle.ly_drive.specs.Private.Reading.{IsReadInto}
-use Rattle.ly_drive.specs.declared.fault.DriveFault.TheVariants.{Read, TableFault, Write}
 use Rattle.ly_drive.proofs.driving.feed_all.Goals as goal
-use Rattle.ly_feed.proofs.FaultLemmas.{same_fault}
-use Rattle.ly_feed.specs.Held.{IsRestOf}
+use Rattle.ly_feed.proofs.FaultLemmas.{same_count, same_fault}
+use Rattle.ly_feed.specs.Held.{IsAnswerOf, IsRestOf}
 use Rattle.ly_feed.specs.Verdict.{faulty}
+use Rattle.ly_feed.specs.declared.text_fault.TextFault.TheVariants.{FaultyTables, Read, Write}
 
 pub loop-outcome-init : goal.loop-outcome-init
 loop-outcome-init g c =
@@ -30,7 +30,7 @@ returns-in_err-read_into-clause-faulty g c is =
     let f = c.loop-outcome.feed in
     let s = c.args.feed.now.set in
     let i = c.loop-outcome.invariant in
-    let fault = same_fault c.from_residual.result c.in_err-read_into.field-0.0 TableFault c.from_residual.ensures.1 is
+    let fault = same_fault c.from_residual.result c.in_err-read_into.field-0.0 FaultyTables c.from_residual.ensures.1 is
     in
     let read = subst (λ e. IsReadInto (length c.loop-outcome.room) f before after c.read_into.new.feed (Err e)) fault
     c.in_err-read_into.ensures.is_read in
@@ -111,18 +111,14 @@ returns-in-None-clause-answered g c =
     let i = c.loop-outcome.invariant in
     let read = subst (λ o. IsReadInto (length c.loop-outcome.room) f before after c.read_into.new.feed (Ok o))
     c.in-None.is c.in_ok-read_into.ensures.is_read in
-    let told = c.in_ok-finish_into-in-None.ensures.answered in
-    let text = ended_so s given before after f i.so_far c.read_into.new.feed c.in_ok-finish_into-in-None.field-0 told.0
-    read.2 read.1 read.0 told.1 in (
-      text.0,
-      told.0,
-      text.1,
-      text.2,
-      subst (λ w. Appends (g.W.Sink.contents w) (g.W.Sink.contents c.finish_into.new.writer) told.0) i.untouched told.2,
-    )
+    answered s given before after f i.so_far c.read_into.new.feed (g.W.Sink.contents c.args.writer.now)
+    (g.W.Sink.contents c.finish_into.new.writer) c.finish_into.result read.2 read.1 read.0
+    (subst (λ w. IfOk c.finish_into.result (λ o. (answer : List ℕ) × IsAnswerOf c.read_into.new.feed o answer
+    × Appends (g.W.Sink.contents w) (g.W.Sink.contents c.finish_into.new.writer) answer)) i.untouched
+    c.finish_into.ensures.answered)
 
-pub returns-in_err-finish_into-in-None-clause-beginning : goal.returns-in_err-finish_into-in-None-clause-beginning
-returns-in_err-finish_into-in-None-clause-beginning g c written is =
+pub returns-in-None-clause-beginning : goal.returns-in-None-clause-beginning
+returns-in-None-clause-beginning g c written is =
     let before = g.R.Source.remaining c.loop-outcome.reader in
     let after = g.R.Source.remaining c.read_into.new.reader in
     let given = g.R.Source.remaining c.args.reader.now in
@@ -131,20 +127,15 @@ returns-in_err-finish_into-in-None-clause-beginning g c written is =
     let i = c.loop-outcome.invariant in
     let read = subst (λ o. IsReadInto (length c.loop-outcome.room) f before after c.read_into.new.feed (Ok o))
     c.in-None.is c.in_ok-read_into.ensures.is_read in
-    let failed = c.in_err-finish_into-in-None in
-    let fault = failed.field-0.0 in
-    let handed = c.from_residual-in_err-finish_into-in-None in
-    let same = write_of fault written (same_fault handed.result (drive_fault_of fault) (Write written) handed.ensures.1
-    is) in
-    let begun = failed.ensures.beginning written (ap Err same) in
+    let begun = c.finish_into.ensures.beginning written is in
     let text = ended_so s given before after f i.so_far c.read_into.new.feed begun.1 begun.0 read.2 read.1 read.0
     begun.2 in
     let cut = subst (λ w. IsCutShort (g.W.Sink.contents w) (g.W.Sink.contents c.finish_into.new.writer) written begun.0)
     i.untouched begun.3 in
     (text.0, begun.0, begun.1, text.1, text.2, cut.within, cut.went_out)
 
-pub returns-in_err-finish_into-in-None-clause-faulty : goal.returns-in_err-finish_into-in-None-clause-faulty
-returns-in_err-finish_into-in-None-clause-faulty g c is =
+pub returns-in-None-clause-faulty : goal.returns-in-None-clause-faulty
+returns-in-None-clause-faulty g c is =
     let before = g.R.Source.remaining c.loop-outcome.reader in
     let after = g.R.Source.remaining c.read_into.new.reader in
     let given = g.R.Source.remaining c.args.reader.now in
@@ -153,12 +144,8 @@ returns-in_err-finish_into-in-None-clause-faulty g c is =
     let i = c.loop-outcome.invariant in
     let read = subst (λ o. IsReadInto (length c.loop-outcome.room) f before after c.read_into.new.feed (Ok o))
     c.in-None.is c.in_ok-read_into.ensures.is_read in
-    let failed = c.in_err-finish_into-in-None in
-    let fault = failed.field-0.0 in
-    let handed = c.from_residual-in_err-finish_into-in-None in
-    let same = tables_of fault (same_fault handed.result (drive_fault_of fault) TableFault handed.ensures.1 is) in
     ends s given before after f i.so_far faulty read.1 read.0
-    (subst (λ x. IsRestOf x [] faulty) read.2 (failed.ensures.faulty (ap Err same)))
+    (subst (λ x. IsRestOf x [] faulty) read.2 (c.finish_into.ensures.faulty is))
 
 pub returns-in_err-read_into-clause-needed : goal.returns-in_err-read_into-clause-needed
 returns-in_err-read_into-clause-needed g c not =
@@ -203,20 +190,6 @@ returns-in-Some-Settled-clause-needed g c not =
     let read = subst (λ o. IsReadInto room f before after c.read_into.new.feed (Ok o))
     (c.in-Some-Settled.is ∙ ap Some c.in-Some-Settled.field-0-is) c.in_ok-read_into.ensures.is_read in
     as_needed s given before after f i.so_far most room read.0 i.same_room read.1
-
-pub returns-in_err-finish_into-in-None-clause-needed : goal.returns-in_err-finish_into-in-None-clause-needed
-returns-in_err-finish_into-in-None-clause-needed g c not =
-    let before = g.R.Source.remaining c.loop-outcome.reader in
-    let after = g.R.Source.remaining c.read_into.new.reader in
-    let given = g.R.Source.remaining c.args.reader.now in
-    let f = c.loop-outcome.feed in
-    let s = c.args.feed.now.set in
-    let i = c.loop-outcome.invariant in
-    let most = length c.args.room.now in
-    let room = length c.loop-outcome.room in
-    let read = subst (λ o. IsReadInto room f before after c.read_into.new.feed (Ok o)) c.in-None.is
-    c.in_ok-read_into.ensures.is_read in
-    ended_as_needed s given before after f i.so_far most read.1
 
 pub returns-in-None-clause-needed : goal.returns-in-None-clause-needed
 returns-in-None-clause-needed g c not =

@@ -6,7 +6,7 @@ use Rattle.ly_feed.proofs.LineLemmas.{term_printed}
 use Rattle.ly_feed.specs.Private.Running.{IsVerdictOf, words_of}
 use Rattle.ly_feed.specs.Verdict.{IsOutcome}
 use Rattle.ly_feed.specs.Vocabularies.{vocabulary_of}
-use Rattle.ly_feed.specs.declared.finish_fault.FinishFault.TheVariants.{Write}
+use Rattle.ly_feed.specs.declared.text_fault.TextFault.TheVariants.{Write}
 use Rattle.ly_feed.specs.declared.outcome.Outcome.TheVariants.{Tree}
 use Rattle.ly_feed.proofs.lines.write_ended.Goals as goal
 

@@ -3,7 +3,7 @@ use Rattle.std.specs.Io.KnownBytes.{Appends}
 use Rattle.ly_base.specs.Bytes.{newline}
 use Rattle.ly_print.specs.TextWriter.{IsCutShort}
 use Rattle.ly_feed.specs.Private.Running.{words_of}
-use Rattle.ly_feed.specs.declared.finish_fault.FinishFault.TheVariants.{Write}
+use Rattle.ly_feed.specs.declared.text_fault.TextFault.TheVariants.{Write}
 use Rattle.ly_feed.proofs.FaultLemmas.{same_count, same_fault}
 use Rattle.ly_feed.proofs.lines.write_term.Goals as goal
 use Rattle.ly_tree.specs.Shown.{shown}

@@ -79,16 +79,16 @@ refusal-requires-clause-token c =
     let t = c.in-Ok-Some.lexeme in
     let fast = fast_there c.args.ended p l q c.in-Ok-Some.field-0 t c.requires.lexer c.in-Ok-Some.ensures.found
     c.in-Ok-Some.field-0-is in
-    let taken = c.in-Refused.ensures.taken c.args.ended fast in
+    let taken = c.in-Refuses.ensures.taken c.args.ended fast in
     (taken.0, taken.1)
 
 pub refusal-requires-clause-tellable : goal.refusal-requires-clause-tellable
-refusal-requires-clause-tellable c = (c.in-Refused.ensures.taken c.args.ended
+refusal-requires-clause-tellable c = (c.in-Refuses.ensures.taken c.args.ended
     (fast_there c.args.ended (scan_part_of c.args.set.now) c.args.lexer.now c.next.new.place c.in-Ok-Some.field-0
     c.in-Ok-Some.lexeme c.requires.lexer c.in-Ok-Some.ensures.found c.in-Ok-Some.field-0-is)).5
 
-pub returns-in-Refused-clause-runs : goal.returns-in-Refused-clause-runs
-returns-in-Refused-clause-runs c =
+pub returns-in-Refuses-clause-runs : goal.returns-in-Refuses-clause-runs
+returns-in-Refuses-clause-runs c =
     let p = scan_part_of c.args.set.now in
     let m = machine_of c.args.set.now in
     let w = progress_of c.args.place c.args.parser.now in
@@ -96,18 +96,18 @@ returns-in-Refused-clause-runs c =
     let q = c.next.new.place in
     let s = c.loop-lexeme.parser in
     let t = c.in-Ok-Some.lexeme in
-    let flaw = c.in_ok-refusal-in-Refused.field-0 in
+    let flaw = c.in_ok-refusal-in-Refuses.field-0 in
     let fast = fast_there c.args.ended p l q c.in-Ok-Some.field-0 t c.requires.lexer c.in-Ok-Some.ensures.found
     c.in-Ok-Some.field-0-is in
     settled_there c.args.ended p m w q s (verdict_of flaw)
     (over c.args.ended p m w l c.loop-lexeme.place q s c.requires.lexer c.loop-lexeme.invariant.onward
     c.next.ensures.passed)
     (refused_there c.args.ended p m (progress_of q s) t c.take.new.parser flaw
-    (c.take.ensures.machine ∙ c.loop-lexeme.invariant.machine) fast (c.in-Refused.ensures.taken c.args.ended fast)
-    c.in_ok-refusal-in-Refused.ensures)
+    (c.take.ensures.machine ∙ c.loop-lexeme.invariant.machine) fast (c.in-Refuses.ensures.taken c.args.ended fast)
+    c.in_ok-refusal-in-Refuses.ensures)
 
-pub returns-in-TableFault-clause-runs : goal.returns-in-TableFault-clause-runs
-returns-in-TableFault-clause-runs c =
+pub returns-in-FaultyTables-clause-runs : goal.returns-in-FaultyTables-clause-runs
+returns-in-FaultyTables-clause-runs c =
     let p = scan_part_of c.args.set.now in
     let m = machine_of c.args.set.now in
     let w = progress_of c.args.place c.args.parser.now in
@@ -118,7 +118,7 @@ returns-in-TableFault-clause-runs c =
     c.in-Ok-Some.ensures.found c.in-Ok-Some.field-0-is in
     settled_there c.args.ended p m w q s faulty
     (over c.args.ended p m w l c.loop-lexeme.place q s c.requires.lexer c.loop-lexeme.invariant.onward
-    c.next.ensures.passed) (c.in-TableFault.ensures.taken c.args.ended fast)
+    c.next.ensures.passed) (c.in-FaultyTables.ensures.taken c.args.ended fast)
 
 pub loop-lexeme-preserved : goal.loop-lexeme-preserved
 loop-lexeme-preserved c =
@@ -132,7 +132,7 @@ loop-lexeme-preserved c =
     let fast = fast_there c.args.ended p l q c.in-Ok-Some.field-0 t c.requires.lexer c.in-Ok-Some.ensures.found
     c.in-Ok-Some.field-0-is in
     let there = c.advance.ensures ∙ ap (moved q t.taken) c.action-begin.ensures.begin in
-    let taken = c.in-Goes.ensures.taken c.args.ended fast in record {
+    let taken = c.in-Reads.ensures.taken c.args.ended fast in record {
       onward = subst (λ x. Onward c.args.ended p m w (progress_of x c.take.new.parser)) (sym there)
           (onward_on c.args.ended p m
           (over c.args.ended p m w l c.loop-lexeme.place q s c.requires.lexer c.loop-lexeme.invariant.onward
@@ -142,3 +142,13 @@ loop-lexeme-preserved c =
       known = subst (λ x. AreKnown (ahead_in l.scanner) c.args.ended x.rest c.next.new.known) (sym there)
           (c.next.ensures.known t.taken fast.within);
     }
+
+pub unreachable-requires : goal.unreachable-requires
+unreachable-requires c = c.in-Accepts.ensures.taken c.args.ended
+    (fast_there c.args.ended (scan_part_of c.args.set.now) c.args.lexer.now c.next.new.place c.in-Ok-Some.field-0
+    c.in-Ok-Some.lexeme c.requires.lexer c.in-Ok-Some.ensures.found c.in-Ok-Some.field-0-is)
+
+pub unreachable-requires-in-Over : goal.unreachable-requires-in-Over
+unreachable-requires-in-Over c = c.in-Over.ensures.taken c.args.ended
+    (fast_there c.args.ended (scan_part_of c.args.set.now) c.args.lexer.now c.next.new.place c.in-Ok-Some.field-0
+    c.in-Ok-Some.lexeme c.requires.lexer c.in-Ok-Some.ensures.found c.in-Ok-Some.field-0-is)

@@ -1,4 +1,4 @@
-use Rattle.std.proofs.Common.{◌∙◌, ◌<◌, ap, subst, sym, take}
+use Rattle.std.proofs.Common.{◌∙◌, ◌<◌, ap, arith, subst, sym, take}
 use Rattle.ly_feed.proofs.TakingLemmas.{no_terminal, passes_on, taken, terminal_is}
 use Rattle.ly_feed.specs.ScanPart.{scan_part_of, terminal_in}
 use Rattle.ly_feed.proofs.running.take.Goals as goal
@@ -14,13 +14,15 @@ returns-in_default-clause-taken c ended fast =
       c.requires.goes_on,
     )
 
-pub feed-requires-clause-not_end : goal.feed-requires-clause-not_end
-feed-requires-clause-not_end c = (c.requires.runs.returned c.args.lexeme.rule.0 c.bytes.result.now c.in-Some.terminal.0
+pub take-requires-clause-not_end : goal.take-requires-clause-not_end
+take-requires-clause-not_end c =
+    let low = (c.requires.runs.returned c.args.lexeme.rule.0 c.bytes.result.now c.in-Some.terminal.0
     (terminal_is c.terminal.result c.in-Some.terminal _
-    (c.terminal.ensures ∙ c.requires.emits c.bytes.result.now) c.in-Some.is)).0
+    (c.terminal.ensures ∙ c.requires.emits c.bytes.result.now) c.in-Some.is)).0 in
+    omega arith
 
-pub feed-requires-clause-terminal : goal.feed-requires-clause-terminal
-feed-requires-clause-terminal c = subst (λ m. c.in-Some.terminal.0 < m.terminals) (sym c.requires.machine)
+pub take-requires-clause-terminal : goal.take-requires-clause-terminal
+take-requires-clause-terminal c = subst (λ m. c.in-Some.terminal.0 < m.terminals) (sym c.requires.machine)
     (c.requires.runs.returned c.args.lexeme.rule.0 c.bytes.result.now c.in-Some.terminal.0
     (terminal_is c.terminal.result c.in-Some.terminal _
     (c.terminal.ensures ∙ c.requires.emits c.bytes.result.now) c.in-Some.is)).1
@@ -28,11 +30,15 @@ feed-requires-clause-terminal c = subst (λ m. c.in-Some.terminal.0 < m.terminal
 pub returns-clause-taken : goal.returns-clause-taken
 returns-clause-taken c ended fast =
     let p = scan_part_of c.args.set.now in
-    taken ended p (machine_of c.args.set.now) c.args.place.now c.args.parser.now c.feed.new.parser c.args.lexeme _
-    c.feed.result c.requires.machine fast (record {
+    taken ended p (machine_of c.args.set.now) c.args.place.now c.args.parser.now c.take.new.self c.args.lexeme _
+    c.take.result c.requires.runs.machine c.requires.machine c.requires.goes_on
+    (c.requires.runs.returned c.args.lexeme.rule.0 c.bytes.result.now c.in-Some.terminal.0
+    (terminal_is c.terminal.result c.in-Some.terminal _
+    (c.terminal.ensures ∙ c.requires.emits c.bytes.result.now) c.in-Some.is)).0
+    fast (record {
       at = c.at-at.ensures;
       bytes = c.new-text.ensures ∙ ap (take c.args.lexeme.taken) c.rest.ensures;
       terminal = ap (terminal_in p c.args.lexeme.rule.0) (sym c.bytes.ensures)
           ∙ terminal_is c.terminal.result c.in-Some.terminal _
           (c.terminal.ensures ∙ c.requires.emits c.bytes.result.now) c.in-Some.is;
-    }) c.feed.ensures.fed
+    }) c.take.ensures

@@ -1,6 +1,6 @@
 use Rattle.std.proofs.Common.{◌≡◌, ◌∙◌, ap, subst, sym}
 use Rattle.std.specs.Prelude.{false, true}
-use Rattle.ly_feed.proofs.EndingLemmas.{answered, at_fault, outcome_of, rest_of}
+use Rattle.ly_feed.proofs.EndingLemmas.{answered, at_fault, fault_of_ending, outcome_of, rest_of, writing_ends}
 use Rattle.ly_feed.specs.Private.Running.{IsVerdictOf, progress_of}
 use Rattle.ly_feed.specs.ScanPart.{scan_part_of}
 use Rattle.ly_feed.specs.Verdict.{faulty, printed}
@@ -26,6 +26,16 @@ returns-in_err-ended-clause-faulty g c failed =
     (at_fault (scan_part_of set) (machine_of set) (progress_of c.place-place.result f.parser)
     c.run_to_end.new.parser.forest c.in_err-ended.field-0.0 c.from_residual.result c.in_err-ended.ensures.closed
     c.from_residual.ensures.1 failed)
+
+pub returns-in_err-ended-clause-ending : goal.returns-in_err-ended-clause-ending
+returns-in_err-ended-clause-ending g c =
+    let f = c.self.inside in
+    fault_of_ending (scan_part_of f.set.now) (machine_of f.set.now) (progress_of c.place-place.result f.parser)
+    c.run_to_end.new.parser.forest c.in_err-ended.field-0.0 c.from_residual.result c.in_err-ended.ensures.closed
+    c.from_residual.ensures.1
+
+pub returns-clause-ending : goal.returns-clause-ending
+returns-clause-ending g c = writing_ends c.write_ended.result c.write_ended.ensures.of_writing
 
 pub invariant_of-self-2 : goal.invariant_of-self-2
 invariant_of-self-2 g c = record {

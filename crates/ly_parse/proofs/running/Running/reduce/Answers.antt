@@ -2,7 +2,7 @@ use Rattle.std.proofs.Common.{◌≡◌, ◌∙◌, ◌<◌, [], ◌∷◌, ◌+
 use Rattle.ly_pack.specs.Values.{action_from, rule_from}
 use Rattle.ly_parse.specs.Private.Paying.{IsStackPaid}
 use Rattle.ly_parse.specs.Private.Stack.{at_once, IsParse}
-use Rattle.ly_parse.specs.declared.fault.ParseFault.TheVariants.{TableFault}
+use Rattle.ly_parse.specs.declared.fault.ParseFault.TheVariants.{FaultyTables}
 use Rattle.ly_parse.proofs.BeforeLemmas.{note_kept, shifted_not_open}
 use Rattle.ly_parse.proofs.LandingLemmas.{acts_there, landed, lands_from, leads_on, legal_there}
 use Rattle.ly_parse.proofs.LandingLemmas.{strands}
@@ -71,7 +71,7 @@ returns-in_err-shortcut-clause-faulty g c is =
       stands = c.in_ok-term.ensures.made;
     })
     (c.in_err-shortcut.ensures.faulty (ap Err
-    (same_fault c.from_residual-in_err-shortcut.result c.in_err-shortcut.field-0.0 TableFault
+    (same_fault c.from_residual-in_err-shortcut.result c.in_err-shortcut.field-0.0 FaultyTables
     c.from_residual-in_err-shortcut.ensures.1 is)))
 
 pub invariant_of-self-2 : goal.invariant_of-self-2

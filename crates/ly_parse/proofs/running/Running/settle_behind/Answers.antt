@@ -82,10 +82,10 @@ returns-in-Error-clause-settled g c = (
   c.loop-next.invariant.noted (subst (λ a. IsOpen (action_from a)) (sym c.in-Error.is) tt),
 )
 
-pub returns-in-Err-TableFault-clause-settled : goal.returns-in-Err-TableFault-clause-settled
-returns-in-Err-TableFault-clause-settled g c =
+pub returns-in-Err-FaultyTables-clause-settled : goal.returns-in-Err-FaultyTables-clause-settled
+returns-in-Err-FaultyTables-clause-settled g c =
     fails_by_rule c.args.self.now.machine c.loop-next.self.machine c.args.terminal.0 c.in-Reduce.number.0
     ((run_bound + 1) * length (states_on c.args.self.now.stack)) c.args.self.now.stack c.loop-next.self.stack
     c.loop-next.invariant.machine (sym c.loop-next.invariant.action ∙ ap action_from c.in-Reduce.is)
     c.loop-next.invariant.run
-    (c.in-Err-TableFault.ensures.faulty (ap Err c.in-Err-TableFault.field-0-is))
+    (c.in-Err-FaultyTables.ensures.faulty (ap Err c.in-Err-FaultyTables.field-0-is))

@@ -1,0 +1,43 @@
+-- The faults of answering a text: their numbers and names, and what they say of the writer.
+use Rattle.std.specs.Prelude.{ℕ, List, Option, Some, None, codes}
+use Rattle.ly_feed.specs.declared.text_fault.TextFault.{TextFault}
+use Rattle.ly_feed.specs.declared.text_fault.TextFault.TheVariants.{FaultyTables, OutOfMemory, Read, TooLong, Write}
+
+-- a fault's number; a device that fails and want of memory have none
+abbrev pub text_fault_number : TextFault → Option ℕ
+text_fault_number FaultyTables = Some 90
+text_fault_number TooLong = Some 92
+text_fault_number Read = None
+text_fault_number (Write written) = None
+text_fault_number OutOfMemory = None
+
+-- a fault's name
+abbrev pub text_fault_name : TextFault → List ℕ
+text_fault_name FaultyTables = codes "TableFault"
+text_fault_name TooLong = codes "TooLong"
+text_fault_name Read = codes "Read"
+text_fault_name (Write written) = codes "Write"
+text_fault_name OutOfMemory = codes "OutOfMemory"
+
+-- a write failed
+abbrev pub IsWrite : TextFault → Type 0
+IsWrite (Write written) = Unit {0}
+IsWrite _ = ⊥
+
+-- nothing was written: any fault but a failed write
+abbrev pub IsBeforeWriting : TextFault → Type 0
+IsBeforeWriting (Write written) = ⊥
+IsBeforeWriting _ = Unit {0}
+
+-- a fault of writing an answer
+abbrev pub IsOfWriting : TextFault → Type 0
+IsOfWriting (Write written) = Unit {0}
+IsOfWriting OutOfMemory = Unit {0}
+IsOfWriting _ = ⊥
+
+-- a fault of the end of a text: the tables are at fault, or the answer wasn't written
+abbrev pub IsOfEnding : TextFault → Type 0
+IsOfEnding FaultyTables = Unit {0}
+IsOfEnding (Write written) = Unit {0}
+IsOfEnding OutOfMemory = Unit {0}
+IsOfEnding _ = ⊥

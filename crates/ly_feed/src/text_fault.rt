@@ -1,0 +1,86 @@
+ghost use Rattle.std.specs.Prelude.{◌≡◌};
+ghost use Rattle.ly_feed.specs.TextFault.{text_fault_name, text_fault_number};
+ghost use Rattle.ly_feed.specs.declared.text_fault.TextFault.TheVariants.{OutOfMemory, Write};
+
+use ly_base::OutOfMemory as NoMemory;
+use ly_print::WriteFault;
+use std::alloc::AllocError;
+use thiserror::Error;
+
+/// Why there is no answer to a text, or not all of it was written.
+#[derive(Clone, Copy, Debug, PartialEq, Eq, Error)]
+pub enum TextFault {
+    /// The tables are at fault on the text: a goto is missing, a body goes past the bottom of the stack, they accept
+    /// without a tree, or a cut leaves no byte or more than its match has. Never for tables that were generated.
+    /// Nothing was written.
+    #[error("the tables are at fault")]
+    FaultyTables,
+    /// More than 2^64-1 bytes have come, and no answer was known by then. Nothing was written.
+    #[error("the text is too long")]
+    TooLong,
+    /// The reader failed in this call. Nothing was written.
+    #[error("the text could not be read")]
+    Read,
+    /// The writer failed in this call, and just the first `written` bytes of the answer went out.
+    #[error("the answer could not be written after {written} bytes")]
+    Write {
+        /// How many bytes went out.
+        written: usize,
+    },
+    /// A growth was refused, or the tree has more than 2^48 long leaves or nodes, which no memory holds.
+    /// Nothing was written.
+    #[error("out of memory")]
+    OutOfMemory,
+}
+
+impl TextFault {
+    /// The fault's number; a device that fails and want of memory have none.
+    pub fn number(&self) -> Option<u8>
+        ensures { result ≡ text_fault_number self.now }
+    {
+        match self {
+            TextFault::FaultyTables => Some(90),
+            TextFault::TooLong => Some(92),
+            TextFault::Read | TextFault::Write { .. } | TextFault::OutOfMemory => None,
+        }
+    }
+
+    /// The fault's name.
+    pub fn name(&self) -> &'static str
+        ensures { result.now ≡ text_fault_name self.now }
+    {
+        match self {
+            TextFault::FaultyTables => "TableFault",
+            TextFault::TooLong => "TooLong",
+            TextFault::Read => "Read",
+            TextFault::Write { .. } => "Write",
+            TextFault::OutOfMemory => "OutOfMemory",
+        }
+    }
+}
+
+impl From<AllocError> for TextFault {
+    ghost from_gives = { λ _ e. e ≡ OutOfMemory };
+
+    fn from(_error: AllocError) -> TextFault {
+        TextFault::OutOfMemory
+    }
+}
+
+impl From<NoMemory> for TextFault {
+    ghost from_gives = { λ _ e. e ≡ OutOfMemory };
+
+    fn from(_error: NoMemory) -> TextFault {
+        TextFault::OutOfMemory
+    }
+}
+
+impl From<WriteFault> for TextFault {
+    ghost from_gives = { λ fault e. e ≡ Write fault.written };
+
+    fn from(fault: WriteFault) -> TextFault {
+        TextFault::Write {
+            written: fault.written,
+        }
+    }
+}
