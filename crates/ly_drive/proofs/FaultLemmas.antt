@@ -18,6 +18,9 @@ pub other_text : {A B : Type 0} (r : Result A DriveFault) (e fault : TextFault) 
     → (IsErrOf r (Text fault) → ⊥) → IsErrOf {T = B} (Err e) fault → ⊥
 other_text r e fault h not is = let same : e ≡ fault = cc in other_fault r (Text e) (Text fault) h not (ap Text same)
 
+pub same_text : (e fault : TextFault) → Text e ≡ Text fault → e ≡ fault
+same_text e fault is = cc
+
 -- so many bytes of a text that is written whole went out
 pub cut_short : (b n : Option (List ℕ)) (count written : ℕ) (bytes text : List ℕ) → count ≡ written → bytes ≡ text
     → count < length bytes → Appends b n (take count bytes) → IsCutShort b n written text

@@ -4,7 +4,8 @@ use Rattle.std.proofs.Common.{append_assoc, arith, length, length-append, refl, 
 use Rattle.std.specs.Io.KnownBytes.{Appends, Consumes, IsAtEnd}
 use Rattle.std.specs.Prelude.{◌^◌, false, IfErr, IfOk, IfSome}
 use Rattle.std.proofs.KnownBytes.{Consumes-nil, Consumes-trans}
-use Rattle.ly_drive.specs.Answering.{IsAnsweredBy, IsFaultyOn, IsReadAsNeeded, IsTooLong}
+use Rattle.std.proofs.lemmas.List.{append-nil}
+use Rattle.ly_drive.specs.Answering.{IsAnsweredBy, IsFaultyOn, IsOpenAfter, IsOpenBehind, IsReadAsNeeded, IsTooLong}
 use Rattle.ly_drive.specs.Private.Reading.{IsGiven, IsReadInto, IsReadSoFar}
 use Rattle.ly_feed.proofs.OnwardLemmas.{from_start, onward_on, onward_with}
 use Rattle.ly_feed.specs.Held.{Held, IsAnswerOf, IsOnward, IsRestOf, IsSettledBy, nothing_read, seen}
@@ -125,6 +126,14 @@ module _ (s : TableSet) (given : Option (List ℕ)) where
     -- nor where the text has ended
     pub ended_as_needed : (most : ℕ) → Consumes before after [] → IsReadAsNeeded most s given after
     ended_as_needed most took = as_needed most most [] refl (record { consumed = took; few = omega arith })
+
+    -- a read that failed was asked for
+    pub asked_for : Consumes before after [] → IsOpenBehind s given after
+    asked_for took = (
+      so_far.taken ++ [],
+      Consumes-trans given before after so_far.taken [] so_far.consumed took,
+      subst (IsOpenAfter s) (sym (append-nil so_far.taken)) (f.progress, so_far.onward, so_far.undecided),
+    )
 
     -- fewer can come then
     pub fewer : (g : Held) (piece : List ℕ) → 0 < length piece → IsOnward f piece g

@@ -43,6 +43,10 @@ abbrev pub IsReadAsNeeded : ℕ → TableSet → Option (List ℕ) → Option (L
 IsReadAsNeeded most s before after = (open_bytes : List ℕ) × (last : List ℕ)
     × Consumes before after (open_bytes ++ last) × IsOpenAfter s open_bytes × (length last ≤ most)
 
+-- A reader gave bytes after which no answer is known. So where a read behind them fails, it was asked for.
+abbrev pub IsOpenBehind : TableSet → Option (List ℕ) → Option (List ℕ) → Type 0
+IsOpenBehind s before after = (bytes : List ℕ) × Consumes before after bytes × IsOpenAfter s bytes
+
 -- the bytes of a table file, of whatever version, spell the set, whose parser's runs end
 abbrev pub IsDriven : List ℕ → TableSet → Type 0
 IsDriven tables s = (v : Version) × TableText tables v s × IsSteady (machine_of s)

@@ -5,7 +5,8 @@ ghost use Rattle.ly_tables.specs.Refusal.{IsRefusedAs};
 ghost use Rattle.ly_tables.specs.TableSet.{TableSet as Tables};
 ghost use Rattle.ly_tables.specs.declared.fault.TableFault as file;
 ghost use Rattle.ly_tables.specs.declared.fault.TableFault.TheVariants.{OutOfMemory};
-ghost use Rattle.ly_drive.specs.Answering.{IsAnsweredBy, IsBegunBy, IsDriven, IsFaultyOn, IsReadAsNeeded, IsTooLong};
+ghost use Rattle.ly_drive.specs.Answering.{IsAnsweredBy, IsBegunBy, IsDriven, IsFaultyOn, IsOpenBehind};
+ghost use Rattle.ly_drive.specs.Answering.{IsReadAsNeeded, IsTooLong};
 ghost use Rattle.ly_drive.specs.DriveFault.{IsBeforeWriting, IsOfFile, IsWrite};
 ghost use Rattle.ly_feed.specs.Held.{nothing_read};
 ghost use Rattle.ly_feed.specs.TextFault as text;
@@ -19,7 +20,8 @@ use std::alloc::Global;
 
 /// Answers the text that a reader gives by the bytes of a table file, and writes the answer. Nothing is read before the
 /// table file is read, and at most 4,096 bytes at a time; nothing is written before the outcome is known, and nothing
-/// is read after it is, so only at a tree the reader is known to be at its end.
+/// is asked of the reader after it is, so only at a tree the reader is known to be at its end, and a read that fails
+/// was one that had to be made.
 ///
 /// Its faults are those of `DriveFault`.
 pub fn drive<R: Source, W: Sink>(
@@ -42,6 +44,8 @@ pub fn drive<R: Source, W: Sink>(
     ensures ended { result ≡ Ok Outcome.Tree → IsAtEnd (R.remaining reader.new) }
     ensures needed { (s : Tables) → IsDriven tables.now s → (IsErrOf result (DriveFault.Text TextFault.Read) → ⊥)
         → IsReadAsNeeded 4096 s (R.remaining reader.old) (R.remaining reader.new) }
+    ensures asked { (s : Tables) → IsDriven tables.now s → IsErrOf result (DriveFault.Text TextFault.Read)
+        → IsOpenBehind s (R.remaining reader.old) (R.remaining reader.new) }
     ensures read { IsErrOf result (DriveFault.Text TextFault.Read)
         → R.failures reader.new ≡ next_count (R.failures reader.old) }
     ensures reader_held { (IsErrOf result (DriveFault.Text TextFault.Read) → ⊥)
@@ -61,7 +65,8 @@ pub fn drive<R: Source, W: Sink>(
 const PIECE: usize = 4_096;
 
 /// Answers the text that a reader gives by a table set, and writes the answer. Nothing is written before the outcome is
-/// known, and nothing is read after it is, so only at a tree the reader is known to be at its end.
+/// known, and nothing is asked of the reader after it is, so only at a tree the reader is known to be at its end, and a
+/// read that fails was one that had to be made.
 ///
 /// Its faults are those of `TextFault`.
 pub fn run<R: Source, W: Sink>(
@@ -79,6 +84,8 @@ pub fn run<R: Source, W: Sink>(
     ensures ended { result ≡ Ok Outcome.Tree → IsAtEnd (R.remaining reader.new) }
     ensures needed { (IsErrOf result TextFault.Read → ⊥)
         → IsReadAsNeeded 4096 set.now (R.remaining reader.old) (R.remaining reader.new) }
+    ensures asked { IsErrOf result TextFault.Read
+        → IsOpenBehind set.now (R.remaining reader.old) (R.remaining reader.new) }
     ensures read { IsErrOf result TextFault.Read → R.failures reader.new ≡ next_count (R.failures reader.old) }
     ensures reader_held { (IsErrOf result TextFault.Read → ⊥) → R.failures reader.new ≡ R.failures reader.old }
     ensures write { IfErr result (λ e. text.IsWrite e → W.failures writer.new ≡ next_count (W.failures writer.old)) }
@@ -111,6 +118,8 @@ fn feed_all<R: Source, W: Sink>(
     ensures ended { result ≡ Ok Outcome.Tree → IsAtEnd (R.remaining reader.new) }
     ensures needed { (IsErrOf result TextFault.Read → ⊥)
         → IsReadAsNeeded (length room.old) feed.old.set (R.remaining reader.old) (R.remaining reader.new) }
+    ensures asked { IsErrOf result TextFault.Read
+        → IsOpenBehind feed.old.set (R.remaining reader.old) (R.remaining reader.new) }
     ensures read { IsErrOf result TextFault.Read → R.failures reader.new ≡ next_count (R.failures reader.old) }
     ensures reader_held { (IsErrOf result TextFault.Read → ⊥) → R.failures reader.new ≡ R.failures reader.old }
     ensures write { IfErr result (λ e. text.IsWrite e → W.failures writer.new ≡ next_count (W.failures writer.old)) }

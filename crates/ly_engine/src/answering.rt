@@ -3,7 +3,7 @@ ghost use Rattle.std.specs.Io.KnownBytes.{IsAtEnd};
 ghost use Rattle.ly_print.specs.Device.{next_count};
 ghost use Rattle.ly_base.specs.Limits.{version_2};
 ghost use Rattle.ly_base.specs.declared.version.Version.TheVariants.{V2};
-ghost use Rattle.ly_drive.specs.Answering.{IsAnsweredBy, IsBegunBy, IsReadAsNeeded, IsTooLong};
+ghost use Rattle.ly_drive.specs.Answering.{IsAnsweredBy, IsBegunBy, IsOpenBehind, IsReadAsNeeded, IsTooLong};
 ghost use Rattle.ly_tables.specs.TableSet.{TableSet as Tables};
 ghost use Rattle.ly_generate.specs.Accepted.{IsRefusedFor};
 ghost use Rattle.ly_engine.specs.AnswerFault.{IsBeforeReading, IsBeforeWriting, IsWrite};
@@ -20,7 +20,8 @@ use std::alloc::Global;
 
 /// Answers the text that a reader gives by a lex file and a yacc file (POSIX, XCU lex and yacc), and writes the answer.
 /// Nothing is read before the tables are made, and at most 4,096 bytes at a time; nothing is written before the outcome
-/// is known, and nothing is read after it is, so only at a tree the reader is known to be at its end.
+/// is known, and nothing is asked of the reader after it is, so only at a tree the reader is known to be at its end, and
+/// a read that fails was one that had to be made.
 ///
 /// Its faults are those of `AnswerFault`.
 pub fn answer<R: Source, W: Sink>(
@@ -44,6 +45,9 @@ pub fn answer<R: Source, W: Sink>(
     ensures needed { (IsErrOf result (AnswerFault.Text TextFault.Read) → ⊥) → (reader.new ≡ reader.old)
         ⊎ ((s : Tables) × IsGenerated V2 version_2 lex.now yacc.now s
         × IsReadAsNeeded 4096 s (R.remaining reader.old) (R.remaining reader.new)) }
+    ensures asked { IsErrOf result (AnswerFault.Text TextFault.Read) → (s : Tables)
+        × IsGenerated V2 version_2 lex.now yacc.now s
+        × IsOpenBehind s (R.remaining reader.old) (R.remaining reader.new) }
     ensures read { IsErrOf result (AnswerFault.Text TextFault.Read)
         → R.failures reader.new ≡ next_count (R.failures reader.old) }
     ensures reader_held { (IsErrOf result (AnswerFault.Text TextFault.Read) → ⊥)

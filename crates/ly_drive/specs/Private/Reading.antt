@@ -32,7 +32,7 @@ IsReadInto most f before after g (Err FaultyTables) = (piece : List ℕ) × IsGi
 IsReadInto most f before after g (Err TooLong) = (piece : List ℕ) × IsGiven most before after piece
     × (2 ^ 64 ≤ seen f + length piece)
 IsReadInto most f before after g (Err OutOfMemory) = (piece : List ℕ) × IsGiven most before after piece
-IsReadInto most f before after g (Err Read) = Unit {0}
+IsReadInto most f before after g (Err Read) = Consumes before after []
 IsReadInto most f before after g (Err _) = ⊥
 
 -- What a reader gave so far has come to a feed of a set, which says of the rest what the set says of the whole; and

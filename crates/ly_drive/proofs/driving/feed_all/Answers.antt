@@ -3,7 +3,7 @@ use Rattle.std.specs.Io.KnownBytes.{Appends}
 use Rattle.std.specs.Prelude.{IfOk}
 use Rattle.ly_print.specs.TextWriter.{IsCutShort}
 use Rattle.ly_drive.proofs.FaultLemmas.{cut_short, other_fault}
-use Rattle.ly_drive.proofs.SoFarLemmas.{answered, as_needed, at_fault, begins, ended_as_needed, ended_so, ends}
+use Rattle.ly_drive.proofs.SoFarLemmas.{answered, as_needed, asked_for, at_fault, begins, ended_as_needed, ended_so, ends}
 use Rattle.ly_drive.proofs.SoFarLemmas.{given_by, goes_on, settles}
 use Rattle.ly_drive.specs.Private.Reading.{IsReadInto}
 use Rattle.ly_drive.proofs.driving.feed_all.Goals as goal
@@ -204,3 +204,16 @@ returns-in-None-clause-needed g c not =
     let read = subst (λ o. IsReadInto room f before after c.read_into.new.feed (Ok o)) c.in-None.is
     c.in_ok-read_into.ensures.is_read in
     ended_as_needed s given before after f i.so_far most read.1
+
+pub returns-in_err-read_into-clause-asked : goal.returns-in_err-read_into-clause-asked
+returns-in_err-read_into-clause-asked g c is =
+    let before = g.R.Source.remaining c.loop-outcome.reader in
+    let after = g.R.Source.remaining c.read_into.new.reader in
+    let given = g.R.Source.remaining c.args.reader.now in
+    let f = c.loop-outcome.feed in
+    let s = c.args.feed.now.set in
+    let i = c.loop-outcome.invariant in
+    let fault = same_fault c.from_residual.result c.in_err-read_into.field-0.0 Read c.from_residual.ensures.1 is in
+    asked_for s given before after f i.so_far
+    (subst (λ e. IsReadInto (length c.loop-outcome.room) f before after c.read_into.new.feed (Err e)) fault
+    c.in_err-read_into.ensures.is_read)

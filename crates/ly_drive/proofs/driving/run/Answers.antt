@@ -1,6 +1,6 @@
 use Rattle.std.proofs.Common.{◌≡◌, ap, arith, length, subst}
 use Rattle.ly_drive.proofs.SoFarLemmas.{nothing_needed}
-use Rattle.ly_drive.specs.Answering.{IsBegunBy, IsFaultyOn, IsReadAsNeeded}
+use Rattle.ly_drive.specs.Answering.{IsBegunBy, IsFaultyOn, IsOpenBehind, IsReadAsNeeded}
 use Rattle.ly_drive.proofs.driving.run.Goals as goal
 
 pub returns-clause-beginning : goal.returns-clause-beginning
@@ -30,3 +30,9 @@ returns-clause-needed g c not =
     subst (λ n. IsReadAsNeeded n c.args.set.now before after) size
     (subst (λ s. IsReadAsNeeded room s before after) (ap (λ f. f.set) c.in_ok-feed.ensures)
     (c.feed_all-answered.ensures.needed not))
+
+pub returns-clause-asked : goal.returns-clause-asked
+returns-clause-asked g c is =
+    subst (λ s. IsOpenBehind s (g.R.Source.remaining c.args.reader.now)
+    (g.R.Source.remaining c.feed_all-answered.new.reader)) (ap (λ f. f.set) c.in_ok-feed.ensures)
+    (c.feed_all-answered.ensures.asked is)
