@@ -26,6 +26,6 @@ pub fn steady_machine(
     let tables = choose_defaults(alloc, machine(alloc, resolved)?)?;
     // the call's contract says that nothing stands outside of the rows
     let _states = tables.states();
-    steady(alloc, &tables)?;
+    steady(alloc, &tables.view())?;
     Ok(tables)
 }

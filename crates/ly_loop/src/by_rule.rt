@@ -11,7 +11,7 @@ use crate::known::{Edge, Lookup};
 use crate::run::RUN_BOUND;
 use crate::summary::{Ending, Summary};
 use ly_base::{RuleNo, StateNo, Sym};
-use ly_pack::{Machine, Rows, TableAction};
+use ly_pack::{MachineView, Rows, TableAction};
 use std::collections::BTreeMap;
 
 /// What is known of edges, by the numbers of their states.
@@ -25,7 +25,7 @@ const ENDED: Summary = Summary {
 
 /// What the runs of an edge come to whose state on top reduces by these rules.
 pub(crate) fn all_by_rules<A: Rows<TableAction> + Drop, G: Rows<StateNo> + Drop>(
-    machine: &Machine<A, G>,
+    machine: &MachineView<'_, A, G>,
     reductions: &[Vec<RuleNo>],
     rules: &[RuleNo],
     edge: Edge,
@@ -50,7 +50,7 @@ pub(crate) fn all_by_rules<A: Rows<TableAction> + Drop, G: Rows<StateNo> + Drop>
 
 /// What the runs of an edge come to that begin with a reduction by a rule.
 pub(crate) fn by_rule<A: Rows<TableAction> + Drop, G: Rows<StateNo> + Drop>(
-    machine: &Machine<A, G>,
+    machine: &MachineView<'_, A, G>,
     reductions: &[Vec<RuleNo>],
     rule: RuleNo,
     edge: Edge,
@@ -81,7 +81,7 @@ pub(crate) fn by_rule<A: Rows<TableAction> + Drop, G: Rows<StateNo> + Drop>(
 
 /// What the runs of an edge come to that begin with a reduction of nothing: they go on above both its states.
 fn above<A: Rows<TableAction> + Drop, G: Rows<StateNo> + Drop>(
-    machine: &Machine<A, G>,
+    machine: &MachineView<'_, A, G>,
     reductions: &[Vec<RuleNo>],
     edge: Edge,
     left: Sym,
@@ -110,7 +110,7 @@ fn above<A: Rows<TableAction> + Drop, G: Rows<StateNo> + Drop>(
 
 /// What runs come to above one more state, by what they come to without it.
 fn above_one_more<A: Rows<TableAction> + Drop, G: Rows<StateNo> + Drop>(
-    machine: &Machine<A, G>,
+    machine: &MachineView<'_, A, G>,
     reductions: &[Vec<RuleNo>],
     below: StateNo,
     inner: Summary,
@@ -147,7 +147,7 @@ fn above_one_more<A: Rows<TableAction> + Drop, G: Rows<StateNo> + Drop>(
 
 /// What runs come to from a reduction on that takes all above a state away and has this left side.
 fn beside<A: Rows<TableAction> + Drop, G: Rows<StateNo> + Drop>(
-    machine: &Machine<A, G>,
+    machine: &MachineView<'_, A, G>,
     reductions: &[Vec<RuleNo>],
     below: StateNo,
     left: Sym,

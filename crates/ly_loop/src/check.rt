@@ -14,14 +14,14 @@ use crate::known::Known;
 use crate::path::Path;
 use crate::reductions::all_reductions;
 use ly_base::{OutOfMemory, RuleNo, StateNo};
-use ly_pack::{Cell, Machine, Rows, TableAction};
+use ly_pack::{Cell, MachineView, Rows, TableAction};
 use std::alloc::Global;
 
 /// Whether a parser's tables are steady: above each edge, every terminal's run makes at most 100,000 reductions. The
 /// fault names the first edge and the first terminal whose run makes more.
 pub fn steady<A: Rows<TableAction> + Drop, G: Rows<StateNo> + Drop>(
     alloc: Global,
-    machine: &Machine<A, G>,
+    machine: &MachineView<'_, A, G>,
 ) -> Result<(), LoopFault>
     ensures ok { OnOk result (IsSteady machine.now) }
     ensures fault { IfErr result (AreTablesRefused machine.now) }
@@ -37,7 +37,7 @@ pub fn steady<A: Rows<TableAction> + Drop, G: Rows<StateNo> + Drop>(
 /// Whether all states are steady: what they do and where they go are listed.
 fn all_steady<A: Rows<TableAction> + Drop, G: Rows<StateNo> + Drop>(
     alloc: Global,
-    machine: &Machine<A, G>,
+    machine: &MachineView<'_, A, G>,
     entries: &[Vec<Cell<TableAction>>],
     gotos: &[Vec<Cell<StateNo>>],
 ) -> Result<(), LoopFault>
@@ -78,7 +78,7 @@ fn all_steady<A: Rows<TableAction> + Drop, G: Rows<StateNo> + Drop>(
 /// The first run above a state that makes too many reductions: by the least state on top, and then by the least
 /// terminal. The states on top are listed in passing.
 fn first_from<A: Rows<TableAction> + Drop, G: Rows<StateNo> + Drop>(
-    machine: &Machine<A, G>,
+    machine: &MachineView<'_, A, G>,
     entries: &[Vec<Cell<TableAction>>],
     gotos: &[Vec<Cell<StateNo>>],
     reductions: &[Vec<RuleNo>],
@@ -102,7 +102,7 @@ fn first_from<A: Rows<TableAction> + Drop, G: Rows<StateNo> + Drop>(
 
 /// Whether the numbers of states and symbols can count them.
 fn is_countable<A: Rows<TableAction> + Drop, G: Rows<StateNo> + Drop>(
-    machine: &Machine<A, G>,
+    machine: &MachineView<'_, A, G>,
 ) -> bool
     ensures { IsTrue result → IsCountable machine.now }
 {

@@ -10,7 +10,7 @@ use crate::known::{Edge, Known, summary_of};
 use crate::path::{Path, all_end};
 use crate::run::{RUN_BOUND, ends_within};
 use ly_base::{OutOfMemory, RuleNo, StateNo, Sym};
-use ly_pack::{Cell, Machine, Rows, TableAction};
+use ly_pack::{Cell, MachineView, Rows, TableAction};
 
 /// A run that makes too many reductions, above a state that is known.
 #[derive(Clone, Copy)]
@@ -52,7 +52,7 @@ pub(crate) fn targets(
 
 /// The first run above a state that makes too many reductions: by the least target, and then by the least terminal.
 pub(crate) fn first_above<A: Rows<TableAction> + Drop, G: Rows<StateNo> + Drop>(
-    machine: &Machine<A, G>,
+    machine: &MachineView<'_, A, G>,
     entries: &[Vec<Cell<TableAction>>],
     reductions: &[Vec<RuleNo>],
     below: StateNo,
@@ -91,7 +91,7 @@ fn is_lower(top: StateNo, found: Option<Passing>) -> bool
 
 /// The first terminal on which the run of an edge makes too many reductions, if there is one.
 fn first_token<A: Rows<TableAction> + Drop, G: Rows<StateNo> + Drop>(
-    machine: &Machine<A, G>,
+    machine: &MachineView<'_, A, G>,
     entries: &[Vec<Cell<TableAction>>],
     reductions: &[Vec<RuleNo>],
     below: StateNo,
@@ -124,7 +124,7 @@ fn first_token<A: Rows<TableAction> + Drop, G: Rows<StateNo> + Drop>(
 
 /// Whether the run of an edge on a terminal makes at most as many reductions as are allowed.
 fn edge_ends<A: Rows<TableAction> + Drop, G: Rows<StateNo> + Drop>(
-    machine: &Machine<A, G>,
+    machine: &MachineView<'_, A, G>,
     below: StateNo,
     top: StateNo,
     token: Sym,

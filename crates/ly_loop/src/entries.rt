@@ -4,15 +4,15 @@ ghost use Rattle.ly_loop.specs.Private.Entries.{AreAllEntries, AreAllGotos};
 ghost use Rattle.ly_loop.specs.Private.Run.{IsCountable};
 
 use ly_base::{OutOfMemory, StateNo};
-use ly_pack::{Cell, Machine, Rows, TableAction};
+use ly_pack::{Cell, MachineView, Rows, TableAction};
 use std::alloc::Global;
 use std::borrow::CowSlice;
 
 /// What each state does where it isn't its default, in the order of terminals.
-pub(crate) fn all_entries<A: Rows<TableAction> + Drop, G: Rows<StateNo> + Drop>(
+pub(crate) fn all_entries<'a, A: Rows<TableAction> + Drop, G: Rows<StateNo> + Drop>(
     alloc: Global,
-    machine: &Machine<A, G>,
-) -> Result<CowSlice<'_, Vec<Cell<TableAction>>>, OutOfMemory>
+    machine: &MachineView<'a, A, G>,
+) -> Result<CowSlice<'a, Vec<Cell<TableAction>>>, OutOfMemory>
     requires { IsCountable machine.now }
     ensures { IfOk result (λ rows. AreAllEntries machine.now (cow_slice_items rows)) }
 {
@@ -20,10 +20,10 @@ pub(crate) fn all_entries<A: Rows<TableAction> + Drop, G: Rows<StateNo> + Drop>(
 }
 
 /// Where each state goes, in the order of nonterminals.
-pub(crate) fn all_gotos<A: Rows<TableAction> + Drop, G: Rows<StateNo> + Drop>(
+pub(crate) fn all_gotos<'a, A: Rows<TableAction> + Drop, G: Rows<StateNo> + Drop>(
     alloc: Global,
-    machine: &Machine<A, G>,
-) -> Result<CowSlice<'_, Vec<Cell<StateNo>>>, OutOfMemory>
+    machine: &MachineView<'a, A, G>,
+) -> Result<CowSlice<'a, Vec<Cell<StateNo>>>, OutOfMemory>
     requires { IsCountable machine.now }
     ensures { IfOk result (λ rows. AreAllGotos machine.now (cow_slice_items rows)) }
 {

@@ -9,7 +9,7 @@ ghost use Rattle.ly_loop.specs.Private.Run.{IsCountable};
 use crate::by_rule::{all_by_rules, by_rule, look_up};
 use crate::summary::Summary;
 use ly_base::{OutOfMemory, RuleNo, StateNo};
-use ly_pack::{Machine, Rows, TableAction};
+use ly_pack::{MachineView, Rows, TableAction};
 use std::alloc::Global;
 use std::collections::BTreeMap;
 
@@ -77,7 +77,7 @@ impl Known {
 
 /// What the runs of an edge come to, if it can be said. The edges that this takes are worked out before.
 pub(crate) fn summary_of<A: Rows<TableAction> + Drop, G: Rows<StateNo> + Drop>(
-    machine: &Machine<A, G>,
+    machine: &MachineView<'_, A, G>,
     reductions: &[Vec<RuleNo>],
     edge: Edge,
     known: &mut Known,
@@ -103,7 +103,7 @@ pub(crate) fn summary_of<A: Rows<TableAction> + Drop, G: Rows<StateNo> + Drop>(
 
 /// Works out an edge, and before it those that this takes.
 fn seek<A: Rows<TableAction> + Drop, G: Rows<StateNo> + Drop>(
-    machine: &Machine<A, G>,
+    machine: &MachineView<'_, A, G>,
     reductions: &[Vec<RuleNo>],
     edge: Edge,
     known: &mut Known,
@@ -137,7 +137,7 @@ fn begin(edge: Edge, known: &mut Known) -> Result<(), OutOfMemory>
 
 /// Works out the last edge on the agenda, or puts one on it that has to be known first. False where none is left.
 fn work<A: Rows<TableAction> + Drop, G: Rows<StateNo> + Drop>(
-    machine: &Machine<A, G>,
+    machine: &MachineView<'_, A, G>,
     reductions: &[Vec<RuleNo>],
     known: &mut Known,
 ) -> Result<bool, OutOfMemory>
@@ -173,7 +173,7 @@ fn work<A: Rows<TableAction> + Drop, G: Rows<StateNo> + Drop>(
 
 /// The first rule, behind those that are passed, by which the runs of an edge come to one that has to be known first.
 fn first_wanted<A: Rows<TableAction> + Drop, G: Rows<StateNo> + Drop>(
-    machine: &Machine<A, G>,
+    machine: &MachineView<'_, A, G>,
     reductions: &[Vec<RuleNo>],
     rules: &[RuleNo],
     pending: Pending,

@@ -7,7 +7,7 @@ ghost use Rattle.ly_loop.specs.Private.Run.{AreStates, EndsAs, IsCountable, stac
 
 use crate::run::{RUN_BOUND, ends_within, reduce};
 use ly_base::{OutOfMemory, SparseSet, StateNo, Sym};
-use ly_pack::{Cell, Machine, Rows, TableAction};
+use ly_pack::{Cell, MachineView, Rows, TableAction};
 use std::alloc::Global;
 
 /// The path of an edge. Its room is used again from edge to edge.
@@ -47,7 +47,7 @@ impl Path {
 
 /// Whether the runs of an edge end on all terminals, as far as its path shows it.
 pub(crate) fn all_end<A: Rows<TableAction> + Drop, G: Rows<StateNo> + Drop>(
-    machine: &Machine<A, G>,
+    machine: &MachineView<'_, A, G>,
     entries: &[Vec<Cell<TableAction>>],
     below: StateNo,
     top: StateNo,
@@ -77,7 +77,7 @@ pub(crate) fn all_end<A: Rows<TableAction> + Drop, G: Rows<StateNo> + Drop>(
 
 /// One step of a path: the terminals with entries of their own leave it, and the others reduce by the default.
 fn follow<A: Rows<TableAction> + Drop, G: Rows<StateNo> + Drop>(
-    machine: &Machine<A, G>,
+    machine: &MachineView<'_, A, G>,
     entries: &[Vec<Cell<TableAction>>],
     bound: usize,
     path: &mut Path,
@@ -114,7 +114,7 @@ fn follow<A: Rows<TableAction> + Drop, G: Rows<StateNo> + Drop>(
 /// Lets the terminals with entries of their own leave a path, and follows each alone. False where one makes too many
 /// reductions.
 fn settle<A: Rows<TableAction> + Drop, G: Rows<StateNo> + Drop>(
-    machine: &Machine<A, G>,
+    machine: &MachineView<'_, A, G>,
     entries: &[Cell<TableAction>],
     bound: usize,
     path: &mut Path,
@@ -141,7 +141,7 @@ fn settle<A: Rows<TableAction> + Drop, G: Rows<StateNo> + Drop>(
 
 /// Whether the run of a terminal with an entry of its own on top of a stack makes at most so many reductions.
 fn ends_alone<A: Rows<TableAction> + Drop, G: Rows<StateNo> + Drop>(
-    machine: &Machine<A, G>,
+    machine: &MachineView<'_, A, G>,
     entry: Cell<TableAction>,
     bound: usize,
     stack: &[StateNo],

@@ -6,13 +6,13 @@ ghost use Rattle.ly_loop.specs.Private.Reductions.{AreAllReductions, AreReductio
 ghost use Rattle.ly_loop.specs.Private.Run.{IsCountable};
 
 use ly_base::{OutOfMemory, RuleNo, SparseSet, StateNo};
-use ly_pack::{Cell, Machine, Rows, TableAction};
+use ly_pack::{Cell, MachineView, Rows, TableAction};
 use std::alloc::Global;
 
 /// The rules by which each state reduces before some terminal, by its entries or by its default.
 pub(crate) fn all_reductions<A: Rows<TableAction> + Drop, G: Rows<StateNo> + Drop>(
     alloc: Global,
-    machine: &Machine<A, G>,
+    machine: &MachineView<'_, A, G>,
     entries: &[Vec<Cell<TableAction>>],
 ) -> Result<Vec<Vec<RuleNo>>, OutOfMemory>
     requires countable { IsCountable machine.now }
@@ -37,7 +37,7 @@ pub(crate) fn all_reductions<A: Rows<TableAction> + Drop, G: Rows<StateNo> + Dro
 /// The rules by which a state with these entries reduces, each once. The set of those that were seen is room alone.
 fn reductions<A: Rows<TableAction> + Drop, G: Rows<StateNo> + Drop>(
     alloc: Global,
-    machine: &Machine<A, G>,
+    machine: &MachineView<'_, A, G>,
     state: StateNo,
     entries: &[Cell<TableAction>],
     seen: &mut SparseSet,

@@ -4,7 +4,7 @@ ghost use Rattle.ly_pack.specs.Steady.{run_bound};
 ghost use Rattle.ly_loop.specs.Private.Run.{AreStates, EndsAs, IsCountable, MakesReduction, stack_of};
 
 use ly_base::{OutOfMemory, RuleNo, StateNo, Sym};
-use ly_pack::{Machine, Rows, TableAction};
+use ly_pack::{MachineView, Rows, TableAction};
 
 /// How many reductions a run may make.
 pub(crate) const RUN_BOUND: usize = 100_000;
@@ -12,7 +12,7 @@ pub(crate) const RUN_BOUND: usize = 100_000;
 /// Reduces by a rule on a stack of states, its top last. False where the run ends by it, for a goto is missing or the
 /// body goes past the bottom.
 pub(crate) fn reduce<A: Rows<TableAction> + Drop, G: Rows<StateNo> + Drop>(
-    machine: &Machine<A, G>,
+    machine: &MachineView<'_, A, G>,
     rule: RuleNo,
     stack: &mut Vec<StateNo>,
 ) -> Result<bool, OutOfMemory>
@@ -40,7 +40,7 @@ pub(crate) fn reduce<A: Rows<TableAction> + Drop, G: Rows<StateNo> + Drop>(
 
 /// Whether the run on a terminal from a stack makes at most so many reductions.
 pub(crate) fn ends_within<A: Rows<TableAction> + Drop, G: Rows<StateNo> + Drop>(
-    machine: &Machine<A, G>,
+    machine: &MachineView<'_, A, G>,
     token: Sym,
     bound: usize,
     stack: &mut Vec<StateNo>,

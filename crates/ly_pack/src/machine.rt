@@ -86,7 +86,7 @@ impl<A: Rows<TableAction> + Drop, G: Rows<StateNo> + Drop> Machine<A, G> {
         ensures rows { A.rows result.now ≡ states_of self.now }
         ensures width { A.width result.now ≡ self.now.terminals }
     {
-        &self.parts.actions
+        self.view().actions()
     }
 
     /// Where a state goes by a nonterminal: the rows of the states.
@@ -96,7 +96,7 @@ impl<A: Rows<TableAction> + Drop, G: Rows<StateNo> + Drop> Machine<A, G> {
         ensures rows { G.rows result.now ≡ states_of self.now }
         ensures width { G.width result.now ≡ self.now.nonterminals }
     {
-        &self.parts.gotos
+        self.view().gotos()
     }
 
     /// The machine by reference.

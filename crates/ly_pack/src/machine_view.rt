@@ -1,7 +1,8 @@
 ghost use Rattle.std.specs.Prelude.{◌≡◌, ◌<◌, length, map, slice_get, Some, option_map};
 ghost use Rattle.ly_pack.specs.Machine.{action_of, entry_at, goto_at, states_of, IsMachine, IsRuleNumber, IsTableRule};
 ghost use Rattle.ly_pack.specs.Machine.{HaveSizes, AreEntriesWithin};
-ghost use Rattle.ly_pack.specs.Values.{action_from, machine_from, rule_from};
+ghost use Rattle.ly_pack.specs.Rows.{grid_of};
+ghost use Rattle.ly_pack.specs.Values.{action_from, actions_from, gotos_from, machine_from, rule_from};
 
 use crate::action::TableAction;
 use crate::rows::Rows;
@@ -93,6 +94,27 @@ impl<'a, A: Rows<TableAction> + Drop, G: Rows<StateNo> + Drop> MachineView<'a, A
         ensures within { AreEntriesWithin self.now }
     {
         self.defaults.len()
+    }
+
+    /// What is done in a state before a terminal, where it isn't the default: the rows of the states, for as long as the
+    /// tables are borrowed.
+    pub fn actions(&self) -> &'a A
+        ensures entries { self.now.actions
+            ≡ grid_of (states_of self.now) self.now.terminals (actions_from (A.entries result.now)) }
+        ensures rows { A.rows result.now ≡ states_of self.now }
+        ensures width { A.width result.now ≡ self.now.terminals }
+    {
+        self.actions
+    }
+
+    /// Where a state goes by a nonterminal: the rows of the states, for as long as the tables are borrowed.
+    pub fn gotos(&self) -> &'a G
+        ensures entries { self.now.gotos
+            ≡ grid_of (states_of self.now) self.now.nonterminals (gotos_from (G.entries result.now)) }
+        ensures rows { G.rows result.now ≡ states_of self.now }
+        ensures width { G.width result.now ≡ self.now.nonterminals }
+    {
+        self.gotos
     }
 
     /// The rules but rule 0, in their order, for as long as the tables are borrowed.

@@ -1,17 +1,9 @@
 -- What contracts see of table sets.
-use Rattle.std.specs.Prelude.{ℕ, List, Option, map}
+use Rattle.std.specs.Prelude.{map}
 use Rattle.std.specs.Option.{option_map}
-use Rattle.ly_base.specs.declared.numbers.RuleNo.{RuleNo}
-use Rattle.ly_base.specs.declared.numbers.StateNo.{StateNo}
 use Rattle.ly_base.specs.declared.version.Version.TheVariants.{V2}
-use Rattle.std.specs.declared.alloc.Global.{Global}
-use Rattle.std.specs.declared.vec.Vec.{Vec}
-use Rattle.ly_base.specs.declared.numbers.Sym.{Sym}
-use Rattle.ly_pack.specs.Rows.{Comb}
 use Rattle.ly_pack.specs.Steady.{IsSteady}
 use Rattle.ly_pack.specs.Values.{rule_from}
-use Rattle.ly_pack.specs.declared.action.TableAction as action
-use Rattle.ly_pack.specs.declared.rule.TableRule as rule
 use Rattle.ly_tables.specs.Ranges.{IsWithinVersion}
 use Rattle.ly_tables.specs.TableSet.{ScanRule, Starts, TableSet, machine_of}
 use Rattle.ly_tables.specs.declared.scan_rule.ScanRule as scan
@@ -25,29 +17,22 @@ abbrev pub starts_from : start.Starts → Starts
 starts_from c = record { elsewhere = option_map (λ s. s.0) c.elsewhere; at_line = option_map (λ s. s.0) c.at_line }
 
 -- the set of these parts
-abbrev pub set_from : List (Vec ℕ Global) → ℕ → List Sym → List scan.ScanRule → List start.Starts → ℕ → List ℕ
-    → List (Option RuleNo) → Comb StateNo → List rule.TableRule → List (Option RuleNo) → Comb action.TableAction
-    → Comb StateNo → TableSet
-set_from terminals nonterminals literals scan_rules conditions class_count classes accepted scan_rows rules defaults
-    actions gotos = record {
-      terminals = map (λ name. name.items) terminals;
-      nonterminals = nonterminals;
-      literals = map (λ t. t.0) literals;
-      scan_rules = map scan_rule_from scan_rules;
-      conditions = map starts_from conditions;
-      class_count = class_count;
-      classes = classes;
-      accepted = map (option_map (λ p. p.0)) accepted;
-      scan_rows = scan_rows;
-      rules = map rule_from rules;
-      defaults = map (option_map (λ p. p.0)) defaults;
-      actions = actions;
-      gotos = gotos;
-    }
-
 abbrev pub set_of : parts.TableParts → TableSet
-set_of p = set_from p.terminals.items p.nonterminals p.literals.items p.scan_rules.items p.conditions.items
-    p.class_count p.classes.items p.accepted.items p.scan_rows p.rules.items p.defaults.items p.actions p.gotos
+set_of p = record {
+  terminals = map (λ name. name.items) p.terminals.items;
+  nonterminals = p.nonterminals;
+  literals = map (λ t. t.0) p.literals.items;
+  scan_rules = map scan_rule_from p.scan_rules.items;
+  conditions = map starts_from p.conditions.items;
+  class_count = p.class_count;
+  classes = p.classes.items;
+  accepted = map (option_map (λ p. p.0)) p.accepted.items;
+  scan_rows = p.scan_rows;
+  rules = map rule_from p.rules.items;
+  defaults = map (option_map (λ p. p.0)) p.defaults.items;
+  actions = p.actions;
+  gotos = p.gotos;
+}
 
 -- what a set's type keeps: it is within the ranges of version 2, and each run of its parser's tables ends
 abbrev pub IsWithinAndSteady : TableSet → Type 0

@@ -17,18 +17,18 @@ pub(crate) fn is_within(set: &TableSet, version: Version) -> bool
     ensures within { IsTrue result ↔ IsWithinVersion version set.now }
     ensures kept { IsWithinVersion V2 set.now }
 {
-    are_counts_within(set, version) && are_cuts_within(&set.scan_rules, version)
+    are_counts_within(set, version) && are_cuts_within(&set.parts.scan_rules, version)
 }
 
 /// Whether a set has no more symbols, rules and states than a version.
 fn are_counts_within(set: &TableSet, version: Version) -> bool
     ensures { IsTrue result ↔ AreCountsWithin (counts_of version) set.now }
 {
-    set.terminals.len() + set.nonterminals < most_symbols(version)
-        && set.scan_rules.len() <= most_rules(version)
-        && set.accepted.len() <= most_states(version)
-        && set.rules.len() <= most_rules(version)
-        && set.defaults.len() <= most_states(version)
+    set.parts.terminals.len() + set.parts.nonterminals < most_symbols(version)
+        && set.parts.scan_rules.len() <= most_rules(version)
+        && set.parts.accepted.len() <= most_states(version)
+        && set.parts.rules.len() <= most_rules(version)
+        && set.parts.defaults.len() <= most_states(version)
 }
 
 /// Whether the length of each cut is a number of a version.

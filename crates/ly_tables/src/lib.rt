@@ -23,7 +23,6 @@ mod field;
 mod fitting;
 mod format_fault;
 mod front;
-mod laid_rows;
 mod laws;
 mod numbers;
 mod parser_fields;

@@ -25,10 +25,10 @@ pub(crate) fn push_parser(
     requires { IsWithinVersion version set.now }
     ensures { OnOk result (out.new.items ≡ out.old.items ++ parser_sections (width_of version) set.now) }
 {
-    push_rules(out, version, &set.rules)?;
-    push_defaults(out, version, &set.defaults)?;
-    push_comb(out, version, &set.actions)?;
-    push_comb(out, version, &set.gotos)
+    push_rules(out, version, &set.parts.rules)?;
+    push_defaults(out, version, &set.parts.defaults)?;
+    push_comb(out, version, &set.parts.actions)?;
+    push_comb(out, version, &set.parts.gotos)
 }
 
 /// The rules of the parser, and before them how many they are.

@@ -25,12 +25,12 @@ pub(crate) fn push_scanner(
     requires { IsWithinVersion version set.now }
     ensures { OnOk result (out.new.items ≡ out.old.items ++ scanner_sections (width_of version) set.now) }
 {
-    push_scan_rules(out, version, &set.scan_rules)?;
-    push_conditions(out, version, &set.conditions)?;
-    push_count(out, version, set.class_count)?;
-    out.extend_from_slice(&set.classes)?;
-    push_accepted(out, version, &set.accepted)?;
-    push_comb(out, version, &set.scan_rows)
+    push_scan_rules(out, version, &set.parts.scan_rules)?;
+    push_conditions(out, version, &set.parts.conditions)?;
+    push_count(out, version, set.parts.class_count)?;
+    out.extend_from_slice(&set.parts.classes)?;
+    push_accepted(out, version, &set.parts.accepted)?;
+    push_comb(out, version, &set.parts.scan_rows)
 }
 
 /// The rules of the scanner, and before them how many they are.

@@ -29,11 +29,11 @@ pub fn counts(set: &TableSet) -> SetCounts
     ensures parser_states { result.parser_states ≡ length set.now.defaults }
 {
     SetCounts {
-        terminals: set.terminals.len(),
-        nonterminals: set.nonterminals,
-        scanner_rules: set.scan_rules.len(),
-        scanner_states: set.accepted.len(),
-        rules: set.rules.len(),
-        parser_states: set.defaults.len(),
+        terminals: set.parts.terminals.len(),
+        nonterminals: set.parts.nonterminals,
+        scanner_rules: set.parts.scan_rules.len(),
+        scanner_states: set.parts.accepted.len(),
+        rules: set.parts.rules.len(),
+        parser_states: set.parts.defaults.len(),
     }
 }

@@ -8,11 +8,9 @@ ghost use Rattle.ly_tables.specs.TableSet.{machine_of};
 ghost use Rattle.ly_tables.specs.Values.{set_of};
 
 use crate::fault::TableFault;
-use crate::laid_rows::LaidRows;
 use crate::table_parts::TableParts;
 use crate::table_set::TableSet;
 use ly_loop::{LoopFault, steady};
-use ly_pack::{Machine, MachineParts};
 use std::alloc::Global;
 
 /// The set of parts that are within the ranges of version 2, if their parser's tables are steady.
@@ -22,28 +20,10 @@ pub(crate) fn steady_set(alloc: Global, parts: TableParts) -> Result<TableSet, T
     ensures steady { IfOk result (λ s. IsSteady (machine_of s)) }
     ensures refused { IfErr result (IsUnsteady (machine_of (set_of parts))) }
 {
-    let (rules, defaults) = (parts.rules, parts.defaults);
-    let machine = Machine::new(MachineParts {
-        terminals: parts.terminals.len(),
-        nonterminals: parts.nonterminals,
-        actions: LaidRows(&parts.actions),
-        gotos: LaidRows(&parts.gotos),
-        defaults,
-        rules,
-    });
-    if let Err(fault) = steady(alloc, &machine) {
+    if let Err(fault) = steady(alloc, &parts.machine()) {
         return Err(refusal(fault));
     }
-    let MachineParts {
-        defaults,
-        rules,
-        ..
-    } = machine.into_parts();
-    Ok(TableSet::new(TableParts {
-        rules,
-        defaults,
-        ..parts
-    }))
+    Ok(TableSet::new(parts))
 }
 
 /// What a fault of the check is called here.

@@ -19,10 +19,10 @@ pub(crate) fn push_symbols(
     requires { IsWithinVersion version set.now }
     ensures { OnOk result (out.new.items ≡ out.old.items ++ symbol_sections (width_of version) set.now) }
 {
-    push_count(out, version, set.terminals.len())?;
-    push_count(out, version, set.nonterminals)?;
-    push_names(out, &set.terminals)?;
-    push_literals(out, version, &set.literals)
+    push_count(out, version, set.parts.terminals.len())?;
+    push_count(out, version, set.parts.nonterminals)?;
+    push_names(out, &set.parts.terminals)?;
+    push_literals(out, version, &set.parts.literals)
 }
 
 /// The names of terminals.

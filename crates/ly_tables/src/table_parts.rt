@@ -1,7 +1,13 @@
+ghost use Rattle.std.specs.Prelude.{◌≡◌};
+ghost use Rattle.ly_base.specs.declared.version.Version.TheVariants.{V2};
+ghost use Rattle.ly_tables.specs.Ranges.{IsWithinVersion};
+ghost use Rattle.ly_tables.specs.TableSet.{machine_of};
+ghost use Rattle.ly_tables.specs.Values.{set_of};
+
 use crate::scan_rule::ScanRule;
 use crate::starts::Starts;
 use ly_base::{RuleNo, StateNo, Sym};
-use ly_pack::{Comb, TableAction, TableRule};
+use ly_pack::{Comb, MachineView, TableAction, TableRule};
 
 /// What a set of tables is made of.
 #[derive(Drop)]
@@ -32,4 +38,21 @@ pub struct TableParts {
     pub actions: Comb<TableAction>,
     /// Where parser states go: a row for each, a column for each nonterminal.
     pub gotos: Comb<StateNo>,
+}
+
+impl TableParts {
+    /// The parser's tables of parts that are within the ranges of version 2.
+    pub(crate) fn machine(&self) -> MachineView<'_, Comb<TableAction>, Comb<StateNo>>
+        requires { IsWithinVersion V2 (set_of self.now) }
+        ensures { result ≡ machine_of (set_of self.now) }
+    {
+        MachineView::new(
+            self.terminals.len(),
+            self.nonterminals,
+            &self.actions,
+            &self.gotos,
+            &self.defaults,
+            &self.rules,
+        )
+    }
 }

@@ -17,46 +17,18 @@ use std::marker::Model;
 /// table file, and each run of its parser's tables ends.
 #[derive(Drop)]
 pub struct TableSet {
-    /// The printed names of terminals, by their numbers.
-    pub(crate) terminals: Vec<Vec<u8>>,
-    /// How many nonterminals there are, `$accept` not among them.
-    pub(crate) nonterminals: usize,
-    /// The terminal of each byte as a literal.
-    pub(crate) literals: Vec<Sym>,
-    /// The rules of the scanner.
-    pub(crate) scan_rules: Vec<ScanRule>,
-    /// Where each condition begins.
-    pub(crate) conditions: Vec<Starts>,
-    /// How many classes of bytes there are.
-    pub(crate) class_count: usize,
-    /// The class of each byte.
-    pub(crate) classes: Vec<u8>,
-    /// The rule of each scanner state, if it has one.
-    pub(crate) accepted: Vec<Option<RuleNo>>,
-    /// Where scanner states lead, by classes.
-    pub(crate) scan_rows: Comb<StateNo>,
-    /// The rules of the parser but rule 0.
-    pub(crate) rules: Vec<TableRule>,
-    /// The default reduction of each parser state.
-    pub(crate) defaults: Vec<Option<RuleNo>>,
-    /// What is done in a parser state before a terminal.
-    pub(crate) actions: Comb<TableAction>,
-    /// Where a parser state goes by a nonterminal.
-    pub(crate) gotos: Comb<StateNo>,
+    pub(crate) parts: TableParts,
 }
 
 impl Model for TableSet {
     ghost use Rattle.ly_tables.specs.TableSet as value;
-    ghost use Rattle.ly_tables.specs.Values.{set_from, IsWithinAndSteady};
+    ghost use Rattle.ly_tables.specs.Values.{set_of, IsWithinAndSteady};
 
     ghost Value = { value.TableSet };
 
-    ghost view = { λ s. set_from s.terminals.items s.nonterminals s.literals.items s.scan_rules.items s.conditions.items
-        s.class_count s.classes.items s.accepted.items s.scan_rows s.rules.items s.defaults.items s.actions s.gotos };
+    ghost view = { λ s. set_of s.parts };
 
-    ghost invariant = { λ s. IsWithinAndSteady (set_from s.terminals.items s.nonterminals s.literals.items
-        s.scan_rules.items s.conditions.items s.class_count s.classes.items s.accepted.items s.scan_rows s.rules.items
-        s.defaults.items s.actions s.gotos) };
+    ghost invariant = { λ s. IsWithinAndSteady (set_of s.parts) };
 }
 
 impl TableSet {
@@ -68,21 +40,7 @@ impl TableSet {
         ensures within { IsWithinVersion V2 result }
         ensures steady { IsSteady (machine_of result) }
     {
-        TableSet {
-            terminals: parts.terminals,
-            nonterminals: parts.nonterminals,
-            literals: parts.literals,
-            scan_rules: parts.scan_rules,
-            conditions: parts.conditions,
-            class_count: parts.class_count,
-            classes: parts.classes,
-            accepted: parts.accepted,
-            scan_rows: parts.scan_rows,
-            rules: parts.rules,
-            defaults: parts.defaults,
-            actions: parts.actions,
-            gotos: parts.gotos,
-        }
+        TableSet { parts }
     }
 
     /// The parts of the set.
@@ -91,21 +49,8 @@ impl TableSet {
         ensures within { IsWithinVersion V2 self }
         ensures steady { IsSteady (machine_of self) }
     {
-        TableParts {
-            terminals: self.terminals,
-            nonterminals: self.nonterminals,
-            literals: self.literals,
-            scan_rules: self.scan_rules,
-            conditions: self.conditions,
-            class_count: self.class_count,
-            classes: self.classes,
-            accepted: self.accepted,
-            scan_rows: self.scan_rows,
-            rules: self.rules,
-            defaults: self.defaults,
-            actions: self.actions,
-            gotos: self.gotos,
-        }
+        let TableSet { parts } = self;
+        parts
     }
 
     /// The parser's tables.
@@ -114,28 +59,21 @@ impl TableSet {
         ensures within { IsWithinVersion V2 self.now }
         ensures steady { IsSteady (machine_of self.now) }
     {
-        MachineView::new(
-            self.terminals.len(),
-            self.nonterminals,
-            &self.actions,
-            &self.gotos,
-            &self.defaults,
-            &self.rules,
-        )
+        self.parts.machine()
     }
 
     /// The printed names of terminals, by their numbers.
     pub fn terminals(&self) -> &[Vec<u8>]
         ensures { map (λ n. n.items) result.now ≡ self.now.terminals }
     {
-        &self.terminals
+        &self.parts.terminals
     }
 
     /// The rules of the parser but rule 0: the first is rule 1.
     pub fn rules(&self) -> &[TableRule]
         ensures { map rule_from result.now ≡ self.now.rules }
     {
-        &self.rules
+        &self.parts.rules
     }
 
     /// The terminal of each byte as a literal, 1 where there is none.
@@ -143,41 +81,41 @@ impl TableSet {
         ensures literals { map (λ t. t.0) result.now ≡ self.now.literals }
         ensures all { length result.now ≡ 256 }
     {
-        &self.literals
+        &self.parts.literals
     }
 
     /// The rules of the scanner, rule 0 first.
     pub fn scan_rules(&self) -> &[ScanRule]
         ensures { map scan_rule_from result.now ≡ self.now.scan_rules }
     {
-        &self.scan_rules
+        &self.parts.scan_rules
     }
 
     /// Where each condition begins.
     pub fn conditions(&self) -> &[Starts]
         ensures { map starts_from result.now ≡ self.now.conditions }
     {
-        &self.conditions
+        &self.parts.conditions
     }
 
     /// The class of each byte.
     pub fn classes(&self) -> &[u8]
         ensures { result.now ≡ self.now.classes }
     {
-        &self.classes
+        &self.parts.classes
     }
 
     /// The rule of each scanner state, counted from 0, if it has one.
     pub fn accepted(&self) -> &[Option<RuleNo>]
         ensures { map (option_map (λ p. p.0)) result.now ≡ self.now.accepted }
     {
-        &self.accepted
+        &self.parts.accepted
     }
 
     /// Where scanner states lead: a row for each, a column for each class.
     pub fn scan_rows(&self) -> &Comb<StateNo>
         ensures { result.now ≡ self.now.scan_rows }
     {
-        &self.scan_rows
+        &self.parts.scan_rows
     }
 }

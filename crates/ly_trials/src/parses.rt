@@ -181,7 +181,7 @@ fn is_steady_and_answers<A: Rows<TableAction> + Drop, G: Rows<StateNo> + Drop>(
     machine: &Machine<A, G>,
     runs: &[Calls<'_>],
 ) -> bool {
-    match steady(alloc, machine) {
+    match steady(alloc, &machine.view()) {
         Ok(()) => answers_all_so(alloc, machine, runs),
         Err(_) => false,
     }

@@ -14,7 +14,7 @@ pub returns-then-are_counts_within-clause-within : goal.returns-then-are_counts_
 returns-then-are_counts_within-clause-within c =
     let v = c.args.version in
     let w = width_of v in
-    let rules = c.set.inside.scan_rules.items in
+    let rules = c.set.inside.parts.scan_rules.items in
     let fits = λ (rule : ScanRule). CutFits w rule.cut in
     let each = rw c.deref.ensures.value at c.are_cuts_within.ensures in
     let set = subst (IsWithinVersion V2) c.set.view_is c.set.invariant.0 in (

@@ -35,7 +35,7 @@ push_comb-requires-2-clause-slots c = gotos_short c.args.version _
 pub returns : goal.returns
 returns c =
     let w = width_of c.args.version in
-    let i = c.set.inside in
+    let i = c.set.inside.parts in
     subst (λ (s : TableSet). OnOk c.push_comb-2.result
     (c.push_comb-2.new.out.items ≡ c.args.out.now.items ++ parser_sections w s)) c.set.view_is
     (on_ok_weaker c.push_comb-2.result (parser_joined w c.args.out.now.items i.rules.items i.defaults.items

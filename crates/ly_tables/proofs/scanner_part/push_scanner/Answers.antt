@@ -9,7 +9,7 @@ use Rattle.ly_tables.proofs.scanner_part.push_scanner.Goals as goal
 
 pub returns : goal.returns
 returns c =
-    let i = c.set.inside in
+    let i = c.set.inside.parts in
     let w = width_of c.args.version in
     subst (λ (s : TableSet). OnOk c.push_comb.result
     (c.push_comb.new.out.items ≡ c.args.out.now.items ++ scanner_sections w s)) c.set.view_is

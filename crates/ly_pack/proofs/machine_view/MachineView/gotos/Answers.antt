@@ -1,6 +1,6 @@
 use Rattle.std.proofs.Common.{◌∙◌, ap}
 use Rattle.ly_pack.proofs.GridLemmas.{gotos-machine, states-machine}
-use Rattle.ly_pack.proofs.machine.Machine.gotos.Goals as goal
+use Rattle.ly_pack.proofs.machine_view.MachineView.gotos.Goals as goal
 
 pub returns-clause-entries : goal.returns-clause-entries
 returns-clause-entries g c = gotos-machine c.args.self.now _ _ _ _ _ _ c.self.view_is

@@ -1,6 +1,6 @@
 use Rattle.std.proofs.Common.{◌∙◌, ap}
 use Rattle.ly_pack.proofs.GridLemmas.{actions-machine, states-machine}
-use Rattle.ly_pack.proofs.machine.Machine.actions.Goals as goal
+use Rattle.ly_pack.proofs.machine_view.MachineView.actions.Goals as goal
 
 pub returns-clause-entries : goal.returns-clause-entries
 returns-clause-entries g c = actions-machine c.args.self.now _ _ _ _ _ _ c.self.view_is
