@@ -4,14 +4,14 @@ ghost use Rattle.ly_pack.specs.Machine.{IsRuleNumber, states_of};
 ghost use Rattle.ly_pack.specs.Steady.{run_bound};
 ghost use Rattle.ly_loop.specs.Private.Known.{AreKnown, IsKept, IsLonger, IsLookup, IsLow, IsWithinStates};
 ghost use Rattle.ly_loop.specs.Private.Summary.{IsAllowed, IsBehind, IsGone, IsSummary, IsSummaryBy};
-ghost use Rattle.ly_loop.specs.Private.Reductions.{AreAllReductions, AreReductions};
-ghost use Rattle.ly_loop.specs.Private.Run.{IsCountable};
+ghost use Rattle.ly_loop.specs.Private.Reductions.{AreReductions};
 
 use crate::known::{Edge, Lookup};
+use crate::listed::Listed;
 use crate::run::RUN_BOUND;
 use crate::summary::{Ending, Summary};
 use ly_base::{RuleNo, StateNo, Sym};
-use ly_pack::{MachineView, Rows, TableAction};
+use ly_pack::{Rows, TableAction};
 use std::collections::BTreeMap;
 
 /// What is known of edges, by the numbers of their states.
@@ -23,146 +23,105 @@ const ENDED: Summary = Summary {
     ending: Ending::Over,
 };
 
-/// What the runs of an edge come to whose state on top reduces by these rules.
-pub(crate) fn all_by_rules<A: Rows<TableAction> + Drop, G: Rows<StateNo> + Drop>(
-    machine: &MachineView<'_, A, G>,
-    reductions: &[Vec<RuleNo>],
-    rules: &[RuleNo],
-    edge: Edge,
-    summaries: &Summaries,
-) -> Lookup
-    requires countable { IsCountable machine.now }
-    requires reductions { AreAllReductions machine.now reductions.now }
-    requires edge { IsWithinStates machine.now edge }
-    requires rules { AreReductions machine.now edge.top.0 rules.now }
-    requires known { AreKnown machine.now summaries.now }
-    ensures { IsLookup machine.now (IsSummary machine.now edge.below.0 edge.top.0) result }
-{
-    let mut all = ENDED;
-    for rule in rules {
-        match by_rule(machine, reductions, *rule, edge, summaries) {
-            Lookup::Known(summary) => all = all.joined(summary),
-            other => return other,
-        }
-    }
-    Lookup::Known(all)
-}
-
-/// What the runs of an edge come to that begin with a reduction by a rule.
-pub(crate) fn by_rule<A: Rows<TableAction> + Drop, G: Rows<StateNo> + Drop>(
-    machine: &MachineView<'_, A, G>,
-    reductions: &[Vec<RuleNo>],
-    rule: RuleNo,
-    edge: Edge,
-    summaries: &Summaries,
-) -> Lookup
-    requires countable { IsCountable machine.now }
-    requires reductions { AreAllReductions machine.now reductions.now }
-    requires rule { IsRuleNumber machine.now rule.0 }
-    requires edge { IsWithinStates machine.now edge }
-    requires known { AreKnown machine.now summaries.now }
-    ensures { IsLookup machine.now (IsSummaryBy machine.now edge.below.0 edge.top.0 rule.0) result }
-{
-    let rule = machine.rule(rule);
-    if rule.body_length == 0 {
-        return above(machine, reductions, edge, rule.left, summaries);
-    }
-    if rule.body_length == 1 {
-        return beside(machine, reductions, edge.below, rule.left, summaries);
-    }
-    Lookup::Known(Summary {
-        most: 0,
-        ending: Ending::Leaves {
-            rest: rule.body_length - 2,
-            left: rule.left,
-        },
-    })
-}
-
-/// What the runs of an edge come to that begin with a reduction of nothing: they go on above both its states.
-fn above<A: Rows<TableAction> + Drop, G: Rows<StateNo> + Drop>(
-    machine: &MachineView<'_, A, G>,
-    reductions: &[Vec<RuleNo>],
-    edge: Edge,
-    left: Sym,
-    summaries: &Summaries,
-) -> Lookup
-    requires countable { IsCountable machine.now }
-    requires reductions { AreAllReductions machine.now reductions.now }
-    requires edge { IsWithinStates machine.now edge }
-    requires left { left.0 < machine.now.nonterminals }
-    requires known { AreKnown machine.now summaries.now }
-    ensures { IsLookup machine.now (IsGone machine.now edge.top.0 (edge.below.0 ∷ []) left.0) result }
-{
-    let Some(next) = machine.goto(edge.top, left) else {
-        return Lookup::Known(ENDED);
-    };
-    let upper = Edge {
-        below: edge.top,
-        top: next,
-    };
-    let found = match look_up(reductions, summaries, upper) {
-        Lookup::Known(inner) => above_one_more(machine, reductions, edge.below, inner, summaries),
-        found => found,
-    };
-    longer(1, found)
-}
-
-/// What runs come to above one more state, by what they come to without it.
-fn above_one_more<A: Rows<TableAction> + Drop, G: Rows<StateNo> + Drop>(
-    machine: &MachineView<'_, A, G>,
-    reductions: &[Vec<RuleNo>],
-    below: StateNo,
-    inner: Summary,
-    summaries: &Summaries,
-) -> Lookup
-    requires countable { IsCountable machine.now }
-    requires reductions { AreAllReductions machine.now reductions.now }
-    requires below { below.0 < states_of machine.now }
-    requires inner { IsAllowed machine.now inner }
-    requires known { AreKnown machine.now summaries.now }
-    ensures { IsLookup machine.now (IsBehind machine.now below.0 inner) result }
-{
-    match inner.ending {
-        Ending::Over => Lookup::Known(inner),
-        Ending::Leaves { rest, left } => {
-            if rest == 0 {
-                longer(
-                    inner.most,
-                    beside(machine, reductions, below, left, summaries),
-                )
-            } else {
-                Lookup::Known(Summary {
-                    most: inner.most,
-                    ending: Ending::Leaves {
-                        rest: rest - 1,
-                        left,
-                    },
-                })
+impl<A: Rows<TableAction> + Drop, G: Rows<StateNo> + Drop> Listed<'_, A, G> {
+    /// What the runs of an edge come to whose state on top reduces by these rules.
+    pub(crate) fn all_by_rules(&self, rules: &[RuleNo], edge: Edge, summaries: &Summaries) -> Lookup
+        requires edge { IsWithinStates self.now edge }
+        requires rules { AreReductions self.now edge.top.0 rules.now }
+        requires known { AreKnown self.now summaries.now }
+        ensures { IsLookup self.now (IsSummary self.now edge.below.0 edge.top.0) result }
+    {
+        let mut all = ENDED;
+        for rule in rules {
+            match self.by_rule(*rule, edge, summaries) {
+                Lookup::Known(summary) => all = all.joined(summary),
+                other => return other,
             }
         }
-        Ending::Mixed => Lookup::Unknown,
+        Lookup::Known(all)
     }
-}
 
-/// What runs come to from a reduction on that takes all above a state away and has this left side.
-fn beside<A: Rows<TableAction> + Drop, G: Rows<StateNo> + Drop>(
-    machine: &MachineView<'_, A, G>,
-    reductions: &[Vec<RuleNo>],
-    below: StateNo,
-    left: Sym,
-    summaries: &Summaries,
-) -> Lookup
-    requires countable { IsCountable machine.now }
-    requires reductions { AreAllReductions machine.now reductions.now }
-    requires below { below.0 < states_of machine.now }
-    requires left { left.0 < machine.now.nonterminals }
-    requires known { AreKnown machine.now summaries.now }
-    ensures { IsLookup machine.now (IsGone machine.now below.0 [] left.0) result }
-{
-    match machine.goto(below, left) {
-        Some(top) => longer(1, look_up(reductions, summaries, Edge { below, top })),
-        None => Lookup::Known(ENDED),
+    /// What the runs of an edge come to that begin with a reduction by a rule.
+    pub(crate) fn by_rule(&self, rule: RuleNo, edge: Edge, summaries: &Summaries) -> Lookup
+        requires rule { IsRuleNumber self.now rule.0 }
+        requires edge { IsWithinStates self.now edge }
+        requires known { AreKnown self.now summaries.now }
+        ensures { IsLookup self.now (IsSummaryBy self.now edge.below.0 edge.top.0 rule.0) result }
+    {
+        let rule = self.machine.rule(rule);
+        if rule.body_length == 0 {
+            return self.above(edge, rule.left, summaries);
+        }
+        if rule.body_length == 1 {
+            return self.beside(edge.below, rule.left, summaries);
+        }
+        Lookup::Known(Summary {
+            most: 0,
+            ending: Ending::Leaves {
+                rest: rule.body_length - 2,
+                left: rule.left,
+            },
+        })
+    }
+
+    /// What the runs of an edge come to that begin with a reduction of nothing: they go on above both its states.
+    fn above(&self, edge: Edge, left: Sym, summaries: &Summaries) -> Lookup
+        requires edge { IsWithinStates self.now edge }
+        requires left { left.0 < self.now.nonterminals }
+        requires known { AreKnown self.now summaries.now }
+        ensures { IsLookup self.now (IsGone self.now edge.top.0 (edge.below.0 ∷ []) left.0) result }
+    {
+        let Some(next) = self.machine.goto(edge.top, left) else {
+            return Lookup::Known(ENDED);
+        };
+        let upper = Edge {
+            below: edge.top,
+            top: next,
+        };
+        let found = match look_up(self.reductions, summaries, upper) {
+            Lookup::Known(inner) => self.above_one_more(edge.below, inner, summaries),
+            found => found,
+        };
+        longer(1, found)
+    }
+
+    /// What runs come to above one more state, by what they come to without it.
+    fn above_one_more(&self, below: StateNo, inner: Summary, summaries: &Summaries) -> Lookup
+        requires below { below.0 < states_of self.now }
+        requires inner { IsAllowed self.now inner }
+        requires known { AreKnown self.now summaries.now }
+        ensures { IsLookup self.now (IsBehind self.now below.0 inner) result }
+    {
+        match inner.ending {
+            Ending::Over => Lookup::Known(inner),
+            Ending::Leaves { rest, left } => {
+                if rest == 0 {
+                    longer(inner.most, self.beside(below, left, summaries))
+                } else {
+                    Lookup::Known(Summary {
+                        most: inner.most,
+                        ending: Ending::Leaves {
+                            rest: rest - 1,
+                            left,
+                        },
+                    })
+                }
+            }
+            Ending::Mixed => Lookup::Unknown,
+        }
+    }
+
+    /// What runs come to from a reduction on that takes all above a state away and has this left side.
+    fn beside(&self, below: StateNo, left: Sym, summaries: &Summaries) -> Lookup
+        requires below { below.0 < states_of self.now }
+        requires left { left.0 < self.now.nonterminals }
+        requires known { AreKnown self.now summaries.now }
+        ensures { IsLookup self.now (IsGone self.now below.0 [] left.0) result }
+    {
+        match self.machine.goto(below, left) {
+            Some(top) => longer(1, look_up(self.reductions, summaries, Edge { below, top })),
+            None => Lookup::Known(ENDED),
+        }
     }
 }
 

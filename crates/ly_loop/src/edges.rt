@@ -2,14 +2,13 @@ ghost use Rattle.std.specs.Prelude.{◌<◌, ◌≡◌, [], ◌∷◌, length, I
 ghost use Rattle.ly_pack.specs.Machine.{states_of};
 ghost use Rattle.ly_pack.specs.Steady.{run_bound};
 ghost use Rattle.ly_loop.specs.Private.Edges.{AreTargets, AreTargetsOf, IsFirstAbove, IsFirstToken, IsLower, IsWork};
-ghost use Rattle.ly_loop.specs.Private.Entries.{AreAllEntries};
-ghost use Rattle.ly_loop.specs.Private.Reductions.{AreAllReductions};
 ghost use Rattle.ly_loop.specs.Private.Run.{EndsAs, IsCountable};
 
-use crate::known::{Edge, Known, summary_of};
+use crate::known::{Edge, Known};
+use crate::listed::Listed;
 use crate::path::{Path, all_end};
 use crate::run::{RUN_BOUND, ends_within};
-use ly_base::{OutOfMemory, RuleNo, StateNo, Sym};
+use ly_base::{OutOfMemory, StateNo, Sym};
 use ly_pack::{Cell, MachineView, Rows, TableAction};
 
 /// A run that makes too many reductions, above a state that is known.
@@ -50,33 +49,63 @@ pub(crate) fn targets(
     Ok(())
 }
 
-/// The first run above a state that makes too many reductions: by the least target, and then by the least terminal.
-pub(crate) fn first_above<A: Rows<TableAction> + Drop, G: Rows<StateNo> + Drop>(
-    machine: &MachineView<'_, A, G>,
-    entries: &[Vec<Cell<TableAction>>],
-    reductions: &[Vec<RuleNo>],
-    below: StateNo,
-    targets: &[StateNo],
-    work: &mut Work,
-) -> Result<Option<Passing>, OutOfMemory>
-    requires countable { IsCountable machine.now }
-    requires entries { AreAllEntries machine.now entries.now }
-    requires reductions { AreAllReductions machine.now reductions.now }
-    requires below { below.0 < states_of machine.now }
-    requires targets { AreTargets machine.now below.0 targets.now }
-    requires work { IsWork machine.now work.old }
-    ensures work { OnOk result (IsWork machine.now work.new) }
-    ensures first { IfOk result (IsFirstAbove machine.now below.0 targets.now) }
-{
-    let mut first: Option<Passing> = None;
-    for top in targets {
-        if is_lower(*top, first) {
-            if let Some(token) = first_token(machine, entries, reductions, below, *top, work)? {
-                first = Some(Passing { top: *top, token });
+impl<A: Rows<TableAction> + Drop, G: Rows<StateNo> + Drop> Listed<'_, A, G> {
+    /// The first run above a state that makes too many reductions: by the least target, and then by the least terminal.
+    pub(crate) fn first_above(
+        &self,
+        below: StateNo,
+        targets: &[StateNo],
+        work: &mut Work,
+    ) -> Result<Option<Passing>, OutOfMemory>
+        requires below { below.0 < states_of self.now }
+        requires targets { AreTargets self.now below.0 targets.now }
+        requires work { IsWork self.now work.old }
+        ensures work { OnOk result (IsWork self.now work.new) }
+        ensures first { IfOk result (IsFirstAbove self.now below.0 targets.now) }
+    {
+        // the type's invariant says that the targets are states
+        let _machine = self.machine;
+        let mut first: Option<Passing> = None;
+        for top in targets {
+            if is_lower(*top, first) {
+                if let Some(token) = self.first_token(below, *top, work)? {
+                    first = Some(Passing { top: *top, token });
+                }
             }
         }
+        Ok(first)
     }
-    Ok(first)
+
+    /// The first terminal on which the run of an edge makes too many reductions, if there is one.
+    fn first_token(
+        &self,
+        below: StateNo,
+        top: StateNo,
+        work: &mut Work,
+    ) -> Result<Option<Sym>, OutOfMemory>
+        requires below { below.0 < states_of self.now }
+        requires top { top.0 < states_of self.now }
+        requires work { IsWork self.now work.old }
+        ensures work { OnOk result (IsWork self.now work.new) }
+        ensures first { IfOk result (IsFirstToken self.now below.0 top.0) }
+    {
+        if self
+            .summary_of(Edge { below, top }, &mut work.known)?
+            .is_some()
+        {
+            return Ok(None);
+        }
+        if all_end(self.machine, self.entries, below, top, &mut work.path)? {
+            return Ok(None);
+        }
+        for number in 0..self.machine.terminals() {
+            let token = Sym(number as u32);
+            if !edge_ends(self.machine, below, top, token, &mut work.path.alone)? {
+                return Ok(Some(token));
+            }
+        }
+        Ok(None)
+    }
 }
 
 /// Whether a target comes before that of a run that was found, if there is one.
@@ -87,39 +116,6 @@ fn is_lower(top: StateNo, found: Option<Passing>) -> bool
         Some(passing) => top.0 < passing.top.0,
         None => true,
     }
-}
-
-/// The first terminal on which the run of an edge makes too many reductions, if there is one.
-fn first_token<A: Rows<TableAction> + Drop, G: Rows<StateNo> + Drop>(
-    machine: &MachineView<'_, A, G>,
-    entries: &[Vec<Cell<TableAction>>],
-    reductions: &[Vec<RuleNo>],
-    below: StateNo,
-    top: StateNo,
-    work: &mut Work,
-) -> Result<Option<Sym>, OutOfMemory>
-    requires countable { IsCountable machine.now }
-    requires entries { AreAllEntries machine.now entries.now }
-    requires reductions { AreAllReductions machine.now reductions.now }
-    requires below { below.0 < states_of machine.now }
-    requires top { top.0 < states_of machine.now }
-    requires work { IsWork machine.now work.old }
-    ensures work { OnOk result (IsWork machine.now work.new) }
-    ensures first { IfOk result (IsFirstToken machine.now below.0 top.0) }
-{
-    if summary_of(machine, reductions, Edge { below, top }, &mut work.known)?.is_some() {
-        return Ok(None);
-    }
-    if all_end(machine, entries, below, top, &mut work.path)? {
-        return Ok(None);
-    }
-    for number in 0..machine.terminals() {
-        let token = Sym(number as u32);
-        if !edge_ends(machine, below, top, token, &mut work.path.alone)? {
-            return Ok(Some(token));
-        }
-    }
-    Ok(None)
 }
 
 /// Whether the run of an edge on a terminal makes at most as many reductions as are allowed.

@@ -3,13 +3,13 @@ ghost use Rattle.std.specs.Prelude.{◌≡◌, ◌++◌, [], ◌∷◌, IfOk, If
 ghost use Rattle.std.specs.BTreeMap.{IsEmpty};
 ghost use Rattle.ly_loop.specs.Private.Known.{AreKnown, ArePending, IsNoMore, IsSummaryOf, IsWithinStates};
 ghost use Rattle.ly_loop.specs.Private.Summary.{IsSummary};
-ghost use Rattle.ly_loop.specs.Private.Reductions.{AreAllReductions, AreReductions};
-ghost use Rattle.ly_loop.specs.Private.Run.{IsCountable};
+ghost use Rattle.ly_loop.specs.Private.Reductions.{AreReductions};
 
-use crate::by_rule::{all_by_rules, by_rule, look_up};
+use crate::by_rule::look_up;
+use crate::listed::Listed;
 use crate::summary::Summary;
 use ly_base::{OutOfMemory, RuleNo, StateNo};
-use ly_pack::{MachineView, Rows, TableAction};
+use ly_pack::{Rows, TableAction};
 use std::alloc::Global;
 use std::collections::BTreeMap;
 
@@ -75,53 +75,89 @@ impl Known {
     }
 }
 
-/// What the runs of an edge come to, if it can be said. The edges that this takes are worked out before.
-pub(crate) fn summary_of<A: Rows<TableAction> + Drop, G: Rows<StateNo> + Drop>(
-    machine: &MachineView<'_, A, G>,
-    reductions: &[Vec<RuleNo>],
-    edge: Edge,
-    known: &mut Known,
-) -> Result<Option<Summary>, OutOfMemory>
-    requires countable { IsCountable machine.now }
-    requires reductions { AreAllReductions machine.now reductions.now }
-    requires edge { IsWithinStates machine.now edge }
-    requires known { AreKnown machine.now known.old.summaries }
-    ensures known { OnOk result (AreKnown machine.now known.new.summaries) }
-    ensures summary { IfOk result (λ found. IfSome found (IsSummary machine.now edge.below.0 edge.top.0)) }
-{
-    let rules = &reductions[edge.top.0 as usize];
-    let found = all_by_rules(machine, reductions, rules, edge, &known.summaries);
-    match found {
-        Lookup::Known(summary) => Ok(Some(summary)),
-        Lookup::Unknown => Ok(None),
-        Lookup::Wanted(_) => {
-            seek(machine, reductions, edge, known)?;
-            Ok(look_up(reductions, &known.summaries, edge).summary())
+impl<A: Rows<TableAction> + Drop, G: Rows<StateNo> + Drop> Listed<'_, A, G> {
+    /// What the runs of an edge come to, if it can be said. The edges that this takes are worked out before.
+    pub(crate) fn summary_of(
+        &self,
+        edge: Edge,
+        known: &mut Known,
+    ) -> Result<Option<Summary>, OutOfMemory>
+        requires edge { IsWithinStates self.now edge }
+        requires known { AreKnown self.now known.old.summaries }
+        ensures known { OnOk result (AreKnown self.now known.new.summaries) }
+        ensures summary { IfOk result (λ found. IfSome found (IsSummary self.now edge.below.0 edge.top.0)) }
+    {
+        let rules = &self.reductions[edge.top.0 as usize];
+        let found = self.all_by_rules(rules, edge, &known.summaries);
+        match found {
+            Lookup::Known(summary) => Ok(Some(summary)),
+            Lookup::Unknown => Ok(None),
+            Lookup::Wanted(_) => {
+                self.seek(edge, known)?;
+                Ok(look_up(self.reductions, &known.summaries, edge).summary())
+            }
         }
     }
-}
 
-/// Works out an edge, and before it those that this takes.
-fn seek<A: Rows<TableAction> + Drop, G: Rows<StateNo> + Drop>(
-    machine: &MachineView<'_, A, G>,
-    reductions: &[Vec<RuleNo>],
-    edge: Edge,
-    known: &mut Known,
-) -> Result<(), OutOfMemory>
-    requires countable { IsCountable machine.now }
-    requires reductions { AreAllReductions machine.now reductions.now }
-    requires edge { IsWithinStates machine.now edge }
-    requires known { AreKnown machine.now known.old.summaries }
-    ensures { OnOk result (AreKnown machine.now known.new.summaries) }
-{
-    known.agenda.clear();
-    begin(edge, known)?;
-    for _turn in 0..u64::MAX {
-        if !work(machine, reductions, known)? {
-            break;
+    /// Works out an edge, and before it those that this takes.
+    fn seek(&self, edge: Edge, known: &mut Known) -> Result<(), OutOfMemory>
+        requires edge { IsWithinStates self.now edge }
+        requires known { AreKnown self.now known.old.summaries }
+        ensures { OnOk result (AreKnown self.now known.new.summaries) }
+    {
+        known.agenda.clear();
+        begin(edge, known)?;
+        for _turn in 0..u64::MAX {
+            if !self.work(known)? {
+                break;
+            }
         }
+        Ok(())
     }
-    Ok(())
+
+    /// Works out the last edge on the agenda, or puts one on it that has to be known first. False where none is left.
+    fn work(&self, known: &mut Known) -> Result<bool, OutOfMemory>
+        requires known { AreKnown self.now known.old.summaries }
+        requires agenda { ArePending self.now known.old.agenda.items }
+        ensures known { OnOk result (AreKnown self.now known.new.summaries) }
+        ensures agenda { OnOk result (ArePending self.now known.new.agenda.items) }
+    {
+        let Some(pending) = known.agenda.pop() else {
+            return Ok(false);
+        };
+        let edge = pending.edge;
+        let rules = &self.reductions[edge.top.0 as usize];
+        if let Some((passed, wanted)) = self.first_wanted(rules, pending, &known.summaries) {
+            known.agenda.push(Pending { edge, passed })?;
+            begin(wanted, known)?;
+        } else {
+            let found = self.all_by_rules(rules, edge, &known.summaries);
+            known
+                .summaries
+                .insert((edge.below.0, edge.top.0), found.summary())?;
+        }
+        Ok(true)
+    }
+
+    /// The first rule, behind those that are passed, by which the runs of an edge come to one that has to be known first.
+    fn first_wanted(
+        &self,
+        rules: &[RuleNo],
+        pending: Pending,
+        summaries: &BTreeMap<(u32, u32), Option<Summary>>,
+    ) -> Option<(usize, Edge)>
+        requires rules { AreReductions self.now pending.edge.top.0 rules.now }
+        requires edge { IsWithinStates self.now pending.edge }
+        requires known { AreKnown self.now summaries.now }
+        ensures { IfSome result (λ found. IsWithinStates self.now found.1) }
+    {
+        for place in pending.passed..rules.len() {
+            if let Lookup::Wanted(edge) = self.by_rule(rules[place], pending.edge, summaries) {
+                return Some((place, edge));
+            }
+        }
+        None
+    }
 }
 
 /// Puts an edge on the agenda.
@@ -133,69 +169,4 @@ fn begin(edge: Edge, known: &mut Known) -> Result<(), OutOfMemory>
     known.summaries.insert((edge.below.0, edge.top.0), None)?;
     known.agenda.push(Pending { edge, passed: 0 })?;
     Ok(())
-}
-
-/// Works out the last edge on the agenda, or puts one on it that has to be known first. False where none is left.
-fn work<A: Rows<TableAction> + Drop, G: Rows<StateNo> + Drop>(
-    machine: &MachineView<'_, A, G>,
-    reductions: &[Vec<RuleNo>],
-    known: &mut Known,
-) -> Result<bool, OutOfMemory>
-    requires countable { IsCountable machine.now }
-    requires reductions { AreAllReductions machine.now reductions.now }
-    requires known { AreKnown machine.now known.old.summaries }
-    requires agenda { ArePending machine.now known.old.agenda.items }
-    ensures known { OnOk result (AreKnown machine.now known.new.summaries) }
-    ensures agenda { OnOk result (ArePending machine.now known.new.agenda.items) }
-{
-    let Some(pending) = known.agenda.pop() else {
-        return Ok(false);
-    };
-    let edge = pending.edge;
-    let rules = &reductions[edge.top.0 as usize];
-    if let Some((passed, wanted)) = first_wanted(
-        machine,
-        reductions,
-        rules,
-        pending,
-        &known.summaries,
-    ) {
-        known.agenda.push(Pending { edge, passed })?;
-        begin(wanted, known)?;
-    } else {
-        let found = all_by_rules(machine, reductions, rules, edge, &known.summaries);
-        known
-            .summaries
-            .insert((edge.below.0, edge.top.0), found.summary())?;
-    }
-    Ok(true)
-}
-
-/// The first rule, behind those that are passed, by which the runs of an edge come to one that has to be known first.
-fn first_wanted<A: Rows<TableAction> + Drop, G: Rows<StateNo> + Drop>(
-    machine: &MachineView<'_, A, G>,
-    reductions: &[Vec<RuleNo>],
-    rules: &[RuleNo],
-    pending: Pending,
-    summaries: &BTreeMap<(u32, u32), Option<Summary>>,
-) -> Option<(usize, Edge)>
-    requires countable { IsCountable machine.now }
-    requires reductions { AreAllReductions machine.now reductions.now }
-    requires rules { AreReductions machine.now pending.edge.top.0 rules.now }
-    requires edge { IsWithinStates machine.now pending.edge }
-    requires known { AreKnown machine.now summaries.now }
-    ensures { IfSome result (λ found. IsWithinStates machine.now found.1) }
-{
-    for place in pending.passed..rules.len() {
-        if let Lookup::Wanted(edge) = by_rule(
-            machine,
-            reductions,
-            rules[place],
-            pending.edge,
-            summaries,
-        ) {
-            return Some((place, edge));
-        }
-    }
-    None
 }

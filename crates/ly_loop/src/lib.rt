@@ -22,6 +22,7 @@ mod edges;
 mod entries;
 mod fault;
 mod known;
+mod listed;
 mod path;
 mod reductions;
 mod run;

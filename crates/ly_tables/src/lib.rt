@@ -42,6 +42,7 @@ mod scanner_meaning;
 mod scanner_part;
 mod scanner_ranges;
 mod scanner_sections;
+mod section;
 mod sections;
 mod set_counts;
 mod starts;

@@ -23,6 +23,7 @@ pub fn read_tables(alloc: Global, bytes: &[u8]) -> Result<(TableSet, Version), T
 {
     let (raw, version) = read_raw(alloc, bytes)?;
     if let Some(section) = section_out(version, &raw) {
+        let section = section.number();
         return Err(TableFault::OutOfRange { section });
     }
     let parts = table_parts(alloc, version, raw)?;

@@ -2,6 +2,8 @@
 ghost use Rattle.std.specs.Prelude.{◌≡◌, IfSome, None};
 ghost use Rattle.ly_tables.specs.Private.RawValues.{raw_from};
 ghost use Rattle.ly_tables.specs.Private.SectionOrder.{AreAllWithin, AreFileNumbers, AreWithinBefore, IsFirstNumber};
+ghost use Rattle.ly_tables.specs.Private.SectionOrder.{section_from};
+ghost use Rattle.ly_tables.specs.RawSections.{rule_section, section_number};
 
 use crate::raw_tables::RawTables;
 use crate::row_ranges::{actions_within, gotos_within, scan_rows_within};
@@ -9,69 +11,70 @@ use crate::rule_ranges::{defaults_within, rules_within};
 use crate::scanner_ranges::{
     accepted_within, classes_within, conditions_within, scan_rules_within,
 };
+use crate::section::Section;
 use crate::symbol_ranges::{literals_within, symbols_within};
 use ly_base::Version;
 
-/// The number of the first section that is out of its ranges, if one is.
-pub(crate) fn section_out(version: Version, raw: &RawTables) -> Option<u8>
+/// The first section that is out of its ranges, if one is.
+pub(crate) fn section_out(version: Version, raw: &RawTables) -> Option<Section>
     requires { AreFileNumbers version (raw_from raw.now) }
     ensures none { result ≡ None → AreAllWithin version (raw_from raw.now) }
-    ensures some { IfSome result (IsFirstNumber version (raw_from raw.now)) }
+    ensures some { IfSome result (λ s. IsFirstNumber version (raw_from raw.now) (section_number (section_from s))) }
 {
     match scanner_section_out(version, raw) {
-        Some(number) => Some(number),
+        Some(section) => Some(section),
         None => parser_section_out(version, raw),
     }
 }
 
-/// The number of the first section of the symbols and the scanner that is out of its ranges, if one is.
-fn scanner_section_out(version: Version, raw: &RawTables) -> Option<u8>
+/// The first section of the symbols and the scanner that is out of its ranges, if one is.
+fn scanner_section_out(version: Version, raw: &RawTables) -> Option<Section>
     requires { AreFileNumbers version (raw_from raw.now) }
-    ensures none { result ≡ None → AreWithinBefore version (raw_from raw.now) 9 }
-    ensures some { IfSome result (IsFirstNumber version (raw_from raw.now)) }
+    ensures none { result ≡ None → AreWithinBefore version (raw_from raw.now) (section_number rule_section) }
+    ensures some { IfSome result (λ s. IsFirstNumber version (raw_from raw.now) (section_number (section_from s))) }
 {
     if !symbols_within(version, raw) {
-        return Some(2);
+        return Some(Section::Symbols);
     }
     if !literals_within(raw) {
-        return Some(3);
+        return Some(Section::Literals);
     }
     if !scan_rules_within(version, raw) {
-        return Some(4);
+        return Some(Section::ScanRules);
     }
     if !conditions_within(version, raw) {
-        return Some(5);
+        return Some(Section::Conditions);
     }
     if !classes_within(raw) {
-        return Some(6);
+        return Some(Section::Classes);
     }
     if !accepted_within(version, raw) {
-        return Some(7);
+        return Some(Section::Accepted);
     }
     if !scan_rows_within(version, raw) {
-        return Some(8);
+        return Some(Section::ScanRows);
     }
     None
 }
 
-/// The number of the first section of the parser that is out of its ranges, if one is.
-fn parser_section_out(version: Version, raw: &RawTables) -> Option<u8>
+/// The first section of the parser that is out of its ranges, if one is.
+fn parser_section_out(version: Version, raw: &RawTables) -> Option<Section>
     requires fits { AreFileNumbers version (raw_from raw.now) }
-    requires before { AreWithinBefore version (raw_from raw.now) 9 }
-    ensures none { result ≡ None → AreWithinBefore version (raw_from raw.now) 13 }
-    ensures some { IfSome result (IsFirstNumber version (raw_from raw.now)) }
+    requires before { AreWithinBefore version (raw_from raw.now) (section_number rule_section) }
+    ensures none { result ≡ None → AreAllWithin version (raw_from raw.now) }
+    ensures some { IfSome result (λ s. IsFirstNumber version (raw_from raw.now) (section_number (section_from s))) }
 {
     if !rules_within(version, raw) {
-        return Some(9);
+        return Some(Section::Rules);
     }
     if !defaults_within(version, raw) {
-        return Some(10);
+        return Some(Section::Defaults);
     }
     if !actions_within(version, raw) {
-        return Some(11);
+        return Some(Section::Actions);
     }
     if !gotos_within(version, raw) {
-        return Some(12);
+        return Some(Section::Gotos);
     }
     None
 }

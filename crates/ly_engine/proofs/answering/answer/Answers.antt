@@ -36,6 +36,12 @@ returns-in_err-answered-clause-needed g c not =
           c.from_residual-in_err-answered.ensures.1 not),
     )
 
+pub returns-in_err-answered-clause-reader_held : goal.returns-in_err-answered-clause-reader_held
+returns-in_err-answered-clause-reader_held g c not =
+    let fault = c.in_err-answered.field-0.0 in
+    c.in_err-answered.ensures.reader_held
+    (other_text c.from_residual-in_err-answered.result fault Read c.from_residual-in_err-answered.ensures.1 not)
+
 pub returns-in_err-answered-clause-asked : goal.returns-in_err-answered-clause-asked
 returns-in_err-answered-clause-asked g c is =
     let set = c.in_ok-generated.generated.set in

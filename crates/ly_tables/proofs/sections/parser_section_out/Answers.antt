@@ -1,7 +1,7 @@
 use Rattle.std.proofs.Common.{refl}
 use Rattle.ly_tables.specs.Private.RawValues.{raw_from}
 use Rattle.ly_tables.specs.RawSections.{rule_section, state_section, action_section, goto_section}
-use Rattle.ly_tables.proofs.SectionOrderLemmas.{first_number, one_more}
+use Rattle.ly_tables.proofs.SectionOrderLemmas.{all_within, first_number, one_more}
 use Rattle.ly_tables.proofs.sections.parser_section_out.Goals as goal
 
 pub returns-then-not-rules_within-clause-some : goal.returns-then-not-rules_within-clause-some
@@ -37,4 +37,4 @@ returns-clause-none c =
     let b11 = one_more c.args.version r state_section (c.if-not-defaults_within.ensures.0 refl) b10 in
     let b12 = one_more c.args.version r action_section (c.if-not-actions_within.ensures.0 refl) b11 in
     let b13 = one_more c.args.version r goto_section (c.if-not-gotos_within.ensures.0 refl) b12 in
-    λ none. b13
+    λ none. all_within c.args.version r b13

@@ -1,0 +1,30 @@
+ghost use Rattle.std.specs.Prelude.{◌≡◌};
+ghost use Rattle.ly_loop.specs.Private.Listed.{IsListed};
+
+use ly_base::{RuleNo, StateNo};
+use ly_pack::{Cell, MachineView, Rows, TableAction};
+use std::marker::Model;
+
+/// A machine whose states and symbols can be counted by their numbers, with what its states do in lists.
+#[derive(Drop)]
+pub(crate) struct Listed<'a, A: Rows<TableAction> + Drop, G: Rows<StateNo> + Drop> {
+    /// The machine.
+    pub(crate) machine: &'a MachineView<'a, A, G>,
+    /// What each state does where it isn't its default.
+    pub(crate) entries: &'a [Vec<Cell<TableAction>>],
+    /// Where each state goes.
+    pub(crate) gotos: &'a [Vec<Cell<StateNo>>],
+    /// The rules by which each state reduces.
+    pub(crate) reductions: &'a [Vec<RuleNo>],
+}
+
+impl<'a, A: Rows<TableAction> + Drop, G: Rows<StateNo> + Drop> Model for Listed<'a, A, G> {
+    ghost use Rattle.ly_pack.specs.Machine as value;
+    ghost use Rattle.ly_loop.specs.Private.Listed.{IsListed};
+
+    ghost Value = { value.Machine };
+
+    ghost view = { λ l. l.machine.now };
+
+    ghost invariant = { λ l. IsListed l.machine.now l.entries.now l.gotos.now l.reductions.now };
+}
