@@ -1,16 +1,19 @@
 -- The faults of the parts as faults of generating, and the numbers and names that they are printed with.
-use Rattle.std.specs.Prelude.{◌≡◌, ◌≢◌, ◌⊎◌, ℕ, List, Option, Some, None, codes}
+use Rattle.std.specs.Prelude.{◌≡◌, ◌≢◌, ◌⊎◌, ℕ, List, Option, Some, None, codes, take}
+use Rattle.ly_base.specs.Location.{line_behind}
 use Rattle.ly_generate.specs.declared.gen_fault.GenFault.{GenFault}
 use Rattle.ly_generate.specs.declared.gen_fault.GenFault.TheVariants.{Lex, Yacc, Join, Positions, States, Automaton}
 use Rattle.ly_generate.specs.declared.gen_fault.GenFault.TheVariants.{Endless, OutOfMemory}
 use Rattle.ly_generate.specs.declared.gen_fault.GenFault.TheVariants as gen
 use Rattle.ly_grammar.specs.FaultNames.{grammar_name, grammar_number}
 use Rattle.ly_join.specs.FaultNames.{join_name, join_number}
-use Rattle.ly_lexread.specs.Faults.{lex_name, lex_number}
+use Rattle.ly_lexread.specs.Faults.{lex_line, lex_name, lex_number}
 use Rattle.ly_lr0.specs.FaultNames.{lr0_name, lr0_number}
 use Rattle.ly_position.specs.FaultNames.{position_name, position_number}
 use Rattle.ly_subset.specs.FaultNames.{subset_name, subset_number}
 use Rattle.ly_yaccread.specs.Faults.{yacc_name, yacc_number}
+use Rattle.ly_yaccread.specs.declared.fault.YaccFault.{YaccFault}
+use Rattle.ly_yaccread.specs.declared.fault.YaccFault.TheVariants as yacc
 use Rattle.ly_tokens.specs.declared.scanner_fault.ScannerFault.{ScannerFault}
 use Rattle.ly_tokens.specs.declared.scanner_fault.ScannerFault.TheVariants as scanner
 
@@ -47,3 +50,14 @@ gen_name (gen.Grammar fault) = grammar_name fault
 gen_name (Automaton fault) = lr0_name fault
 gen_name (Endless below top token name) = codes "Endless"
 gen_name OutOfMemory = codes "OutOfMemory"
+
+-- the line of a yacc file of these bytes that a fault of it stands on; want of memory has none
+abbrev pub yacc_line : YaccFault → List ℕ → Option ℕ
+yacc_line (yacc.Refused kind offset) bytes = Some (line_behind (take offset bytes))
+yacc_line yacc.OutOfMemory bytes = None
+
+-- the line at fault of the files with these bytes, where one of them is refused
+abbrev pub gen_line : GenFault → List ℕ → List ℕ → Option ℕ
+gen_line (Lex fault) lex yacc = lex_line fault
+gen_line (Yacc fault) lex yacc = yacc_line fault yacc
+gen_line _ lex yacc = None

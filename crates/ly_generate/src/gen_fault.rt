@@ -7,7 +7,7 @@ ghost use Rattle.ly_lexread.specs.declared.fault.LexFault.TheVariants as lex;
 ghost use Rattle.ly_lr0.specs.declared.fault.Lr0Fault.TheVariants as automaton;
 ghost use Rattle.ly_yaccread.specs.declared.fault.YaccFault.TheVariants as yacc;
 
-use ly_base::{OutOfMemory as NoMemory, StateNo, Sym};
+use ly_base::{OutOfMemory as NoMemory, StateNo, Sym, locate};
 use ly_grammar::GrammarFault;
 use ly_join::JoinFault;
 use ly_lexread::LexFault;
@@ -94,6 +94,22 @@ impl GenFault {
             GenFault::Automaton(fault) => fault.name(),
             GenFault::Endless { .. } => "Endless",
             GenFault::OutOfMemory => "OutOfMemory",
+        }
+    }
+}
+
+impl GenFault {
+    ghost use Rattle.ly_generate.specs.GenFault.{gen_line};
+
+    /// The line at fault of the files with these bytes, where one of them is refused.
+    pub fn line(&self, lex: &[u8], yacc: &[u8]) -> Option<u64>
+        ensures { result ≡ gen_line self.now lex.now yacc.now }
+    {
+        let _lex = lex;
+        match self {
+            GenFault::Lex(fault) => fault.line(),
+            GenFault::Yacc(YaccFault::Refused { offset, .. }) => Some(locate(yacc, *offset).line),
+            _ => None,
         }
     }
 }

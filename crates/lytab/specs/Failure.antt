@@ -49,7 +49,7 @@ abbrev pub failure_status : Failure → ℕ
 failure_status (CannotRead path) = 3
 failure_status (Unreadable path reason) = 3
 failure_status (CannotWrite path) = 3
-failure_status (Refused fault) = refusal_status fault
+failure_status (Refused fault line) = refusal_status fault
 failure_status (Tables fault) = table_fault_status fault
 failure_status FaultyTables = 2
 failure_status TooLong = 1

@@ -19,7 +19,7 @@ HasReadFailed result = MatchResult result (λ c. ⊥) IsOfReader
 
 -- the files that a text is answered by are refused
 abbrev pub IsOfRules : Failure → Type 0
-IsOfRules (Refused fault) = Unit {0}
+IsOfRules (Refused fault line) = Unit {0}
 IsOfRules (Tables fault) = Unit {0}
 IsOfRules _ = ⊥
 

@@ -1,9 +1,10 @@
 -- What a failure says of the files that a text is answered by, and of the text.
-use Rattle.std.specs.Prelude.{◌≡◌, ◌≢◌, ℕ, List, Option}
+use Rattle.std.specs.Prelude.{◌≡◌, ◌≢◌, ℕ, List, [], Option}
 use Rattle.ly_base.specs.Limits.{least_of, sizes_in, version_2}
 use Rattle.ly_base.specs.declared.version.Version.{Version}
 use Rattle.ly_drive.specs.Answering.{IsDriven, IsFaultyOn, IsTooLong}
 use Rattle.ly_generate.specs.Accepted.{IsRefusedFor}
+use Rattle.ly_generate.specs.GenFault.{gen_line}
 use Rattle.ly_generate.specs.declared.gen_fault.GenFault.{GenFault}
 use Rattle.ly_generate.specs.declared.gen_fault.GenFault.TheVariants as gen
 use Rattle.ly_lexread.specs.Faults.{IsOfText, IsTooHeavy}
@@ -34,7 +35,7 @@ IsRefusedLex lex _ = ⊥
 
 -- where tokens are printed
 abbrev pub IsRefusalOfLex : List ℕ → Failure → Type 0
-IsRefusalOfLex lex (Refused fault) = IsRefusedLex lex fault
+IsRefusalOfLex lex (Refused fault line) = IsRefusedLex lex fault × (line ≡ gen_line fault lex [])
 IsRefusalOfLex lex (CannotRead path) = Unit {0}
 IsRefusalOfLex lex (CannotWrite path) = Unit {0}
 IsRefusalOfLex lex OutOfMemory = Unit {0}
@@ -52,7 +53,8 @@ IsRefusalOfTables tables given _ = ⊥
 
 -- where a lex file and a yacc file answer it
 abbrev pub IsRefusalOfFiles : List ℕ → List ℕ → Option (List ℕ) → Failure → Type 0
-IsRefusalOfFiles lex yacc given (Refused fault) = (fault ≢ gen.OutOfMemory) × IsRefusedFor version_2 lex yacc fault
+IsRefusalOfFiles lex yacc given (Refused fault line) = (fault ≢ gen.OutOfMemory)
+    × IsRefusedFor version_2 lex yacc fault × (line ≡ gen_line fault lex yacc)
 IsRefusalOfFiles lex yacc given TooLong = IsTooLong given
 IsRefusalOfFiles lex yacc given (CannotRead path) = Unit {0}
 IsRefusalOfFiles lex yacc given (CannotWrite path) = Unit {0}
@@ -61,8 +63,8 @@ IsRefusalOfFiles lex yacc given _ = ⊥
 
 -- where a table file of a version is built of some lex file and some yacc file
 abbrev pub IsRefusalOfBuild : Version → Failure → Type 0
-IsRefusalOfBuild version (Refused fault) =
-    (lex yacc : List ℕ) × IsRefusedFor (least_of version_2 (sizes_in version)) lex yacc fault
+IsRefusalOfBuild version (Refused fault line) = (lex yacc : List ℕ)
+    × IsRefusedFor (least_of version_2 (sizes_in version)) lex yacc fault × (line ≡ gen_line fault lex yacc)
 IsRefusalOfBuild version f = IsOfDevice f
 
 -- where it is said what some table file is made of

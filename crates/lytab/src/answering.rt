@@ -116,9 +116,11 @@ fn print_tokens<'a, R: Source, W: Sink>(
 {
     match tokens(alloc, lex, reader, writer) {
         Ok(end) => Ok(Completion::of_tokens(end)),
-        Err(TokensFault::Lex(fault)) => Err(Failure::Refused(GenFault::Lex(fault))),
-        Err(TokensFault::Positions(fault)) => Err(Failure::Refused(GenFault::Positions(fault))),
-        Err(TokensFault::States(fault)) => Err(Failure::Refused(GenFault::States(fault))),
+        Err(TokensFault::Lex(fault)) => Err(Failure::of_files(GenFault::Lex(fault), lex, b"")),
+        Err(TokensFault::Positions(fault)) => {
+            Err(Failure::Refused(GenFault::Positions(fault), None))
+        }
+        Err(TokensFault::States(fault)) => Err(Failure::Refused(GenFault::States(fault), None)),
         Err(TokensFault::Read) => Err(Failure::CannotRead(path)),
         Err(TokensFault::Write { .. }) => Err(Failure::CannotWrite(STANDARD)),
         Err(TokensFault::OutOfMemory) => Err(Failure::OutOfMemory),
@@ -180,7 +182,7 @@ fn answer_by_files<'a, R: Source, W: Sink>(
 {
     match answer(alloc, lex, yacc, reader, writer) {
         Ok(outcome) => Ok(Completion::of_outcome(&outcome)),
-        Err(AnswerFault::Refused(fault)) => Err(Failure::Refused(fault)),
+        Err(AnswerFault::Refused(fault)) => Err(Failure::of_files(fault, lex, yacc)),
         Err(AnswerFault::TooLong) => Err(Failure::TooLong),
         Err(AnswerFault::Read) => Err(Failure::CannotRead(path)),
         Err(AnswerFault::Write { .. }) => Err(Failure::CannotWrite(STANDARD)),

@@ -40,7 +40,10 @@ pub fn build_tables<'a, F: Files, W: Sink>(
         None => Report::Unwanted,
     };
     let limits = Limits::version_2();
-    let built = build(alloc, &lex, &yacc, &limits, version, report)?;
+    let built = match build(alloc, &lex, &yacc, &limits, version, report) {
+        Ok(built) => built,
+        Err(fault) => return Err(Failure::of_files(fault, &lex, &yacc)),
+    };
     let line = conflicts_line(alloc, &built.conflicts)?;
     write_files(files, paths, &built)?;
     Completion::Done.said(output, &line)

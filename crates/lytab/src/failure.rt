@@ -1,5 +1,6 @@
 //! Why there is no answer, and the line that says so.
 ghost use Rattle.std.specs.Prelude.{◌≡◌, ◌⊎◌, ◌≤◌};
+ghost use Rattle.ly_generate.specs.GenFault.{gen_line};
 ghost use Rattle.lytab.specs.Failure.{failure_of_file, failure_status};
 ghost use Rattle.lytab.specs.declared.failure.Failure.TheVariants as failure;
 
@@ -27,8 +28,8 @@ pub enum Failure<'a> {
     Unreadable(&'a str, io::Error),
     /// The file of this path, or standard output, can't be written.
     CannotWrite(&'a str),
-    /// The lex file, the yacc file, or both together are refused.
-    Refused(GenFault),
+    /// The lex file, the yacc file, or both together are refused; with the line at fault, where one of them is.
+    Refused(GenFault, Option<u64>),
     /// The table file is refused.
     Tables(TableFault),
     /// The tables are at fault on the text.
@@ -51,11 +52,13 @@ impl<'a> From<FileFault<'a>> for Failure<'a> {
     }
 }
 
-impl From<GenFault> for Failure<'_> {
-    ghost from_gives = { λ fault f. f ≡ failure.Refused fault };
-
-    fn from(fault: GenFault) -> Self {
-        Failure::Refused(fault)
+impl Failure<'_> {
+    /// Why files of these bytes give no answer that are refused for this fault.
+    pub fn of_files(fault: GenFault, lex: &[u8], yacc: &[u8]) -> Self
+        ensures { result ≡ failure.Refused fault (gen_line fault lex.now yacc.now) }
+    {
+        let line = fault.line(lex, yacc);
+        Failure::Refused(fault, line)
     }
 }
 
@@ -107,10 +110,10 @@ fn status_of(failure: &Failure<'_>) -> u8
         Failure::CannotRead(_)
         | Failure::Unreadable(..)
         | Failure::CannotWrite(_)
-        | Failure::Refused(GenFault::OutOfMemory)
+        | Failure::Refused(GenFault::OutOfMemory, _)
         | Failure::Tables(TableFault::OutOfMemory)
         | Failure::OutOfMemory => DEVICE_OR_MEMORY,
-        Failure::Refused(_) | Failure::Tables(_) | Failure::FaultyTables => REFUSED,
+        Failure::Refused(..) | Failure::Tables(_) | Failure::FaultyTables => REFUSED,
         Failure::TooLong => TEXT_REFUSED,
     }
 }
@@ -122,7 +125,7 @@ fn push_line(out: &mut Vec<u8>, failure: &Failure<'_>) -> io::Result<()> {
         Failure::CannotRead(path) => writeln!(out, "cannot read {path}"),
         Failure::Unreadable(path, reason) => writeln!(out, "cannot read {path}: {reason}"),
         Failure::CannotWrite(path) => writeln!(out, "cannot write {path}"),
-        Failure::Refused(fault) => push_refusal(out, fault),
+        Failure::Refused(fault, line) => push_refusal(out, fault, *line),
         Failure::Tables(fault) => push_table_fault(out, fault),
         Failure::FaultyTables => writeln!(out, "tables: fault 90 TableFault"),
         Failure::TooLong => writeln!(out, "fault 92 TooLong"),
@@ -130,11 +133,11 @@ fn push_line(out: &mut Vec<u8>, failure: &Failure<'_>) -> io::Result<()> {
     }
 }
 
-/// Appends why a lex file and a yacc file are refused.
-fn push_refusal(out: &mut Vec<u8>, fault: &GenFault) -> io::Result<()> {
+/// Appends why a lex file and a yacc file are refused, and the line at fault of one of them.
+fn push_refusal(out: &mut Vec<u8>, fault: &GenFault, line: Option<u64>) -> io::Result<()> {
     match fault {
-        GenFault::Lex(fault) => push_place(out, "lex", fault.line())?,
-        GenFault::Yacc(fault) => push_place(out, "yacc", fault.line())?,
+        GenFault::Lex(_) => push_place(out, "lex", line)?,
+        GenFault::Yacc(_) => push_place(out, "yacc", line)?,
         _ => {}
     }
     push_fault(out, fault.number(), fault.name())?;
