@@ -9,6 +9,7 @@ use crate::surveying::{Accepted, first_of, say_numbered};
 use ly_base::{OutOfMemory, Sym, locate};
 use ly_examples::{unmatched_rules, unreduced_rules, unreturned_terminals, unused_terminals};
 use ly_page::{Named, Page};
+use ly_yaccread::SymbolName;
 use std::alloc::Global;
 
 /// How many terminals of a kind are told, at most.
@@ -91,16 +92,16 @@ impl Teller<'_> {
 
     /// Says the place of a rule of the yacc file, and its number.
     fn say_rule(&self, page: &mut Page, rule: usize) {
-        page.say_line_of(self.files.yacc, self.places.line_of_rule(rule));
+        page.say_location_in(self.files.yacc, self.places.location_of_rule(rule));
         say_numbered(page, b"rule ", rule as u64, b"");
     }
 
-    /// Says the place where a terminal is named first.
-    fn say_terminal_line(&self, page: &mut Page, terminal: Sym) {
-        let line = self
+    /// Says where a terminal is declared, or else stands first.
+    fn say_terminal_location(&self, page: &mut Page, terminal: Sym) {
+        let at = self
             .places
-            .line_of_terminal(self.files.spec, self.files.yacc.bytes, terminal);
-        page.say_line_of(self.files.yacc, line);
+            .location_of_terminal(self.files.spec, self.files.yacc.bytes, terminal);
+        page.say_location_in(self.files.yacc, at);
     }
 
     /// Says what in the patterns of the lex file means something else than it may seem to.
@@ -164,14 +165,14 @@ impl Teller<'_> {
 
     /// Says what is so of terminals, but of those that were told before, and of those that give a rule its precedence.
     fn say_all_so(&self, page: &mut Page, terminals: &[Sym], told: &[Sym], so: Said<'_>) {
-        let (spec, text) = (self.files.spec, self.files.yacc.bytes);
+        let spec = self.files.spec;
         let mut said = 0;
         for terminal in terminals {
-            if told.contains(terminal) || self.places.gives_precedence(spec, text, *terminal) {
+            if told.contains(terminal) || self.places.gives_precedence(spec, *terminal) {
                 continue;
             }
             if said < MOST {
-                self.say_terminal_line(page, *terminal);
+                self.say_terminal_location(page, *terminal);
                 page.say_terminal(spec, *terminal);
                 page.say(so.one);
                 page.say(so.of);
@@ -192,10 +193,14 @@ impl Teller<'_> {
 
     /// Says which tokens are declared more than once.
     fn say_declared_again(&self, alloc: Global, page: &mut Page) -> Result<(), OutOfMemory> {
-        let again = self.places.declared_again(alloc, self.files.yacc.bytes)?;
-        for (line, word) in first_of(&again, MOST) {
-            page.say_line_of(self.files.yacc, *line);
-            page.say(word);
+        let yacc = self.files.yacc;
+        let again = self.places.declared_again(alloc)?;
+        for (offset, symbol) in first_of(&again, MOST) {
+            page.say_location_in(yacc, locate(yacc.bytes, *offset));
+            match symbol {
+                SymbolName::Name(name) => page.say(name),
+                SymbolName::Literal(byte) => page.say_byte(*byte),
+            }
             page.say(b" is declared before\n");
         }
         Ok(())
@@ -216,7 +221,7 @@ impl Teller<'_> {
         for number in 0..spec.grammar().terminals() {
             let ranked = matches!(spec.precedences().get(number as usize), Some(Some(_)));
             if ranked && said < MOST && !decided.by_terminal(spec, Sym(number)) {
-                self.say_terminal_line(page, Sym(number));
+                self.say_terminal_location(page, Sym(number));
                 page.say(b"the precedence of ");
                 page.say_terminal(spec, Sym(number));
                 page.say(b" decides nothing\n");
@@ -229,7 +234,7 @@ impl Teller<'_> {
     fn say_undecided_rules(&self, page: &mut Page, decided: &Decided) {
         for rule in first_of(self.places.ranked_rules(), MOST) {
             if !decided.by_rule(*rule) {
-                page.say_line_of(self.files.yacc, self.places.line_of_rule(*rule));
+                page.say_location_in(self.files.yacc, self.places.location_of_rule(*rule));
                 say_numbered(
                     page,
                     b"the %prec of rule ",

@@ -1,55 +1,55 @@
 //! Where the rules and the terminals of a yacc file stand.
 use indexmap::IndexSet;
-use ly_base::{OutOfMemory, Sym, literal};
+use ly_base::{Location, OutOfMemory, Sym, literal, locate};
 use ly_join::{Spec, TerminalName};
-use ly_yaccread::{WordSpan, word_spans};
+use ly_yaccread::{
+    DeclarationKind, Production, RuleOffsets, SymbolName, WordSpan, YaccFault, YaccFile, read_yacc,
+    word_spans,
+};
 use std::alloc::Global;
 
-/// Where the rules of a yacc file stand, and its words.
+/// A yacc file that is accepted, and where its rules stand.
 #[derive(Drop)]
 pub(crate) struct Places {
-    /// The line of each rule, in the order of the text; of a body behind a bar that of the bar.
-    rules: Vec<u64>,
-    /// The words.
-    words: Vec<PlacedWord>,
-    /// The first of the words behind a `%prec`.
-    ranks: Vec<WordSpan>,
+    /// What the file says; nothing where it is refused.
+    file: Option<YaccFile>,
+    /// Where each rule stands, in the order of the text: its left side, but of a body behind a bar the bar.
+    rules: Vec<Location>,
+    /// Where its words stand.
+    words: Vec<WordSpan>,
     /// The rules that have a `%prec`.
     ranked: Vec<usize>,
 }
 
-/// How many words behind a `%prec` are looked at.
+/// Of how many rules with a `%prec` it is looked at what stands behind that.
 const RANKS: usize = 1_000;
-
-/// A word, and the line on which it begins.
-#[derive(Clone, Copy)]
-struct PlacedWord {
-    /// Where it stands.
-    span: WordSpan,
-    /// Its line, counted from 1.
-    line: u64,
-}
 
 impl Places {
     /// The places in a yacc file.
     pub(crate) fn of(alloc: Global, text: &[u8]) -> Result<Places, OutOfMemory> {
-        let words = placed_words(alloc, text)?;
-        let rules = rule_lines(alloc, text, &words)?;
-        let ranks = ranks(alloc, text, &words)?;
-        let ranked = ranked_rules(alloc, text, &words)?;
-        Ok(Places {
-            rules,
-            words,
-            ranks,
-            ranked,
-        })
+        let words = word_spans(alloc, text)?;
+        match read_yacc(alloc, text) {
+            Ok(file) => Ok(Places {
+                rules: rule_locations(alloc, text, &file.rule_offsets)?,
+                ranked: ranked_rules(alloc, &file.rules)?,
+                file: Some(file),
+                words,
+            }),
+            Err(YaccFault::Refused { .. }) => Ok(Places {
+                file: None,
+                rules: Vec::new(alloc),
+                words,
+                ranked: Vec::new(alloc),
+            }),
+            Err(YaccFault::OutOfMemory) => Err(OutOfMemory),
+        }
     }
 
-    /// The line of the rule of a number, counted from 1.
-    pub(crate) fn line_of_rule(&self, rule: usize) -> u64 {
+    /// Where the rule of a number stands, counted from 1.
+    pub(crate) fn location_of_rule(&self, rule: usize) -> Location {
         match rule.checked_sub(1) {
-            Some(place) => self.rules.get(place).copied().unwrap_or(1),
-            None => 1,
+            Some(place) => self.rules.get(place).copied().unwrap_or(FRONT),
+            None => FRONT,
         }
     }
 
@@ -58,108 +58,190 @@ impl Places {
         &self.ranked
     }
 
-    /// The words that a `%token` declares, and another one before them, with their lines.
-    pub(crate) fn declared_again<'t>(
+    /// The symbols that a `%token` declares, and another one before it, with their offsets.
+    pub(crate) fn declared_again(
         &self,
         alloc: Global,
-        text: &'t [u8],
-    ) -> Result<Vec<(u64, &'t [u8])>, OutOfMemory> {
+    ) -> Result<Vec<(usize, &SymbolName)>, OutOfMemory> {
+        let mut again = Vec::new(alloc);
+        let Some(file) = &self.file else {
+            return Ok(again);
+        };
         let mut known = IndexSet::new(alloc);
-        self.again(alloc, text, &mut known)
-    }
-
-    /// The words that a `%token` declares and that are known, with their lines. The others are known from now on.
-    fn again<'t>(
-        &self,
-        alloc: Global,
-        text: &'t [u8],
-        known: &mut IndexSet<Vec<u8>>,
-    ) -> Result<Vec<(u64, &'t [u8])>, OutOfMemory> {
-        let mut found = Vec::new(alloc);
-        let mut in_tokens = false;
-        for word in &self.words {
-            let bytes = word.span.word(text);
-            if bytes == b"%%".as_slice() {
-                break;
-            }
-            if bytes.starts_with(b"%") {
-                in_tokens = bytes == b"%token".as_slice();
-            } else if in_tokens && is_symbol(bytes) {
-                push_known(alloc, known, word.line, bytes, &mut found)?;
+        let mut offsets = file.token_offsets.iter();
+        for declaration in &file.declarations {
+            for symbol in &declaration.symbols {
+                let offset = offsets.next().copied().unwrap_or(0);
+                if declaration.kind == DeclarationKind::Token
+                    && !known.insert(key_of(alloc, symbol)?)?
+                {
+                    again.push((offset as usize, symbol))?;
+                }
             }
         }
-        Ok(found)
+        Ok(again)
     }
 
     /// Whether a terminal stands behind a `%prec`, and so is there to give a rule its precedence.
-    pub(crate) fn gives_precedence(&self, spec: &Spec, text: &[u8], terminal: Sym) -> bool {
-        let Some(name) = spec.terminals().get(terminal.0 as usize) else {
+    pub(crate) fn gives_precedence(&self, spec: &Spec, terminal: Sym) -> bool {
+        let (Some(file), Some(name)) = (
+            &self.file,
+            spec.terminals().get(terminal.0 as usize),
+        ) else {
             return false;
         };
-        for span in &self.ranks {
-            if names(span.word(text), name) {
+        for rule in self.ranked.iter().take(RANKS) {
+            if let Some(production) = file.rules.get(rule.saturating_sub(1))
+                && is_ranked_by(production, name)
+            {
                 return true;
             }
         }
         false
     }
 
-    /// The line on which a terminal is named first.
-    pub(crate) fn line_of_terminal(&self, spec: &Spec, text: &[u8], terminal: Sym) -> u64 {
-        let Some(name) = spec.terminals().get(terminal.0 as usize) else {
-            return 1;
-        };
-        for word in &self.words {
-            if names(word.span.word(text), name) {
-                return word.line;
+    /// Where a terminal is declared, or else where it stands first in a rule.
+    pub(crate) fn location_of_terminal(&self, spec: &Spec, text: &[u8], terminal: Sym) -> Location {
+        match self.offset_of_terminal(spec, text, terminal) {
+            Some(offset) => locate(text, offset),
+            None => FRONT,
+        }
+    }
+
+    /// The offset where a terminal is declared, or else where it stands first in a rule.
+    fn offset_of_terminal(&self, spec: &Spec, text: &[u8], terminal: Sym) -> Option<usize> {
+        let name = spec.terminals().get(terminal.0 as usize)?;
+        let file = self.file.as_ref()?;
+        match declared_offset(file, name) {
+            Some(offset) => Some(offset),
+            None => self.offset_in_rules(file, text, name),
+        }
+    }
+
+    /// The offset where a terminal stands first in a rule.
+    fn offset_in_rules(&self, file: &YaccFile, text: &[u8], name: &TerminalName) -> Option<usize> {
+        let rule = file
+            .rules
+            .iter()
+            .position(|rule| has_terminal(&rule.body, name) || is_ranked_by(rule, name))?;
+        let from = file.rule_offsets.get(rule)?.body as usize;
+        for span in &self.words {
+            if span.start >= from && spells(span.word(text), name) {
+                return Some(span.start);
             }
         }
-        1
+        None
     }
 }
 
-/// Adds a word that is known, with its line. Another one is known from now on.
-fn push_known<'t>(
+/// Where a file begins.
+const FRONT: Location = Location { line: 1, column: 1 };
+
+/// Where rules stand.
+fn rule_locations(
     alloc: Global,
-    known: &mut IndexSet<Vec<u8>>,
-    line: u64,
-    word: &'t [u8],
-    found: &mut Vec<(u64, &'t [u8])>,
-) -> Result<(), OutOfMemory> {
-    if known.contains(word) {
-        found.push((line, word))?;
-    } else {
-        known.insert(Vec::from_slice(alloc, word)?)?;
+    text: &[u8],
+    rules: &[RuleOffsets],
+) -> Result<Vec<Location>, OutOfMemory> {
+    let mut locations = Vec::new(alloc);
+    let mut at = FRONT;
+    let mut passed: usize = 0;
+    let mut last = None;
+    for rule in rules {
+        let offset = if last == Some(rule.left) {
+            (rule.body as usize).saturating_sub(1)
+        } else {
+            rule.left as usize
+        };
+        at = location_behind(at, text.get(passed..offset).unwrap_or_default());
+        passed = offset;
+        last = Some(rule.left);
+        locations.push(at)?;
     }
-    Ok(())
+    Ok(locations)
 }
 
-/// The first of the words behind a `%prec`.
-fn ranks(alloc: Global, text: &[u8], words: &[PlacedWord]) -> Result<Vec<WordSpan>, OutOfMemory> {
-    let mut ranks = Vec::new(alloc);
-    let mut behind = false;
-    for word in words {
-        if behind && ranks.len() < RANKS {
-            ranks.push(word.span)?;
+/// Where these bytes end that begin at a location.
+fn location_behind(start: Location, bytes: &[u8]) -> Location {
+    let mut at = start;
+    for byte in bytes {
+        at = if *byte == b'\n' {
+            Location {
+                line: at.line.saturating_add(1),
+                column: 1,
+            }
+        } else {
+            Location {
+                line: at.line,
+                column: at.column.saturating_add(1),
+            }
+        };
+    }
+    at
+}
+
+/// The numbers of the rules that have a `%prec`.
+fn ranked_rules(alloc: Global, rules: &[Production]) -> Result<Vec<usize>, OutOfMemory> {
+    let mut ranked = Vec::new(alloc);
+    for (place, rule) in rules.iter().enumerate() {
+        if rule.precedence.is_some() {
+            ranked.push(place.saturating_add(1))?;
         }
-        behind = word.span.word(text) == b"%prec".as_slice();
     }
-    Ok(ranks)
+    Ok(ranked)
 }
 
-/// Whether a word of a declaration is a name or a literal.
-fn is_symbol(word: &[u8]) -> bool {
-    match word.first() {
-        Some(first) => *first == b'\''
-            || *first == b'_'
-            || *first == b'.'
-            || first.is_ascii_alphabetic(),
+/// Bytes that tell a symbol from others: a name has no quote.
+fn key_of(alloc: Global, symbol: &SymbolName) -> Result<Vec<u8>, OutOfMemory> {
+    match symbol {
+        SymbolName::Name(name) => Ok(Vec::from_slice(alloc, name)?),
+        SymbolName::Literal(byte) => Ok(Vec::from_slice(alloc, &[b'\'', *byte])?),
+    }
+}
+
+/// The offset where a terminal is declared.
+fn declared_offset(file: &YaccFile, name: &TerminalName) -> Option<usize> {
+    let mut offsets = file.token_offsets.iter();
+    for declaration in &file.declarations {
+        for symbol in &declaration.symbols {
+            let offset = offsets.next()?;
+            if is_terminal(symbol, name) {
+                return Some(*offset as usize);
+            }
+        }
+    }
+    None
+}
+
+/// Whether a rule has a terminal behind its `%prec`.
+fn is_ranked_by(rule: &Production, name: &TerminalName) -> bool {
+    match &rule.precedence {
+        Some(symbol) => is_terminal(symbol, name),
         None => false,
     }
 }
 
-/// Whether a word names a terminal.
-fn names(word: &[u8], terminal: &TerminalName) -> bool {
+/// Whether a terminal is one of these symbols.
+fn has_terminal(symbols: &[SymbolName], name: &TerminalName) -> bool {
+    for symbol in symbols {
+        if is_terminal(symbol, name) {
+            return true;
+        }
+    }
+    false
+}
+
+/// Whether a symbol is a terminal.
+fn is_terminal(symbol: &SymbolName, terminal: &TerminalName) -> bool {
+    match (symbol, terminal) {
+        (SymbolName::Name(name), TerminalName::Token(token)) => name.as_slice() == token.as_slice(),
+        (SymbolName::Literal(byte), TerminalName::Literal(other)) => byte == other,
+        _ => false,
+    }
+}
+
+/// Whether a word is a terminal's.
+fn spells(word: &[u8], terminal: &TerminalName) -> bool {
     match terminal {
         TerminalName::Token(name) => word == name.as_slice(),
         TerminalName::Literal(byte) => match literal(word) {
@@ -167,85 +249,5 @@ fn names(word: &[u8], terminal: &TerminalName) -> bool {
             None => false,
         },
         TerminalName::End | TerminalName::Undefined => false,
-    }
-}
-
-/// The words of a yacc file, with their lines.
-fn placed_words(alloc: Global, text: &[u8]) -> Result<Vec<PlacedWord>, OutOfMemory> {
-    let mut words = Vec::new(alloc);
-    let mut line: u64 = 1;
-    let mut at = 0;
-    for span in &word_spans(alloc, text)? {
-        let passed = text.get(at..span.start).unwrap_or_default();
-        line = line.saturating_add(newlines(passed));
-        at = span.start;
-        words.push(PlacedWord { span: *span, line })?;
-    }
-    Ok(words)
-}
-
-/// How many lines end in bytes.
-fn newlines(bytes: &[u8]) -> u64 {
-    let mut count: u64 = 0;
-    for byte in bytes {
-        if *byte == b'\n' {
-            count = count.saturating_add(1);
-        }
-    }
-    count
-}
-
-/// The lines of the rules.
-fn rule_lines(alloc: Global, text: &[u8], words: &[PlacedWord]) -> Result<Vec<u64>, OutOfMemory> {
-    let mut lines = Vec::new(alloc);
-    let behind = behind_mark(text, words);
-    for (place, word) in behind.iter().enumerate() {
-        if begins_rule(text, behind, place) {
-            lines.push(word.line)?;
-        }
-    }
-    Ok(lines)
-}
-
-/// The rules that have a `%prec`.
-fn ranked_rules(
-    alloc: Global,
-    text: &[u8],
-    words: &[PlacedWord],
-) -> Result<Vec<usize>, OutOfMemory> {
-    let mut ranked = Vec::new(alloc);
-    let behind = behind_mark(text, words);
-    let mut rule: usize = 0;
-    for (place, word) in behind.iter().enumerate() {
-        if begins_rule(text, behind, place) {
-            rule = rule.saturating_add(1);
-        }
-        if word.span.word(text) == b"%prec".as_slice() {
-            ranked.push(rule)?;
-        }
-    }
-    Ok(ranked)
-}
-
-/// The words behind the first mark, which are those of the rules and of what stands behind them.
-fn behind_mark<'w>(text: &[u8], words: &'w [PlacedWord]) -> &'w [PlacedWord] {
-    for (place, word) in words.iter().enumerate() {
-        if word.span.word(text) == b"%%".as_slice() {
-            return words.get(place.saturating_add(1)..).unwrap_or_default();
-        }
-    }
-    &[]
-}
-
-/// Whether a rule begins at a word: a name before a colon, or a bar.
-fn begins_rule(text: &[u8], words: &[PlacedWord], place: usize) -> bool {
-    is_word(text, words, place.saturating_add(1), b":") || is_word(text, words, place, b"|")
-}
-
-/// Whether a word stands at a place.
-fn is_word(text: &[u8], words: &[PlacedWord], place: usize, sought: &[u8]) -> bool {
-    match words.get(place) {
-        Some(word) => word.span.word(text) == sought,
-        None => false,
     }
 }

@@ -10,7 +10,7 @@ pub(crate) fn say_rules(page: &mut Page, files: &Accepted<'_>, places: &Places) 
     page.say(b"\nRules:\n");
     for rule in 1..spec.grammar().rules().len() {
         say_numbered(page, b"    ", rule as u64, b"  ");
-        page.say_line_of(files.yacc, places.line_of_rule(rule));
+        page.say_line_of(files.yacc, places.location_of_rule(rule).line);
         page.say_rule(spec, rule, None);
         page.say(b"\n");
     }

@@ -13,7 +13,7 @@ use Rattle.ly_base.specs.declared.language.Language.TheVariants.{Lex}
 use Rattle.ly_base.proofs.ListLemmas.{AllPairs-append}
 use Rattle.ly_yaccread.specs.Actions.{ActionPassed, IsPlace, Making, MorePlaces, Places, ValueFirst, build, builds}
 use Rattle.ly_yaccread.specs.Actions.{default, last, more, none, pass, passes, some}
-use Rattle.ly_yaccread.specs.Rules.{BodyEnd, LateAction, Ruling, YaccRules, end, rule, semicolon}
+use Rattle.ly_yaccread.specs.Rules.{BodyEnd, LateAction, LeftSide, Ruling, YaccRules, end, rule, semicolon}
 use Rattle.ly_yaccread.specs.Words.{Word}
 use Rattle.ly_join.specs.Grammar.{GrammarRule, Symbol}
 use Rattle.ly_join.specs.Joined.{AreJoined, IsJoinedRule, Note, SymbolTable, shape_by, table_of}
@@ -90,16 +90,16 @@ end_fits n {rest = rest} {x = x} {m = m} b w long
     by_late (build c ps) None fits late = subst (λ k. IsShapeFor (length w) (shape_by k w)) (sym late.0) fits
 
 -- so each rule of a file
-rules_fit : {before : Option (List ℕ)} {ws : List Word} {rs : List Ruling} → YaccRules before ws rs → (k : ℕ)
-    (r : Ruling) → slice_get rs k ≡ Some r → (w : List Symbol) → length w ≡ length r.body
-    → IsShapeFor (length w) (shape_by r.making w)
+rules_fit : {before : Option LeftSide} {ws : List Word} {rs : List Ruling} {ss : _}
+    → YaccRules before ws rs ss → (k : ℕ) (r : Ruling) → slice_get rs k ≡ Some r → (w : List Symbol)
+    → length w ≡ length r.body → IsShapeFor (length w) (shape_by r.making w)
 rules_fit (end before ws over) k r at w long = absurd cc
-rules_fit (rule before n ws behind rest x rs follows body h) zero r at w long =
+rules_fit (rule before l ws behind rest x rs ss follows body h) zero r at w long =
     let same : x ≡ r = cc in
     subst (λ y. length w ≡ length y.body → IsShapeFor (length w) (shape_by y.making w)) same
-    (λ l. end_fits (length x.body) body.body_end w l) long
-rules_fit (rule before n ws behind rest x rs follows body h) (suc k) r at w long = rules_fit h k r at w long
-rules_fit (semicolon n ws rs h) k r at w long = rules_fit h k r at w long
+    (λ as_long. end_fits (length x.body) body.body_end w as_long) long
+rules_fit (rule before l ws behind rest x rs ss follows body h) (suc k) r at w long = rules_fit h k r at w long
+rules_fit (semicolon l ws rs ss h) k r at w long = rules_fit h k r at w long
 
 -- what a rule of the grammar is joined from
 pub record IsJoinedAt (m : SymbolTable) (rs : List Ruling) (notes : List Note) (k : ℕ) (x : GrammarRule) : Type 0 where

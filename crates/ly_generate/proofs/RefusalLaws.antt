@@ -161,7 +161,7 @@ module _ (limits : Sizes) (lex yacc : List ℕ) (s : Spec) (is : Specifies limit
       → IsRefusedFor limits lex yacc fault → ⊥
   not_refused useful fit (Lex f) some (memory, read, place)
       = read.refused memory (λ heavy. read.none_light heavy is.file is.lex_text is.light) is.file is.lex_text
-  not_refused useful fit (Yacc f) some none = none is.written is.yacc_text
+  not_refused useful fit (Yacc f) some (none, within, stands) = none is.written is.yacc_text
   not_refused useful fit (Join f) some (memory, file, w, text, yacc_text, fault) =
       not_within (scanning_of is.file) is.written s is.joined limits f
       (subst (λ x. Rattle.ly_join.specs.Faults.IsAtFault limits x is.written f) (scanning_is file text)

@@ -23,6 +23,7 @@ use Rattle.ly_position.specs.declared.fault.PosFault.TheVariants.{TooManyPositio
 use Rattle.ly_subset.specs.RuleSets.{HaveMoreSets}
 use Rattle.ly_subset.specs.declared.fault.SubsetFault.TheVariants.{TooManyStates}
 use Rattle.ly_yaccread.specs.File.{Written}
+use Rattle.ly_yaccread.specs.Faults.{IsWithin as IsWithinFile, StandsAt}
 use Rattle.ly_yaccread.specs.YaccText.{YaccText}
 use Rattle.ly_emit.specs.Tables.{IsMachineOf}
 use Rattle.ly_loop.specs.Endless.{IsFirstEndless}
@@ -94,7 +95,8 @@ IsUnfitFor limits s _ = ⊥
 abbrev pub IsRefusedFor : Sizes → List ℕ → List ℕ → GenFault → Type 0
 IsRefusedFor limits lex yacc (Lex fault) = (fault ≢ lex_fault.OutOfMemory)
     × IsRead limits.pattern_weight lex (Err fault) × IsAtMost (length lex) fault
-IsRefusedFor limits lex yacc (Yacc fault) = (w : Written) → YaccText yacc w → ⊥
+IsRefusedFor limits lex yacc (Yacc fault) = ((w : Written) → YaccText yacc w → ⊥) × IsWithinFile yacc fault
+    × StandsAt yacc fault
 IsRefusedFor limits lex yacc (Join fault) = (fault ≢ join_fault.OutOfMemory)
     × (file : LexFile) × (w : Written) × LexText lex file × YaccText yacc w
     × IsAtFault limits (scanning_of file) w fault

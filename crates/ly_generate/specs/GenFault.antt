@@ -13,7 +13,9 @@ use Rattle.ly_lexread.specs.declared.fault.LexFault.TheVariants as lex
 use Rattle.ly_lr0.specs.FaultNames.{lr0_name, lr0_number}
 use Rattle.ly_position.specs.FaultNames.{position_name, position_number}
 use Rattle.ly_subset.specs.FaultNames.{subset_name, subset_number}
-use Rattle.ly_yaccread.specs.Faults.{yacc_line, yacc_name, yacc_number}
+use Rattle.ly_yaccread.specs.Faults.{yacc_name, yacc_number}
+use Rattle.ly_yaccread.specs.declared.fault.YaccFault.{YaccFault}
+use Rattle.ly_yaccread.specs.declared.fault.YaccFault.TheVariants as yacc
 use Rattle.ly_tokens.specs.declared.scanner_fault.ScannerFault.{ScannerFault}
 use Rattle.ly_tokens.specs.declared.scanner_fault.ScannerFault.TheVariants as scanner
 
@@ -56,8 +58,13 @@ abbrev pub lex_line : LexFault → List ℕ → Option ℕ
 lex_line (lex.Refused kind offset) bytes = Some (line_behind (take offset bytes))
 lex_line lex.OutOfMemory bytes = None
 
+-- the line of a yacc file of these bytes that a fault of it stands on; want of memory has none
+abbrev pub yacc_line : YaccFault → List ℕ → Option ℕ
+yacc_line (yacc.Refused kind offset) bytes = Some (line_behind (take offset bytes))
+yacc_line yacc.OutOfMemory bytes = None
+
 -- the line at fault of the files with these bytes, where one of them is refused
 abbrev pub gen_line : GenFault → List ℕ → List ℕ → Option ℕ
 gen_line (Lex fault) lex yacc = lex_line fault lex
-gen_line (Yacc fault) lex yacc = yacc_line fault
+gen_line (Yacc fault) lex yacc = yacc_line fault yacc
 gen_line _ lex yacc = None

@@ -105,10 +105,9 @@ impl GenFault {
     pub fn line(&self, lex: &[u8], yacc: &[u8]) -> Option<u64>
         ensures { result ≡ gen_line self.now lex.now yacc.now }
     {
-        let _yacc = yacc;
         match self {
             GenFault::Lex(LexFault::Refused { offset, .. }) => Some(locate(lex, *offset).line),
-            GenFault::Yacc(fault) => fault.line(),
+            GenFault::Yacc(YaccFault::Refused { offset, .. }) => Some(locate(yacc, *offset).line),
             _ => None,
         }
     }

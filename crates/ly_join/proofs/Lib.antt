@@ -4,6 +4,7 @@ pub mod GrammarLemmas
 pub mod JoinLemmas
 pub mod LawLemmas
 pub mod ListLemmas
+pub mod NonterminalLemmas
 pub mod NumberingLemmas
 pub mod RuleLemmas
 pub mod TableLemmas

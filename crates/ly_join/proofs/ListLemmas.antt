@@ -11,10 +11,14 @@ use Rattle.std.proofs.lemmas.Bool.{cases_lt}
 use Rattle.std.specs.List.{AllZip, flat_map}
 
 -- one more item of what a list is mapped to
+pub mapped_next : {X Y : Type 0} (f : X → Y) (xs : List X) (i : ℕ) (x : X) → i < length xs
+    → take (i + 1) (map f xs) ≡ take i (map f xs) ++ f (slice_index_or xs i x) ∷ []
+mapped_next f xs i x lt = take-map f (i + 1) xs
+    ∙ (map_more f xs i x lt ∙ ap (λ ys. ys ++ f (slice_index_or xs i x) ∷ []) (sym (take-map f i xs)))
+
 pub mapped_more : {X Y : Type 0} (f : X → Y) (xs : List X) (i : ℕ) (x : X) → i < length xs → x ≡ slice_index_or xs i x
     → take (i + 1) (map f xs) ≡ take i (map f xs) ++ f x ∷ []
-mapped_more f xs i x lt is = take-map f (i + 1) xs ∙ (map_more f xs i x lt
-    ∙ (ap (λ y. map f (take i xs) ++ f y ∷ []) (sym is) ∙ ap (λ ys. ys ++ f x ∷ []) (sym (take-map f i xs))))
+mapped_more f xs i x lt is = mapped_next f xs i x lt ∙ ap (λ y. take i (map f xs) ++ f y ∷ []) (sym is)
 
 -- a list that is mapped twice
 pub map_twice : {X Y Z : Type 0} (g : Y → Z) (f : X → Y) (xs : List X) → map g (map f xs) ≡ map (λ x. g (f x)) xs

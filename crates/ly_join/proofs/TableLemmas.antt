@@ -97,9 +97,11 @@ module _ {K : Type 0} (name_of : K → List ℕ) (ts : List TerminalName) (by_na
   tables_token after name put = record {
     count = shorter (token name);
     tokens = found_more name_of token (λ m n e. cc) ts by_name after s name next put tables.tokens;
-    bytes = tables.bytes;
-    literals = λ b lt. found_later ts (token name) (byte b) (slice_index_or by_byte b None) (λ e. cc)
-        (tables.literals b lt);
+    literals = record {
+      bytes = tables.literals.bytes;
+      numbers = λ b lt. found_later ts (token name) (byte b) (slice_index_or by_byte b None) (λ e. cc)
+          (tables.literals.numbers b lt);
+    };
   }
 
   -- the tables with one literal more
@@ -109,20 +111,22 @@ module _ {K : Type 0} (name_of : K → List ℕ) (ts : List TerminalName) (by_na
     count = shorter (byte b);
     tokens = λ m. found_later ts (byte b) (token m) (lookup (λ k. bytes_eq m (name_of k)) by_name) (λ e. cc)
         (tables.tokens m);
-    bytes = length-set by_byte b (Some s) ∙ tables.bytes;
-    literals = λ d less. by d less (cases_eq d b);
+    literals = record {
+      bytes = length-set by_byte b (Some s) ∙ tables.literals.bytes;
+      numbers = λ d less. by d less (cases_eq d b);
+    };
   } where
     by : (d : ℕ) → d < 256 → (d ≡ b) ⊎ (d ≡ b → ⊥)
         → IsFoundAs (ts ++ byte b ∷ []) (byte d) (slice_index_or (slice_set by_byte b (Some s)) d None)
     by d less (inl same) =
         let found : slice_index_or (slice_set by_byte b (Some s)) d None ≡ Some s
         = ap (λ n. slice_index_or (slice_set by_byte b (Some s)) n None) same
-        ∙ get_or-set_same by_byte b (Some s) None (omega (arith, lt, tables.bytes)) in
+        ∙ get_or-set_same by_byte b (Some s) None (omega (arith, lt, tables.literals.bytes)) in
         subst (IsFoundAs (ts ++ byte b ∷ []) (byte d)) (sym found)
         (found_last ts (byte b) s next ∙ ap (λ n. Some (byte n)) (sym same))
     by d less (inr other) =
         subst (IsFoundAs (ts ++ byte b ∷ []) (byte d)) (sym (get_or-set_other by_byte b d (Some s) None other))
-        (found_later ts (byte b) (byte d) (slice_index_or by_byte d None) (λ e. other (cc)) (tables.literals d less))
+        (found_later ts (byte b) (byte d) (slice_index_or by_byte d None) (λ e. other (cc)) (tables.literals.numbers d less))
 
 -- the tables of no token and no literal
 pub no_tables : {K : Type 0} (name_of : K → List ℕ) (by_byte : List (Option Sym)) → by_byte ≡ replicate 256 None
@@ -133,11 +137,13 @@ no_tables name_of by_byte none = record {
     | inl e ↦ absurd (cc)
     | inr rest ↦ let e : undefined ≡ token n = Contains-one undefined (token n) rest in cc
   ];
-  bytes = ap length none ∙ length-replicate 256 (let n : Option Sym = None in n);
-  literals = λ b lt. subst (IsFoundAs (end ∷ undefined ∷ []) (byte b))
-      (sym (ap (λ os. slice_index_or os b None) none ∙ get_or-replicate 256 b None None lt))
-      (λ there. elim (Contains-cons_cases end (undefined ∷ []) (byte b) there) [
-        | inl e ↦ absurd (cc)
-        | inr rest ↦ let e : undefined ≡ byte b = Contains-one undefined (byte b) rest in cc
-      ]);
+  literals = record {
+    bytes = ap length none ∙ length-replicate 256 (let n : Option Sym = None in n);
+    numbers = λ b lt. subst (IsFoundAs (end ∷ undefined ∷ []) (byte b))
+        (sym (ap (λ os. slice_index_or os b None) none ∙ get_or-replicate 256 b None None lt))
+        (λ there. elim (Contains-cons_cases end (undefined ∷ []) (byte b) there) [
+          | inl e ↦ absurd (cc)
+          | inr rest ↦ let e : undefined ≡ byte b = Contains-one undefined (byte b) rest in cc
+        ]);
+  };
 }

@@ -59,7 +59,7 @@ fn specify(
     lex: &LexFile,
     yacc: &YaccFile,
     limits: &Limits,
-    table: SymbolTable,
+    table: SymbolTable<'_>,
 ) -> Result<Spec, JoinFault>
     requires numbered { AreNumbered (written_of yacc.now) (table_from table) }
     requires some { 0 < length yacc.now.rules.items }
@@ -90,7 +90,7 @@ fn contents_of(
     lex: &LexFile,
     yacc: &YaccFile,
     limits: &Limits,
-    table: &SymbolTable,
+    table: &SymbolTable<'_>,
 ) -> Result<Contents, JoinFault>
     requires numbered { AreNumbered (written_of yacc.now) (table_from table.now) }
     requires some { 0 < length yacc.now.rules.items }
@@ -115,7 +115,7 @@ fn contents_of(
 }
 
 /// Numbers the symbols, and finds the precedence of each terminal.
-fn number_symbols(alloc: Global, yacc: &YaccFile) -> Result<SymbolTable, JoinFault>
+fn number_symbols(alloc: Global, yacc: &YaccFile) -> Result<SymbolTable<'_>, JoinFault>
     ensures ok { IfOk result (λ table. AreNumbered (written_of yacc.now) (table_from table)) }
     ensures fault { IfErr result (IsGivingFault (given (map declared_of yacc.now.declarations.items))) }
 {
@@ -130,7 +130,7 @@ fn number_symbols(alloc: Global, yacc: &YaccFile) -> Result<SymbolTable, JoinFau
 }
 
 /// The number of the start symbol: of the name behind `%start`, which has to be a left side, or else the first one.
-fn start_symbol(alloc: Global, table: &SymbolTable, yacc: &YaccFile) -> Result<Sym, JoinFault>
+fn start_symbol(alloc: Global, table: &SymbolTable<'_>, yacc: &YaccFile) -> Result<Sym, JoinFault>
     requires numbered { AreNumbered (written_of yacc.now) (table_from table.now) }
     requires some { 0 < length yacc.now.rules.items }
     ensures ok { IfOk result (λ start. IsStart (written_of yacc.now) (table_from table.now) start.0) }
@@ -146,9 +146,13 @@ fn start_symbol(alloc: Global, table: &SymbolTable, yacc: &YaccFile) -> Result<S
 }
 
 /// The specification of what two files say over their symbols.
-fn specification(alloc: Global, table: SymbolTable, contents: Contents) -> Result<Spec, OutOfMemory>
+fn specification(
+    alloc: Global,
+    table: SymbolTable<'_>,
+    contents: Contents,
+) -> Result<Spec, OutOfMemory>
     requires { IsReady (table_from table) contents.start.0 contents.rules.items (map note_of contents.notes.items) }
-    ensures { IfOk result (λ s. s ≡ spec_from (table_from table) contents.start.0 contents.rules.items
+    ensures { IfOk result (λ s. s ≡ spec_from (table_from table.entry) contents.start.0 contents.rules.items
         (map note_of contents.notes.items) contents.scanner.items) }
 {
     let Contents {
@@ -163,9 +167,12 @@ fn specification(alloc: Global, table: SymbolTable, contents: Contents) -> Resul
         precedences,
     } = table;
     let grammar = Grammar::new(alloc, terminals.count(), nonterminals.count(), start, rules)?;
+    let nonterminals = nonterminals.into_names(alloc)?;
+    let (terminals, literals) = terminals.into_lists();
     Ok(Spec {
         grammar,
         terminals,
+        literals,
         nonterminals,
         precedences,
         notes,

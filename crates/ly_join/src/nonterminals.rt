@@ -1,43 +1,38 @@
-ghost use Rattle.std.specs.Prelude.{◌≡◌, ◌<◌, [], length, IfOk, Contains, slice_get, Some};
+ghost use Rattle.std.specs.Prelude.{◌≡◌, ◌<◌, [], length, map, IfOk, Contains, slice_get, Some};
 ghost use Rattle.std.specs.Str.{bytes_eq};
 ghost use Rattle.ly_join.specs.Private.Numbering.{with_one};
 ghost use Rattle.ly_join.specs.Private.Tables.{IsFoundAs};
 
 use crate::terminal::next_number;
+use indexmap::IndexSet;
 use ly_base::{OutOfMemory, Sym};
-use std::alloc::Global;
-use std::collections::HashMap;
+use std::alloc::{AllocError, Global};
 use std::marker::Model;
 
-/// The names of nonterminals, numbered as they came, each once.
+/// The names of nonterminals, numbered as they came, each once. They stand in the yacc file.
 #[derive(Drop)]
-pub(crate) struct Nonterminals {
+pub(crate) struct Nonterminals<'t> {
     /// The names.
-    names: Vec<Vec<u8>>,
-    /// The number of each.
-    numbers: HashMap<Vec<u8>, Sym>,
+    names: IndexSet<&'t [u8]>,
 }
 
-impl Model for Nonterminals {
+impl<'t> Model for Nonterminals<'t> {
     ghost use Rattle.std.specs.Prelude.{ℕ, List, map, length, ◌<◌, ◌^◌};
-    ghost use Rattle.ly_join.specs.Private.Tables.{AreFoundByName};
 
     ghost Value = { List (List ℕ) };
 
-    ghost view = { λ n. map (λ k. k.items) n.names.items };
+    ghost view = { λ n. map (λ k. k.now) n.names.keys };
 
-    ghost invariant = { λ n. (length n.names.items < 2 ^ 32)
-        × AreFoundByName (λ k. k.items) (λ name. name) (map (λ k. k.items) n.names.items) n.numbers.entries };
+    ghost invariant = { λ n. length n.names.keys < 2 ^ 32 };
 }
 
-impl Nonterminals {
+impl<'t> Nonterminals<'t> {
     /// No names.
-    pub(crate) fn new(alloc: Global) -> Nonterminals
+    pub(crate) fn new(alloc: Global) -> Nonterminals<'t>
         ensures { result ≡ [] }
     {
         Nonterminals {
-            names: Vec::new(alloc),
-            numbers: HashMap::new(alloc),
+            names: IndexSet::new(alloc),
         }
     }
 
@@ -48,19 +43,12 @@ impl Nonterminals {
         self.names.len() as u32
     }
 
-    /// The name of a number.
-    pub(crate) fn name(&self, number: usize) -> &[u8]
-        requires { number < length self.now }
-        ensures { slice_get self.now number ≡ Some result.now }
-    {
-        &self.names[number]
-    }
-
     /// The number of a name, if it is there.
     pub(crate) fn find(&self, name: &[u8]) -> Option<Sym>
         ensures { IsFoundAs self.now name.now result }
     {
-        self.numbers.get(name).copied()
+        let number = self.names.get_index_of(name)?;
+        Some(Sym(number as u32))
     }
 
     /// The number of a name that is there.
@@ -72,19 +60,23 @@ impl Nonterminals {
     }
 
     /// The names with one more, which gets the next number where it is a new one.
-    pub(crate) fn with_name(
-        mut self,
-        alloc: Global,
-        name: &[u8],
-    ) -> Result<Nonterminals, OutOfMemory>
-        ensures { IfOk result (λ n. n ≡ with_one bytes_eq self name.now) }
+    pub(crate) fn with_name(mut self, name: &'t [u8]) -> Result<Nonterminals<'t>, OutOfMemory>
+        ensures { IfOk result (λ n. n ≡ with_one bytes_eq self.entry name.now) }
     {
-        if self.find(name).is_some() {
-            return Ok(self);
-        }
-        let number = next_number(self.names.len())?;
-        self.numbers.insert(Vec::from_slice(alloc, name)?, number)?;
-        self.names.push(Vec::from_slice(alloc, name)?)?;
+        next_number(self.names.len())?;
+        self.names.insert(name)?;
         Ok(self)
+    }
+
+    /// The names by number, with room of their own.
+    pub(crate) fn into_names(self, alloc: Global) -> Result<Vec<Vec<u8>>, AllocError>
+        ensures { IfOk result (λ names. map (λ n. n.items) names.items ≡ self.entry) }
+    {
+        let mut names = Vec::with_capacity(alloc, self.names.len())?;
+        let keys = self.names.as_slice();
+        for name in keys {
+            names.push(Vec::from_slice(alloc, name)?)?;
+        }
+        Ok(names)
     }
 }

@@ -15,7 +15,7 @@ use ly_yaccread::{Production, SymbolName, YaccFile};
 use std::alloc::Global;
 
 /// Numbers the terminals: `$end`, `$undef`, and the tokens and literals of declarations, bodies and `%prec`.
-pub(crate) fn number_terminals(alloc: Global, yacc: &YaccFile) -> Result<Terminals, OutOfMemory>
+pub(crate) fn number_terminals(alloc: Global, yacc: &YaccFile) -> Result<Terminals<'_>, OutOfMemory>
     ensures { IfOk result (λ t. t ≡ terminals_of (written_of yacc.now)) }
 {
     let mut terminals = Terminals::new(alloc)?;
@@ -29,12 +29,12 @@ pub(crate) fn number_terminals(alloc: Global, yacc: &YaccFile) -> Result<Termina
 }
 
 /// The terminals with the symbols of a declaration.
-fn with_symbols(
+fn with_symbols<'t>(
     alloc: Global,
-    mut terminals: Terminals,
-    symbols: &[SymbolName],
-) -> Result<Terminals, OutOfMemory>
-    ensures { IfOk result (λ t. t ≡ with_all same_terminal terminals (map terminal_of symbols.now)) }
+    mut terminals: Terminals<'t>,
+    symbols: &'t [SymbolName],
+) -> Result<Terminals<'t>, OutOfMemory>
+    ensures { IfOk result (λ t. t ≡ with_all same_terminal terminals.entry (map terminal_of symbols.now)) }
 {
     for symbol in symbols {
         terminals = terminals.with_symbol(alloc, symbol)?;
@@ -43,12 +43,12 @@ fn with_symbols(
 }
 
 /// The terminals with the literals of a rule.
-fn with_rule(
+fn with_rule<'t>(
     alloc: Global,
-    mut terminals: Terminals,
-    production: &Production,
-) -> Result<Terminals, OutOfMemory>
-    ensures { IfOk result (λ t. t ≡ with_all same_terminal terminals (rule_literals (ruling_of production.now))) }
+    mut terminals: Terminals<'t>,
+    production: &'t Production,
+) -> Result<Terminals<'t>, OutOfMemory>
+    ensures { IfOk result (λ t. t ≡ with_all same_terminal terminals.entry (rule_literals (ruling_of production.now))) }
 {
     for symbol in &production.body {
         terminals = with_literal(alloc, terminals, symbol)?;
@@ -60,12 +60,12 @@ fn with_rule(
 }
 
 /// The terminals with a symbol of a rule, if it is a literal.
-fn with_literal(
+fn with_literal<'t>(
     alloc: Global,
-    terminals: Terminals,
-    symbol: &SymbolName,
-) -> Result<Terminals, OutOfMemory>
-    ensures { IfOk result (λ t. t ≡ with_all same_terminal terminals
+    terminals: Terminals<'t>,
+    symbol: &'t SymbolName,
+) -> Result<Terminals<'t>, OutOfMemory>
+    ensures { IfOk result (λ t. t ≡ with_all same_terminal terminals.entry
         (option_to_list (literal_in (symbol_word symbol.now)))) }
 {
     match symbol {
@@ -78,12 +78,12 @@ fn with_literal(
 pub(crate) fn number_nonterminals(
     alloc: Global,
     yacc: &YaccFile,
-) -> Result<Nonterminals, OutOfMemory>
+) -> Result<Nonterminals<'_>, OutOfMemory>
     ensures { IfOk result (λ n. n ≡ nonterminals_of (written_of yacc.now)) }
 {
     let mut nonterminals = Nonterminals::new(alloc);
     for production in &yacc.rules {
-        nonterminals = nonterminals.with_name(alloc, &production.left)?;
+        nonterminals = nonterminals.with_name(&production.left)?;
     }
     Ok(nonterminals)
 }

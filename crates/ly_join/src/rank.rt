@@ -19,7 +19,7 @@ use std::alloc::{AllocError, Global};
 /// For each terminal its precedence, if a declaration gives it one.
 pub(crate) fn precedences(
     alloc: Global,
-    terminals: &Terminals,
+    terminals: &Terminals<'_>,
     declarations: &[Declaration],
 ) -> Result<Vec<Option<Precedence>>, JoinFault>
     requires once { AllPairs (λ x y. x ≢ y) terminals.now }
@@ -62,7 +62,7 @@ fn associativity_of(kind: DeclarationKind) -> Option<Associativity>
 fn give(
     alloc: Global,
     given: &mut [Option<Precedence>],
-    terminals: &Terminals,
+    terminals: &Terminals<'_>,
     symbols: &[SymbolName],
     precedence: Precedence,
 ) -> Result<(), JoinFault>

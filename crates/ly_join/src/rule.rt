@@ -35,11 +35,11 @@ pub struct RuleNote {
 
 /// What the symbols of rules are.
 #[derive(Drop)]
-pub(crate) struct SymbolTable {
+pub(crate) struct SymbolTable<'t> {
     /// The terminals.
-    pub(crate) terminals: Terminals,
+    pub(crate) terminals: Terminals<'t>,
     /// The nonterminals.
-    pub(crate) nonterminals: Nonterminals,
+    pub(crate) nonterminals: Nonterminals<'t>,
     /// The precedence of each terminal, if it has one.
     pub(crate) precedences: Vec<Option<Precedence>>,
 }
@@ -48,7 +48,7 @@ pub(crate) struct SymbolTable {
 /// refused in the end, no more than `most` are kept: the others are joined for their faults alone.
 pub(crate) fn join_rules(
     alloc: Global,
-    table: &SymbolTable,
+    table: &SymbolTable<'_>,
     productions: &[Production],
     most: usize,
 ) -> Result<(Vec<GrammarRule>, Vec<RuleNote>), JoinFault>
@@ -76,7 +76,7 @@ pub(crate) fn join_rules(
 /// A rule over numbered symbols, and what it says beside them.
 fn join_rule(
     alloc: Global,
-    table: &SymbolTable,
+    table: &SymbolTable<'_>,
     production: &Production,
 ) -> Result<(GrammarRule, RuleNote), JoinFault>
     requires { AreCovered (table_from table.now) (ruling_of production.now ∷ []) }
@@ -94,7 +94,7 @@ fn join_rule(
 }
 
 /// The number of a left side, which may be no token.
-fn left_side(alloc: Global, table: &SymbolTable, name: &[u8]) -> Result<Sym, JoinFault>
+fn left_side(alloc: Global, table: &SymbolTable<'_>, name: &[u8]) -> Result<Sym, JoinFault>
     requires { Contains table.now.nonterminals name.now }
     ensures ok { IfOk result (λ left. slice_get table.now.nonterminals left.0 ≡ Some name.now) }
     ensures apart { IfOk result (λ left. Contains table.now.terminals (token_terminal name.now) → ⊥) }
@@ -109,7 +109,7 @@ fn left_side(alloc: Global, table: &SymbolTable, name: &[u8]) -> Result<Sym, Joi
 /// The symbols of a body.
 fn join_body(
     alloc: Global,
-    table: &SymbolTable,
+    table: &SymbolTable<'_>,
     body: &[SymbolName],
 ) -> Result<Vec<Symbol>, JoinFault>
     requires { All (HasLiteral table.now.terminals) (symbol_words body.now) }
@@ -125,7 +125,11 @@ fn join_body(
 }
 
 /// The symbol that a name or a literal of a body is.
-fn join_symbol(alloc: Global, table: &SymbolTable, symbol: &SymbolName) -> Result<Symbol, JoinFault>
+fn join_symbol(
+    alloc: Global,
+    table: &SymbolTable<'_>,
+    symbol: &SymbolName,
+) -> Result<Symbol, JoinFault>
     requires { HasLiteral table.now.terminals (symbol_word symbol.now) }
     ensures ok { IfOk result (λ joined. IsSymbol (table_from table.now) (symbol_word symbol.now) (symbol_of joined)) }
     ensures fault { IfErr result (IsUndefinedIn (table_from table.now) (symbol_word symbol.now ∷ [])) }
@@ -145,7 +149,7 @@ fn join_symbol(alloc: Global, table: &SymbolTable, symbol: &SymbolName) -> Resul
 /// The precedence of a rule: of the symbol behind its `%prec`, or else of the last terminal of its body.
 fn rule_precedence(
     alloc: Global,
-    table: &SymbolTable,
+    table: &SymbolTable<'_>,
     production: &Production,
     body: &[Symbol],
 ) -> Result<Option<Precedence>, JoinFault>
@@ -177,7 +181,11 @@ fn precedence_at(precedences: &[Option<Precedence>], terminal: Option<Sym>) -> O
 }
 
 /// The terminal behind a `%prec`.
-fn prec_terminal(alloc: Global, table: &SymbolTable, symbol: &SymbolName) -> Result<Sym, JoinFault>
+fn prec_terminal(
+    alloc: Global,
+    table: &SymbolTable<'_>,
+    symbol: &SymbolName,
+) -> Result<Sym, JoinFault>
     requires { HasLiteral table.now.terminals (symbol_word symbol.now) }
     ensures ok { IfOk result (λ t. IsTerminal table.now.terminals (symbol_word symbol.now) t.0) }
     ensures fault { IfErr result (IsUnknownPrecIn (table_from table.now) (Some (symbol_word symbol.now))) }

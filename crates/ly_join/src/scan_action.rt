@@ -13,7 +13,7 @@ use std::alloc::Global;
 /// What the actions of a lex file do.
 pub(crate) fn scan_actions(
     alloc: Global,
-    terminals: &Terminals,
+    terminals: &Terminals<'_>,
     actions: &[LexAction],
 ) -> Result<Vec<ScanAction>, JoinFault>
     ensures ok { IfOk result (λ joined.
@@ -34,7 +34,7 @@ pub(crate) fn scan_actions(
 /// The token that comes of what an action returns.
 fn emitted_by(
     alloc: Global,
-    terminals: &Terminals,
+    terminals: &Terminals<'_>,
     returned: &Returned,
 ) -> Result<Emitted, JoinFault>
     ensures ok { IfOk result (IsEmitted terminals.now (returning_of returned.now)) }

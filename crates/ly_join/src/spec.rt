@@ -5,10 +5,9 @@ ghost use Rattle.ly_join.specs.Sizes.{HasSizes};
 ghost use Rattle.ly_join.specs.Terminals.{terminal_from, IsOfByte};
 
 use crate::grammar::Grammar;
-use crate::nonterminals::Nonterminals;
 use crate::precedence::Precedence;
 use crate::rule::RuleNote;
-use crate::terminal::{TerminalName, Terminals};
+use crate::terminal::TerminalName;
 use ly_base::{ScanAction, Sym};
 use std::marker::Model;
 
@@ -19,9 +18,11 @@ pub struct Spec {
     /// The grammar.
     pub(crate) grammar: Grammar,
     /// What its terminals are.
-    pub(crate) terminals: Terminals,
+    pub(crate) terminals: Vec<TerminalName>,
+    /// The number of the literal of each byte, if there is one.
+    pub(crate) literals: Vec<Option<Sym>>,
     /// The names of its nonterminals, `$accept` not among them.
-    pub(crate) nonterminals: Nonterminals,
+    pub(crate) nonterminals: Vec<Vec<u8>>,
     /// The precedence of each terminal.
     pub(crate) precedences: Vec<Option<Precedence>>,
     /// What each rule says beside its symbols, rule 0 among them.
@@ -34,6 +35,8 @@ impl Model for Spec {
     ghost use Rattle.std.specs.Prelude.{map};
     ghost use Rattle.ly_join.specs.Joined as spec;
     ghost use Rattle.ly_join.specs.Joined.{note_of};
+    ghost use Rattle.ly_join.specs.Terminals.{terminal_from};
+    ghost use Rattle.ly_join.specs.Private.Tables.{AreLiterals};
 
     ghost Value = { spec.Spec };
 
@@ -41,8 +44,8 @@ impl Model for Spec {
 
     ghost view = { λ s. record {
       grammar = s.grammar;
-      terminals = s.terminals;
-      nonterminals = s.nonterminals;
+      terminals = map terminal_from s.terminals.items;
+      nonterminals = map (λ n. n.items) s.nonterminals.items;
       precedences = s.precedences.items;
       notes = map note_of s.notes.items;
       scanner = s.scanner.items;
@@ -50,12 +53,12 @@ impl Model for Spec {
 
     ghost invariant = { λ s. HasSizes (record {
       grammar = s.grammar;
-      terminals = s.terminals;
-      nonterminals = s.nonterminals;
+      terminals = map terminal_from s.terminals.items;
+      nonterminals = map (λ n. n.items) s.nonterminals.items;
       precedences = s.precedences.items;
       notes = map note_of s.notes.items;
       scanner = s.scanner.items;
-    }) };
+    }) × AreLiterals (map terminal_from s.terminals.items) s.literals.items };
 }
 
 impl Spec {
@@ -71,7 +74,7 @@ impl Spec {
     pub fn terminals(&self) -> &[TerminalName]
         ensures { map terminal_from result.now ≡ self.now.terminals }
     {
-        self.terminals.names()
+        &self.terminals
     }
 
     /// The name of the nonterminal of a number.
@@ -79,14 +82,14 @@ impl Spec {
         requires { number.0 < length self.now.nonterminals }
         ensures { slice_get self.now.nonterminals number.0 ≡ Some result.now }
     {
-        self.nonterminals.name(number.0 as usize)
+        &self.nonterminals[number.0 as usize]
     }
 
     /// The terminal that a byte is where it stands for itself: its literal, or `$undef` where the grammar has none.
     pub fn of_byte(&self, byte: u8) -> Sym
         ensures { IsOfByte self.now.terminals byte result.0 }
     {
-        self.terminals.of_byte(byte)
+        self.literals[byte as usize].unwrap_or(Sym(1))
     }
 
     /// The precedence of each terminal, by number.

@@ -2,12 +2,12 @@ ghost use Rattle.std.specs.Prelude.{◌≡◌, ◌<◌, [], ◌∷◌, ◌+◌, 
 ghost use Rattle.ly_join.specs.Terminals.{byte as byte_terminal, end, undefined, same_terminal};
 ghost use Rattle.ly_join.specs.Terminals.{token as token_terminal, IsNumbered, IsOfByte};
 ghost use Rattle.ly_join.specs.Private.Numbering.{with_one};
-ghost use Rattle.ly_join.specs.Private.Tables.{terminal_of, IsFoundAs};
+ghost use Rattle.ly_join.specs.Private.Tables.{terminal_of, AreLiterals, IsFoundAs};
 
+use indexmap::IndexMap;
 use ly_base::{OutOfMemory, Sym};
 use ly_yaccread::SymbolName;
 use std::alloc::Global;
-use std::collections::HashMap;
 use std::marker::Model;
 
 /// What a terminal of a grammar is.
@@ -25,16 +25,16 @@ pub enum TerminalName {
 
 /// Terminals, numbered as they came: `$end`, `$undef`, and then tokens and literals, each once.
 #[derive(Drop)]
-pub(crate) struct Terminals {
+pub(crate) struct Terminals<'t> {
     /// What each terminal is.
     names: Vec<TerminalName>,
-    /// The numbers of the tokens with a name.
-    tokens: HashMap<Vec<u8>, Sym>,
+    /// The numbers of the tokens by their names, which stand in the yacc file.
+    tokens: IndexMap<&'t [u8], Sym>,
     /// The number of the literal of each byte, if there is one.
     literals: Vec<Option<Sym>>,
 }
 
-impl Model for Terminals {
+impl<'t> Model for Terminals<'t> {
     ghost use Rattle.std.specs.Prelude.{List, map};
     ghost use Rattle.ly_join.specs.Terminals as value;
     ghost use Rattle.ly_join.specs.Terminals.{terminal_from};
@@ -44,15 +44,15 @@ impl Model for Terminals {
 
     ghost view = { λ t. map terminal_from t.names.items };
 
-    ghost invariant = { λ t. AreTables (λ k. k.items) (map terminal_from t.names.items) t.tokens.entries
+    ghost invariant = { λ t. AreTables (λ k. k.now) (map terminal_from t.names.items) t.tokens.entries
         t.literals.items };
 }
 
-impl Terminals {
+impl<'t> Terminals<'t> {
     ghost use Rattle.ly_join.specs.Terminals.{terminal_from};
 
     /// `$end` and `$undef`.
-    pub(crate) fn new(alloc: Global) -> Result<Terminals, OutOfMemory>
+    pub(crate) fn new(alloc: Global) -> Result<Terminals<'t>, OutOfMemory>
         ensures { IfOk result (λ t. t ≡ end ∷ undefined ∷ []) }
     {
         let mut names = Vec::new(alloc);
@@ -60,7 +60,7 @@ impl Terminals {
         names.push(TerminalName::Undefined)?;
         Ok(Terminals {
             names,
-            tokens: HashMap::new(alloc),
+            tokens: IndexMap::new(alloc),
             literals: vec![in alloc; None; 256]?,
         })
     }
@@ -97,10 +97,7 @@ impl Terminals {
     pub(crate) fn of_byte(&self, byte: u8) -> Sym
         ensures { IsOfByte self.now byte result.0 }
     {
-        match self.literal(byte) {
-            Some(terminal) => terminal,
-            None => Sym(1),
-        }
+        self.literal(byte).unwrap_or(Sym(1))
     }
 
     /// The number of a symbol, if it is a terminal.
@@ -121,13 +118,26 @@ impl Terminals {
         self.find(symbol).unwrap()
     }
 
+    /// What each terminal is, by number, and the number of the literal of each byte, if there is one.
+    pub(crate) fn into_lists(self) -> (Vec<TerminalName>, Vec<Option<Sym>>)
+        ensures names { map terminal_from result.0.items ≡ self.entry }
+        ensures literals { AreLiterals self.entry result.1.items }
+    {
+        let Terminals {
+            names,
+            tokens: _,
+            literals,
+        } = self;
+        (names, literals)
+    }
+
     /// The terminals with a symbol, which gets the next number where it is a new one.
     pub(crate) fn with_symbol(
         self,
         alloc: Global,
-        symbol: &SymbolName,
-    ) -> Result<Terminals, OutOfMemory>
-        ensures { IfOk result (λ t. t ≡ with_one same_terminal self (terminal_of symbol.now)) }
+        symbol: &'t SymbolName,
+    ) -> Result<Terminals<'t>, OutOfMemory>
+        ensures { IfOk result (λ t. t ≡ with_one same_terminal self.entry (terminal_of symbol.now)) }
     {
         match symbol {
             SymbolName::Name(name) => self.with_token(alloc, name),
@@ -136,22 +146,22 @@ impl Terminals {
     }
 
     /// The terminals with the token of a name.
-    fn with_token(mut self, alloc: Global, name: &[u8]) -> Result<Terminals, OutOfMemory>
-        ensures { IfOk result (λ t. t ≡ with_one same_terminal self (token_terminal name.now)) }
+    fn with_token(mut self, alloc: Global, name: &'t [u8]) -> Result<Terminals<'t>, OutOfMemory>
+        ensures { IfOk result (λ t. t ≡ with_one same_terminal self.entry (token_terminal name.now)) }
     {
         if self.token(name).is_some() {
             return Ok(self);
         }
         let number = next_number(self.names.len())?;
-        self.tokens.insert(Vec::from_slice(alloc, name)?, number)?;
+        self.tokens.insert(name, number)?;
         self.names
             .push(TerminalName::Token(Vec::from_slice(alloc, name)?))?;
         Ok(self)
     }
 
     /// The terminals with the literal of a byte.
-    fn with_literal(mut self, byte: u8) -> Result<Terminals, OutOfMemory>
-        ensures { IfOk result (λ t. t ≡ with_one same_terminal self (byte_terminal byte)) }
+    fn with_literal(mut self, byte: u8) -> Result<Terminals<'t>, OutOfMemory>
+        ensures { IfOk result (λ t. t ≡ with_one same_terminal self.entry (byte_terminal byte)) }
     {
         if self.literal(byte).is_some() {
             return Ok(self);

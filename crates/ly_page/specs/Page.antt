@@ -4,6 +4,7 @@ use Rattle.std.specs.Prelude.{option_map, unwrap_or, slice_get, OnSome, IfSome, 
 use Rattle.std.specs.Fmt.{decimal}
 use Rattle.std.specs.Option.{option_and_then}
 use Rattle.ly_base.specs.Bytes.{space}
+use Rattle.ly_base.specs.declared.location.Location.{Location}
 use Rattle.ly_join.specs.Grammar.{GrammarRule, Symbol, nonterminal, terminal}
 use Rattle.ly_join.specs.Joined.{Spec}
 use Rattle.ly_report.specs.Report.{behind_spaces, symbol_name}
@@ -32,6 +33,10 @@ counted n one many = decimal n ++ space ∷ (if n == 1 then one else many)
 -- the name of a file, and a line of it
 abbrev pub line_of : List ℕ → ℕ → List ℕ
 line_of name line = name ++ codes ":" ++ decimal line ++ codes ": "
+
+-- the name of a file, and a line and a column of it
+abbrev pub location_in : List ℕ → Location → List ℕ
+location_in name at = name ++ codes ":" ++ decimal at.line ++ codes ":" ++ decimal at.column ++ codes ": "
 
 -- a symbol by its name; the nonterminal of the whole text, of rule 0 alone, has none in the file
 abbrev pub symbol_words : Spec → Symbol → List ℕ

@@ -5,11 +5,11 @@ ghost use Rattle.ly_print.specs.Text.{literal, name_of};
 ghost use Rattle.ly_join.specs.Grammar.{symbol_of, terminal as symbol_at};
 ghost use Rattle.ly_join.specs.Terminals.{terminal_from};
 ghost use Rattle.ly_report.specs.Report.{symbol_name, terminal_name};
-ghost use Rattle.ly_page.specs.Page.{body_words, counted, line_of, numbered_words, Says, SaysPrinted, spaced_words};
-ghost use Rattle.ly_page.specs.Page.{symbol_words};
+ghost use Rattle.ly_page.specs.Page.{body_words, counted, line_of, location_in, numbered_words, Says, SaysPrinted};
+ghost use Rattle.ly_page.specs.Page.{spaced_words, symbol_words};
 
 use crate::named::Named;
-use ly_base::{OutOfMemory, Sym};
+use ly_base::{Location, OutOfMemory, Sym};
 use ly_join::{Spec, Symbol, TerminalName};
 use ly_print::{Terminal, push_name};
 use ly_report::push_terminal;
@@ -130,6 +130,18 @@ impl Page {
         self.say(file.name.as_bytes());
         self.say(b":");
         self.say_number(line);
+        self.say(b": ");
+    }
+
+    /// The name of a file, and a line and a column of it.
+    pub fn say_location_in(&mut self, file: Named<'_>, at: Location)
+        ensures { Says self.old (location_in file.entry.name.now at) self.new }
+    {
+        self.say(file.name.as_bytes());
+        self.say(b":");
+        self.say_number(at.line);
+        self.say(b":");
+        self.say_number(at.column);
         self.say(b": ");
     }
 

@@ -69,7 +69,7 @@ fn give_once(file: &mut YaccFile, terminal: &TerminalName) {
 }
 
 /// Whether a symbol is this name.
-fn is_name(symbol: &SymbolName, name: &[u8]) -> bool {
+pub(crate) fn is_name(symbol: &SymbolName, name: &[u8]) -> bool {
     match symbol {
         SymbolName::Name(found) => found.as_slice() == name,
         SymbolName::Literal(_) => false,
@@ -77,7 +77,7 @@ fn is_name(symbol: &SymbolName, name: &[u8]) -> bool {
 }
 
 /// Whether a symbol is this terminal.
-fn is_terminal(symbol: &SymbolName, terminal: &TerminalName) -> bool {
+pub(crate) fn is_terminal(symbol: &SymbolName, terminal: &TerminalName) -> bool {
     match (symbol, terminal) {
         (SymbolName::Name(name), TerminalName::Token(token)) => name.as_slice() == token.as_slice(),
         (SymbolName::Literal(byte), TerminalName::Literal(other)) => byte == other,

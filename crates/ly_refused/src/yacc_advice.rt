@@ -3,33 +3,32 @@ use crate::advice::Advice;
 use crate::yacc_before::Before;
 use crate::yacc_units::begins_rule;
 use ly_base::{Language, leading_name};
-use ly_yaccread::YaccFault;
+use ly_yaccread::YaccFaultKind;
 
 /// The advice behind a fault, by what stands at its place and before it.
-pub(crate) fn yacc_advice(before: &Before, fault: &YaccFault, rest: &[u8]) -> Advice {
+pub(crate) fn yacc_advice(before: &Before, kind: YaccFaultKind, rest: &[u8]) -> Advice {
     if rest.starts_with(b"//") {
         return Advice::Words("comments are written `/* .. */`");
     }
-    Advice::Words(match fault {
-        YaccFault::NoRulesMark { .. } => "write a line `%%` before the first rule",
-        YaccFault::BadDeclaration { .. } => declaration_advice(before, rest),
-        YaccFault::BadRule { .. } => rule_advice(before, rest),
-        YaccFault::BadLiteral { .. } => {
+    Advice::Words(match kind {
+        YaccFaultKind::NoRulesMark => "write a line `%%` before the first rule",
+        YaccFaultKind::BadDeclaration => declaration_advice(before, rest),
+        YaccFaultKind::BadRule => rule_advice(before, rest),
+        YaccFaultKind::BadLiteral => {
             "a literal is one byte in single quotes, as `'+'`: give a longer token a name"
         }
-        YaccFault::BadAction { .. } => action_advice(rest),
-        YaccFault::DollarRange { .. } => {
+        YaccFaultKind::BadAction => action_advice(rest),
+        YaccFaultKind::DollarRange => {
             "`$1` is the first symbol of this body: it has fewer than that"
         }
-        YaccFault::DollarTwice { .. } => "a tree stands in one place: name each `$` once",
-        YaccFault::ErrorToken { .. } => {
+        YaccFaultKind::DollarTwice => "a tree stands in one place: name each `$` once",
+        YaccFaultKind::ErrorToken => {
             "there is no recovery from errors: leave the body with `error` out"
         }
-        YaccFault::MidRuleAction { .. } => {
+        YaccFaultKind::MidRuleAction => {
             "an action ends its body: make the symbols before it a rule of their own"
         }
-        YaccFault::UnclosedComment { .. } => unclosed_advice(rest),
-        YaccFault::OutOfMemory => return Advice::Nothing,
+        YaccFaultKind::UnclosedComment => unclosed_advice(rest),
     })
 }
 

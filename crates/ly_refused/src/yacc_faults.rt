@@ -8,7 +8,7 @@ use crate::yacc_before::Before;
 use crate::yacc_mending::mending;
 use ly_base::OutOfMemory;
 use ly_generate::GenFault;
-use ly_yaccread::{YaccFault, YaccFile, read_yacc};
+use ly_yaccread::{YaccFault, YaccFaultKind, YaccFile, read_yacc};
 use std::alloc::Global;
 
 /// A yacc file that is read, its faults mended.
@@ -31,10 +31,12 @@ pub(crate) fn find_yacc_faults(
         match read_yacc(alloc, &text) {
             Ok(file) => return Ok(Some(MendedYacc { text, file })),
             Err(YaccFault::OutOfMemory) => return Err(OutOfMemory),
-            Err(fault) => match mend_fault(alloc, findings, &text, fault, mended)? {
-                Some(next) => text = next,
-                None => break,
-            },
+            Err(YaccFault::Refused { kind, offset }) => {
+                match mend_fault(alloc, findings, &text, kind, offset, mended)? {
+                    Some(next) => text = next,
+                    None => break,
+                }
+            }
         }
     }
     Ok(None)
@@ -53,31 +55,22 @@ fn plain_text(
     Ok(plain)
 }
 
-/// Where a fault stands; in front of the file where it has no place.
-fn location_of(fault: &YaccFault) -> Location {
-    Location {
-        line: fault.line().unwrap_or(1),
-        column: fault.column().unwrap_or(1),
-    }
-}
-
 /// Adds a fault, and answers the text in which it is mended; none where nothing mends it.
 fn mend_fault(
     alloc: Global,
     findings: &mut Findings,
     text: &[u8],
-    fault: YaccFault,
+    kind: YaccFaultKind,
+    offset: usize,
     mended: usize,
 ) -> Result<Option<Vec<u8>>, OutOfMemory> {
-    let at = location_of(&fault);
-    let place = at.place(text);
-    let before = Before::of(alloc, text, place)?;
+    let before = Before::of(alloc, text, offset)?;
     findings.add(Finding {
-        fault: GenFault::Yacc(fault),
-        at,
-        advice: yacc_advice(&before, &fault, from_place(text, place)),
+        fault: GenFault::Yacc(YaccFault::Refused { kind, offset }),
+        at: Location::of(text, offset),
+        advice: yacc_advice(&before, kind, from_place(text, offset)),
     })?;
-    let Some(edit) = mending(text, &before, &fault, place, mended) else {
+    let Some(edit) = mending(text, &before, kind, offset, mended) else {
         return Ok(None);
     };
     Ok(if_changed(text, edit.applied(alloc, text)?))
@@ -90,23 +83,27 @@ fn find_mark_fault(
     bytes: &[u8],
     plain: &[u8],
 ) -> Result<(), OutOfMemory> {
-    let Some(fault) = refusal(alloc, bytes)? else {
+    let Some((kind, offset)) = refusal(alloc, bytes)? else {
         return Ok(());
     };
-    if refusal(alloc, plain)? == Some(fault) {
+    if refusal(alloc, plain)? == Some((kind, offset)) {
         return Ok(());
     }
     findings.add(Finding {
-        fault: GenFault::Yacc(fault),
-        at: location_of(&fault),
+        fault: GenFault::Yacc(YaccFault::Refused { kind, offset }),
+        at: Location::of(bytes, offset),
         advice: Advice::of_marks(has_byte_order_mark(bytes)),
     })
 }
 
-/// Why a text is refused, if it is.
-fn refusal(alloc: Global, text: &[u8]) -> Result<Option<YaccFault>, OutOfMemory> {
-    match read_yacc(alloc, text).err() {
-        Some(YaccFault::OutOfMemory) => Err(OutOfMemory),
-        fault => Ok(fault),
+/// Why a text is refused, if it is, and the offset at fault.
+fn refusal(
+    alloc: Global,
+    text: &[u8],
+) -> Result<Option<(YaccFaultKind, usize)>, OutOfMemory> {
+    match read_yacc(alloc, text) {
+        Ok(_) => Ok(None),
+        Err(YaccFault::Refused { kind, offset }) => Ok(Some((kind, offset))),
+        Err(YaccFault::OutOfMemory) => Err(OutOfMemory),
     }
 }

@@ -6,7 +6,7 @@ use crate::pieces::quoted_length;
 use crate::yacc_before::Before;
 use crate::yacc_units::{Unit, begins_rule, declaration_length, length_to_percent, word_length};
 use ly_base::{Language, after_gap, is_blank, leading_name};
-use ly_yaccread::YaccFault;
+use ly_yaccread::YaccFaultKind;
 
 /// Names that stand in place of symbols that are refused.
 const NAMES: [&[u8]; MOST] = [
@@ -18,7 +18,7 @@ const NAMES: [&[u8]; MOST] = [
 pub(crate) fn mending(
     text: &[u8],
     before: &Before,
-    fault: &YaccFault,
+    kind: YaccFaultKind,
     place: usize,
     mended: usize,
 ) -> Option<Edit> {
@@ -27,16 +27,16 @@ pub(crate) fn mending(
         return Some(Edit::blank(place, line_length(rest)));
     }
     let name = NAMES.get(mended).copied().unwrap_or(b"");
-    match fault {
-        YaccFault::NoRulesMark { .. } | YaccFault::OutOfMemory => None,
-        YaccFault::UnclosedComment { .. } => Some(unclosed_mending(text, before, place)),
-        YaccFault::ErrorToken { .. } if !before.in_rules || begins_rule(rest) => {
+    match kind {
+        YaccFaultKind::NoRulesMark => None,
+        YaccFaultKind::UnclosedComment => Some(unclosed_mending(text, before, place)),
+        YaccFaultKind::ErrorToken if !before.in_rules || begins_rule(rest) => {
             Some(Edit::replace(place, word_length(rest), name))
         }
-        YaccFault::BadLiteral { .. } if !before.in_rules => {
+        YaccFaultKind::BadLiteral if !before.in_rules => {
             Some(Edit::replace(place, literal_length(rest), name))
         }
-        _ if before.in_rules => Some(rule_mending(text, before, fault, place)),
+        _ if before.in_rules => Some(rule_mending(text, before, kind, place)),
         _ => declaration_mending(text, before, place),
     }
 }
@@ -92,7 +92,7 @@ fn missing_mark(text: &[u8], before: &Before, place: usize) -> Option<Edit> {
 }
 
 /// The change that mends what can't stand in the rules.
-fn rule_mending(text: &[u8], before: &Before, fault: &YaccFault, place: usize) -> Edit {
+fn rule_mending(text: &[u8], before: &Before, kind: YaccFaultKind, place: usize) -> Edit {
     let rest = from_place(text, place);
     if !before.in_body {
         return left_side_mending(place, rest);
@@ -100,10 +100,10 @@ fn rule_mending(text: &[u8], before: &Before, fault: &YaccFault, place: usize) -
     if rest.starts_with(b":") || rest.starts_with(b"=") {
         return Edit::blank(place, arrow_length(rest));
     }
-    let from = match fault {
-        YaccFault::BadAction { .. }
-        | YaccFault::DollarRange { .. }
-        | YaccFault::DollarTwice { .. } => before.action.unwrap_or(place),
+    let from = match kind {
+        YaccFaultKind::BadAction | YaccFaultKind::DollarRange | YaccFaultKind::DollarTwice => {
+            before.action.unwrap_or(place)
+        }
         _ => first_at_fault(text, before, place),
     };
     let length = Unit::Body.length(from_place(text, from));

@@ -1,88 +1,10 @@
-//! Where the symbols of a yacc file stand.
+//! Where what a fault of both files names stands in a yacc file.
+use crate::join_mending::{is_name, is_terminal};
 use crate::location::Location;
-use ly_base::{OutOfMemory, literal};
+use ly_base::OutOfMemory;
 use ly_join::{JoinFault, TerminalName};
-use ly_yaccread::{YaccFault, read_yacc, word_spans};
+use ly_yaccread::{DeclarationKind, SymbolName, YaccFault, YaccFile, read_yacc, word_spans};
 use std::alloc::Global;
-
-/// The directives whose declarations give a precedence.
-const GIVING_PRECEDENCE: [&[u8]; 3] = [b"%left", b"%right", b"%nonassoc"];
-
-/// A word of a yacc file, and what stands round it.
-#[derive(Clone, Copy)]
-struct Seen<'t> {
-    /// Whether it stands in the rules.
-    in_rules: bool,
-    /// The last directive before it.
-    directive: &'t [u8],
-    /// The word before it.
-    previous: &'t [u8],
-    /// The word.
-    word: &'t [u8],
-    /// The word behind it.
-    next: &'t [u8],
-}
-
-impl<'t> Seen<'t> {
-    /// The next word, behind which this one stands.
-    fn behind(self, word: &'t [u8], next: &'t [u8]) -> Seen<'t> {
-        Seen {
-            in_rules: self.in_rules || self.word == b"%%".as_slice(),
-            directive: if self.word.starts_with(b"%") {
-                self.word
-            } else {
-                self.directive
-            },
-            previous: self.word,
-            word,
-            next,
-        }
-    }
-
-    /// Whether it is what a fault of both files names.
-    fn is_at_fault(&self, fault: &JoinFault) -> bool {
-        match fault {
-            JoinFault::UndefinedSymbol(name) => {
-                self.is_in_rules(name)
-                    && self.next != b":".as_slice()
-                    && self.next != b"(".as_slice()
-            }
-            JoinFault::TokenOnLeft(name) => self.is_in_rules(name) && self.next == b":".as_slice(),
-            JoinFault::PrecUnknown(name) => self.is_in_rules(name)
-                && self.previous == b"%prec".as_slice(),
-            JoinFault::UnknownStart(name) => {
-                self.word == name.as_slice() && self.previous == b"%start".as_slice()
-            }
-            JoinFault::PrecedenceTwice(terminal) => {
-                self.gives_precedence() && is_terminal(self.word, terminal)
-            }
-            JoinFault::NoRules => self.word == b"%%".as_slice(),
-            _ => false,
-        }
-    }
-
-    /// Whether it stands in a declaration that gives a precedence.
-    fn gives_precedence(&self) -> bool {
-        !self.in_rules && GIVING_PRECEDENCE.contains(&self.directive)
-    }
-
-    /// Whether it is this name and stands in the rules.
-    fn is_in_rules(&self, name: &[u8]) -> bool {
-        self.in_rules && self.word == name
-    }
-}
-
-/// Whether a word is a terminal's.
-fn is_terminal(word: &[u8], terminal: &TerminalName) -> bool {
-    match terminal {
-        TerminalName::Token(name) => word == name.as_slice(),
-        TerminalName::Literal(byte) => match literal(word) {
-            Some((found, _length)) => found == *byte,
-            None => false,
-        },
-        TerminalName::End | TerminalName::Undefined => false,
-    }
-}
 
 /// Where what a fault of both files names stands in a yacc file: first, or where it is named again.
 pub(crate) fn symbol_location(
@@ -90,47 +12,125 @@ pub(crate) fn symbol_location(
     text: &[u8],
     fault: &JoinFault,
 ) -> Result<Option<Location>, OutOfMemory> {
-    let mut left_out: usize = match fault {
-        JoinFault::PrecedenceTwice(_) => 1,
-        _ => 0,
+    let Some(file) = readable(alloc, text)? else {
+        return Ok(None);
     };
-    let mut seen = Seen {
-        in_rules: false,
-        directive: b"",
-        previous: b"",
-        word: b"",
-        next: b"",
+    let offset = match fault {
+        JoinFault::NoRules => word_offset(alloc, text, 0, b"", b"%%")?,
+        JoinFault::PrecedenceTwice(terminal) => offset_given_again(&file, terminal),
+        JoinFault::UnknownStart(name) => word_offset(alloc, text, 0, b"%start", name)?,
+        JoinFault::TokenOnLeft(name) => left_side_offset(&file, name),
+        JoinFault::UndefinedSymbol(name) => match offset_of_body_with(&file, name) {
+            Some(body) => word_offset(alloc, text, body, b"", name)?,
+            None => None,
+        },
+        JoinFault::PrecUnknown(name) => match offset_of_body_ranked_by(&file, name) {
+            Some(body) => word_offset(alloc, text, body, b"%prec", name)?,
+            None => None,
+        },
+        JoinFault::ReturnUndeclared(_)
+        | JoinFault::LimitPassed { .. }
+        | JoinFault::OutOfMemory => None,
     };
-    let spans = word_spans(alloc, text)?;
-    for (place, span) in spans.iter().enumerate() {
-        let next = spans.get(place.saturating_add(1));
-        let next: &[u8] = match next {
-            Some(span) => span.word(text),
-            None => b"",
-        };
-        seen = seen.behind(span.word(text), next);
-        if !seen.is_at_fault(fault) {
-            continue;
-        }
-        if left_out == 0 {
-            return Ok(Some(Location::of(text, span.start)));
-        }
-        left_out = left_out.saturating_sub(1);
-    }
-    Ok(None)
+    Ok(offset.map(|offset| Location::of(text, offset)))
 }
 
 /// Where the first rule of the start symbol stands in a yacc file.
 pub(crate) fn start_location(alloc: Global, text: &[u8]) -> Result<Option<Location>, OutOfMemory> {
-    let file = match read_yacc(alloc, text) {
-        Ok(file) => file,
-        Err(YaccFault::OutOfMemory) => return Err(OutOfMemory),
-        Err(_) => return Ok(None),
-    };
-    let first = file.rules.first().map(|rule| rule.left.as_slice());
-    let Some(name) = file.start.as_deref().or(first) else {
+    let Some(file) = readable(alloc, text)? else {
         return Ok(None);
     };
-    let name = Vec::from_slice(alloc, name)?;
-    symbol_location(alloc, text, &JoinFault::TokenOnLeft(name))
+    let offset = match &file.start {
+        Some(name) => left_side_offset(&file, name),
+        None => file.rule_offsets.first().map(|rule| rule.left as usize),
+    };
+    Ok(offset.map(|offset| Location::of(text, offset)))
+}
+
+/// What a yacc file says; nothing where it is refused.
+fn readable(alloc: Global, text: &[u8]) -> Result<Option<YaccFile>, OutOfMemory> {
+    match read_yacc(alloc, text) {
+        Ok(file) => Ok(Some(file)),
+        Err(YaccFault::OutOfMemory) => Err(OutOfMemory),
+        Err(YaccFault::Refused { .. }) => Ok(None),
+    }
+}
+
+/// Where the first rule with this left side stands.
+fn left_side_offset(file: &YaccFile, name: &[u8]) -> Option<usize> {
+    let rule = file
+        .rules
+        .iter()
+        .position(|rule| rule.left.as_slice() == name)?;
+    Some(file.rule_offsets.get(rule)?.left as usize)
+}
+
+/// Where the first body begins that has this name.
+fn offset_of_body_with(file: &YaccFile, name: &[u8]) -> Option<usize> {
+    let rule = file
+        .rules
+        .iter()
+        .position(|rule| has_name(&rule.body, name))?;
+    Some(file.rule_offsets.get(rule)?.body as usize)
+}
+
+/// Whether a name is one of these symbols.
+fn has_name(symbols: &[SymbolName], name: &[u8]) -> bool {
+    for symbol in symbols {
+        if is_name(symbol, name) {
+            return true;
+        }
+    }
+    false
+}
+
+/// Where the first body begins that has this name behind its `%prec`.
+fn offset_of_body_ranked_by(file: &YaccFile, name: &[u8]) -> Option<usize> {
+    let rule = file
+        .rules
+        .iter()
+        .position(|rule| match &rule.precedence {
+            Some(symbol) => is_name(symbol, name),
+            None => false,
+        })?;
+    Some(file.rule_offsets.get(rule)?.body as usize)
+}
+
+/// Where a terminal is given a precedence for the second time.
+fn offset_given_again(file: &YaccFile, terminal: &TerminalName) -> Option<usize> {
+    let mut given = false;
+    let mut offsets = file.token_offsets.iter();
+    for declaration in &file.declarations {
+        for symbol in &declaration.symbols {
+            let offset = offsets.next()?;
+            if declaration.kind == DeclarationKind::Token || !is_terminal(symbol, terminal) {
+                continue;
+            }
+            if given {
+                return Some(*offset as usize);
+            }
+            given = true;
+        }
+    }
+    None
+}
+
+/// The offset of this word, the first from an offset on, and behind this other one if that is any.
+fn word_offset(
+    alloc: Global,
+    text: &[u8],
+    from: usize,
+    previous: &[u8],
+    word: &[u8],
+) -> Result<Option<usize>, OutOfMemory> {
+    let mut before: &[u8] = b"";
+    for span in &word_spans(alloc, text)? {
+        let found = span.word(text);
+        let behind = previous.is_empty() || before == previous;
+        if span.start >= from && behind && found == word {
+            return Ok(Some(span.start));
+        }
+        before = found;
+    }
+    Ok(None)
 }

@@ -4,6 +4,7 @@ pub mod NamedLemmas
 pub mod PartLemmas
 pub mod PlaceLemmas
 pub mod ReadLemmas
+pub mod RefusalLemmas
 pub mod RuleLemmas
 pub mod SpanLemmas
 pub mod SymbolLemmas

@@ -1,16 +1,17 @@
 -- Names that a yacc file declares or builds are names.
 use Rattle.std.proofs.Common.{◌≡◌, ℕ, zero, suc, List, [], ◌∷◌, ◌++◌, Option, Some, None, inl, inr, length, slice_get}
 use Rattle.std.proofs.Common.{subst, sym}
+use Rattle.std.specs.Option.{option_map}
 use Rattle.ly_base.specs.Language.{IsName}
 use Rattle.ly_base.specs.declared.language.Language.TheVariants.{Lex, Yacc}
 use Rattle.ly_yaccread.specs.Actions.{ActionPassed, Making, ValueFirst, build, builds, default, pass, passes}
-use Rattle.ly_yaccread.specs.Declarations.{Declarations, Declared, Declares, FollowsDirective, Preamble, Saying, end}
+use Rattle.ly_yaccread.specs.Declarations.{Declarations, Declared, Declares, Declaring, FollowsDirective, Saying, end}
 use Rattle.ly_yaccread.specs.Declarations.{more, nothing, start, tokens, with_saying, with_start}
 use Rattle.ly_yaccread.specs.File.{Written}
 use Rattle.ly_yaccread.specs.Rules as rules
-use Rattle.ly_yaccread.specs.Rules.{BodyEnd, LateAction, Ruling, YaccRules}
+use Rattle.ly_yaccread.specs.Rules.{BodyEnd, LateAction, LeftSide, Ruling, YaccRules}
 use Rattle.ly_yaccread.specs.Symbols as symbols
-use Rattle.ly_yaccread.specs.Symbols.{NumberPassed, SymbolList, Symbols, TagPassed}
+use Rattle.ly_yaccread.specs.Symbols.{Listed, NumberPassed, SymbolList, TagPassed}
 use Rattle.ly_yaccread.specs.Words as words
 use Rattle.ly_yaccread.specs.Words.{Takes, Word, Wording, block, braces, directive, literal, mark, name, number, other}
 use Rattle.ly_yaccread.specs.YaccText.{YaccText}
@@ -19,6 +20,7 @@ use Rattle.ly_yaccread.specs.declared.declaration.Directive.TheVariants.{Start, 
 use Rattle.ly_yaccread.specs.declared.listing.Listing.{Listing}
 use Rattle.ly_yaccread.specs.declared.listing.Listing.TheVariants.{Numbered, Plain}
 use Rattle.ly_yaccread.specs.declared.part.Part.{Part}
+use Rattle.ly_yaccread.specs.declared.standing.Standing.{Standing}
 use Rattle.ly_yaccread.proofs.SymbolLemmas.{symbol_is}
 
 -- each word that is a name is one
@@ -40,11 +42,12 @@ word_named p text block rest takes = tt
 word_named p text braces rest takes = tt
 word_named p text other rest takes = tt
 
-words_named : {p : Part} {text : List ℕ} {ws : List Word} → Wording p text ws → AreNamed ws
+words_named : {n : ℕ} {p : Part} {text : List ℕ} {ws : List Word} {os : List ℕ} → Wording n p text ws os → AreNamed ws
 words_named (words.free text) = tt
 words_named (words.end p text gap) = tt
-words_named (words.stuck p text in_part no_gap none) = (tt, tt)
-words_named (words.more p text rest x xs in_part takes behind) = (word_named p text x rest takes, words_named behind)
+words_named (words.stuck p text o in_part no_gap none begins) = (tt, tt)
+words_named (words.more p text rest x o xs os in_part takes begins behind)
+    = (word_named p text x rest takes, words_named behind)
 
 -- the symbols of a list, and what stands behind them
 number_named : (l : Listing) (ws rest : List Word) → NumberPassed l ws rest → AreNamed ws → AreNamed rest
@@ -52,25 +55,25 @@ number_named Plain ws rest e named = subst AreNamed e named
 number_named Numbered ws rest (inl there) named = (subst AreNamed there.1 named).1
 number_named Numbered ws rest (inr none) named = subst AreNamed none.1 named
 
-symbols_named : {l : Listing} {ws xs rest : List Word} → Symbols l ws xs rest → AreNamed ws
+listed_named : {l : Listing} {ws xs : List Word} {ns : List ℕ} {rest : List Word} → Listed l ws xs ns rest → AreNamed ws
     → AreNamed xs × AreNamed rest
-symbols_named (symbols.end ws none) named = (tt, named)
-symbols_named {l = l} (symbols.more ws behind left rest x xs first passed behind_all) named =
+listed_named (symbols.none ws absent) named = (tt, named)
+listed_named {l = l} (symbols.one ws behind left rest x xs ns first passed behind_all) named =
     let both = subst AreNamed (symbol_is ws x behind first) named in
-    let later = symbols_named behind_all (number_named l behind left passed both.1) in
+    let later = listed_named behind_all (number_named l behind left passed both.1) in
     ((both.0, later.0), later.1)
 
 tag_named : (ws rest : List Word) → TagPassed ws rest → AreNamed ws → AreNamed rest
 tag_named ws rest (inl there) named = (subst AreNamed there.1 named).1.1.1
 tag_named ws rest (inr none) named = subst AreNamed none.1 named
 
-list_named : (l : Listing) (ws xs rest : List Word) → SymbolList l ws xs rest → AreNamed ws
-    → AreNamed xs × AreNamed rest
-list_named l ws xs rest all named = symbols_named all.symbols (tag_named ws all.behind all.tag named)
+list_named : (l : Listing) (ws xs : List Word) (ns : List ℕ) (rest : List Word) → SymbolList l ws xs ns rest
+    → AreNamed ws → AreNamed xs × AreNamed rest
+list_named l ws xs ns rest all named = listed_named all.symbols (tag_named ws all.behind all.tag named)
 
 -- what a declaration says of names
 abbrev SaysNamed : Saying → Type 0
-SaysNamed (tokens k xs) = AreNamed xs
+SaysNamed (tokens k xs ns) = AreNamed xs
 SaysNamed _ = Unit {0}
 
 abbrev pub AreDeclaredNamed : List Declared → Type 0
@@ -79,10 +82,10 @@ AreDeclaredNamed (d ∷ ds) = AreNamed d.symbols × AreDeclaredNamed ds
 
 directive_named : (d : Directive) (ws : List Word) (s : Saying) (rest : List Word) → FollowsDirective d ws s rest
     → AreNamed ws → SaysNamed s × AreNamed rest
-directive_named (Tokens k) ws s rest h named = let both = list_named Numbered ws h.0 rest h.1 named in
-    (subst SaysNamed (sym h.2) both.0, both.1)
-directive_named Types ws s rest h named = let both = list_named Plain ws h.0 rest h.1 named in
-    (subst SaysNamed (sym h.2) tt, both.1)
+directive_named (Tokens k) ws s rest h named = let both = list_named Numbered ws h.0 h.1 rest h.2 named in
+    (subst SaysNamed (sym h.3) both.0, both.1)
+directive_named Types ws s rest h named = let both = list_named Plain ws h.0 h.1 rest h.2 named in
+    (subst SaysNamed (sym h.3) tt, both.1)
 directive_named Start ws s rest h named = (subst SaysNamed (sym h.3) tt, (subst AreNamed h.1 named).1)
 directive_named Union ws s rest h named = (subst SaysNamed (sym h.1) tt, (subst AreNamed h.0 named).1)
 
@@ -95,25 +98,33 @@ declared_append : (ds es : List Declared) → AreDeclaredNamed ds → AreDeclare
 declared_append [] es a b = b
 declared_append (d ∷ ds) es a b = (a.0, declared_append ds es a.1 b)
 
-with_named : (h i : Preamble) (s : Saying) → with_saying h s ≡ Some i → AreDeclaredNamed h.declarations → SaysNamed s
-    → AreDeclaredNamed i.declarations
-with_named h i (tokens k xs) e named said =
-    let same : record { declarations = h.declarations ++ record { kind = k; symbols = xs } ∷ []; start = h.start } ≡ i
-    = cc in
-    subst (λ (p : Preamble). AreDeclaredNamed p.declarations) same
-    (declared_append h.declarations (record { kind = k; symbols = xs } ∷ []) named (said, tt))
-with_named h i (start n) e named said = by h.start e
-  where
-    by : (o : Option (List ℕ)) → with_start h.declarations o n ≡ Some i
-        → AreDeclaredNamed i.declarations
-    by None f = let same : record { declarations = h.declarations; start = Some n } ≡ i = cc in
-        subst (λ (p : Preamble). AreDeclaredNamed p.declarations) same named
-    by (Some m) f = absurd cc
-with_named h i nothing e named said = let same : h ≡ i = cc in
-    subst (λ (p : Preamble). AreDeclaredNamed p.declarations) same named
+-- what is declared is named
+abbrev HasNamed : Declaring → Type 0
+HasNamed h = AreDeclaredNamed h.preamble.declarations
 
-declarations_named : {h all : Preamble} {ws rest : List Word} → Declarations h ws all rest → AreNamed ws
-    → AreDeclaredNamed h.declarations → AreDeclaredNamed all.declarations
+with_named : (h i : Declaring) (s : Saying) → with_saying h s ≡ Some i → HasNamed h → SaysNamed s → HasNamed i
+with_named h i (tokens k xs ns) e named said =
+    let more : List Declared = h.preamble.declarations ++ record { kind = k; symbols = xs } ∷ [] in
+    let same : record {
+      preamble = record { declarations = more; start = h.preamble.start };
+      tokens = h.tokens ++ ns;
+    } ≡ i = cc in
+    subst HasNamed same (declared_append h.preamble.declarations (record { kind = k; symbols = xs } ∷ []) named (said, tt))
+with_named h i (start n) e named said = by h.preamble.start e
+  where
+    by : (o : Option (List ℕ)) → option_map (λ p. record { preamble = p; tokens = h.tokens })
+        (with_start h.preamble.declarations o n) ≡ Some i → HasNamed i
+    by None f =
+        let same : record {
+          preamble = record { declarations = h.preamble.declarations; start = Some n };
+          tokens = h.tokens;
+        } ≡ i = cc in
+        subst HasNamed same named
+    by (Some m) f = absurd cc
+with_named h i nothing e named said = let same : h ≡ i = cc in subst HasNamed same named
+
+declarations_named : {h all : Declaring} {ws rest : List Word} → Declarations h ws all rest → AreNamed ws → HasNamed h
+    → HasNamed all
 declarations_named (end h rest) named before = before
 declarations_named (more h i all ws behind rest s declares said behind_all) named before =
     let both = declares_named ws s behind declares named in
@@ -147,13 +158,13 @@ end_built k {rest = rest} {x = x} {m = m} b = by b.early x (action_built k _ b.b
     by (build c ps) (Some y) built late = subst IsBuiltOf (sym late.0) built
     by (build c ps) None built late = subst IsBuiltOf (sym late.0) built
 
-rules_built : {before : Option (List ℕ)} {ws : List Word} {rs : List Ruling} → YaccRules before ws rs → (k : ℕ)
-    (r : Ruling) → slice_get rs k ≡ Some r → IsBuiltOf r.making
+rules_built : {before : Option LeftSide} {ws : List Word} {rs : List Ruling} {ss : List Standing}
+    → YaccRules before ws rs ss → (k : ℕ) (r : Ruling) → slice_get rs k ≡ Some r → IsBuiltOf r.making
 rules_built (rules.end before ws over) k r at = absurd cc
-rules_built (rules.rule before n ws behind rest x rs follows body h) zero r at =
+rules_built (rules.rule before l ws behind rest x rs ss follows body h) zero r at =
     let same : x ≡ r = cc in subst (λ (y : Ruling). IsBuiltOf y.making) same (end_built (length x.body) body.body_end)
-rules_built (rules.rule before n ws behind rest x rs follows body h) (suc k) r at = rules_built h k r at
-rules_built (rules.semicolon n ws rs h) k r at = rules_built h k r at
+rules_built (rules.rule before l ws behind rest x rs ss follows body h) (suc k) r at = rules_built h k r at
+rules_built (rules.semicolon l ws rs ss h) k r at = rules_built h k r at
 
 pub made_built : (bytes : List ℕ) (w : Written) → YaccText bytes w → (k : ℕ) (r : Ruling)
     → slice_get w.rules k ≡ Some r → IsBuiltOf r.making

@@ -4,10 +4,10 @@ use Rattle.std.proofs.Common.{arith}
 use Rattle.ly_base.specs.Gap.{Closes, EndBefore, Gap, HasNo, last, close, opening, other as plain_byte}
 use Rattle.ly_base.specs.declared.language.Language.TheVariants.{Yacc}
 use Rattle.ly_base.proofs.GapLemmas.{block_one, closes_one}
-use Rattle.ly_base.proofs.WordBeforeLemmas.{word_none, word_one, word_shorter}
+use Rattle.ly_base.proofs.WordBeforeLemmas.{word_at, word_none, word_one, word_shorter}
 use Rattle.ly_yaccread.specs.Private.Words.{IsFront, IsPartWord, word_of}
 use Rattle.ly_yaccread.specs.Words.{Word, mark, directive, name, number, literal, block, braces, other, HasInFront}
-use Rattle.ly_yaccread.specs.Words.{Takes}
+use Rattle.ly_yaccread.specs.Words.{GapPassed, Takes}
 use Rattle.ly_yaccread.specs.Words.{IsPlain}
 use Rattle.ly_yaccread.specs.declared.part.Part.{Part}
 use Rattle.ly_yaccread.specs.declared.part.Part.TheVariants.{Declarations}
@@ -182,6 +182,26 @@ takes_shorter p text block rest h =
 takes_shorter p text braces rest h =
     let f = word_shorter words Yacc text (mark OpenBrace) h.1 h.2 in omega (arith, f, closes_shorter 0 h.1 rest h.3)
 takes_shorter p text other rest h = word_shorter words Yacc text other rest h
+
+front_shorter : (text from : List ℕ) (x : Word) (rest : List ℕ) → GapPassed text from → HasInFront text x rest
+    → length rest < length from
+front_shorter text from x rest passed h
+    = words.shorter from x rest (word_at words Yacc text from x rest passed.0 passed.1 h)
+
+-- and so behind the gap before it
+pub takes_from : (p : Part) (text from : List ℕ) (x : Word) (rest : List ℕ) → GapPassed text from → Takes p text x rest
+    → length rest < length from
+takes_from p text from (mark m) rest g h = front_shorter text from (mark m) rest g h.0
+takes_from p text from (directive n) rest g h = front_shorter text from (directive n) rest g h
+takes_from p text from (name n) rest g h = front_shorter text from (name n) rest g h
+takes_from p text from (number n) rest g h = front_shorter text from (number n) rest g h
+takes_from p text from (literal b) rest g h = front_shorter text from (literal b) rest g h
+takes_from p text from block rest g h =
+    let f = front_shorter text from (mark Block) h.1 g h.2 in
+    omega (arith, f, ap length h.3.2, length-append h.3.0 (37 ∷ 125 ∷ rest))
+takes_from p text from braces rest g h =
+    let f = front_shorter text from (mark OpenBrace) h.1 g h.2 in omega (arith, f, closes_shorter 0 h.1 rest h.3)
+takes_from p text from other rest g h = front_shorter text from other rest g h
 
 -- what is found is a word
 pub taken : (p : Part) (text rest : List ℕ) (w : NextWord) → w ≢ next.End → w ≢ next.Other → IsPartWord p text w rest

@@ -1,15 +1,17 @@
 -- What a rule says is determined.
 use Rattle.std.proofs.Common.{◌≡◌, ◌≢◌, ℕ, ◌<◌, ◌≤◌, List, [], ◌∷◌, ◌++◌, Option, Some, None, refl, sym}
-use Rattle.std.proofs.Common.{ap, ap₂, ◌∙◌, subst, length, arith, inl, inr, codes, map}
+use Rattle.std.proofs.Common.{ap, ap₂, ◌∙◌, subst, length, arith, inl, inr, codes, map, true}
+use Rattle.std.specs.Option.{is_some, option_map}
 use Rattle.std.proofs.lemmas.List.{append-nil, append_assoc, map-append}
 use Rattle.ly_yaccread.specs.Actions.{ActionPassed, Making, default, pass, build}
 use Rattle.ly_yaccread.specs.File.{ruling_of}
-use Rattle.ly_yaccread.specs.Rules.{AreRulesOver, Body, BodyEnd, BodyFollows, LateAction, PrecedencePassed, Ruling}
+use Rattle.ly_yaccread.specs.Rules.{AreRulesOver, Body, BodyEnd, BodyFollows, LateAction, LeftSide}
+use Rattle.ly_yaccread.specs.Rules.{PrecedencePassed, Ruling}
 use Rattle.ly_yaccread.specs.Rules.{YaccRules, end, rule, semicolon}
 use Rattle.ly_yaccread.specs.Symbols.{SymbolFirst, Symbols}
 use Rattle.ly_yaccread.specs.Words.{Word, mark, directive}
 use Rattle.ly_yaccread.specs.declared.file.Production.{Production}
-use Rattle.ly_yaccread.specs.declared.listing.Listing.TheVariants.{Plain}
+use Rattle.ly_yaccread.specs.declared.standing.Standing.{Standing}
 use Rattle.ly_yaccread.specs.declared.words.Mark.TheVariants.{Semicolon}
 use Rattle.ly_yaccread.proofs.ActionLemmas.{passed_one, passed_within}
 use Rattle.ly_yaccread.proofs.SymbolLemmas.{heads, symbol_is, symbol_one, symbols_one, symbols_within}
@@ -52,6 +54,20 @@ end_late k ws behind left early o p m rest a b e =
     let one = precedence_one behind o p d.0 left d.1 b in
     (one.0, subst (λ u. LateAction k early u left m rest) one.0 (subst (λ u. LateAction k early o u m rest) one.1 d.2))
 
+pub some_kept : {S T : Type 0} (f : S → T) (o : Option S) → is_some o ≡ true → option_map f o ≢ None
+some_kept f (Some x) e g = cc g
+some_kept f None e g = cc e
+
+-- no action stands behind the symbol of a `%prec` where none stood before it
+pub no_late_action : (k : ℕ) (ws behind left : List Word) (early : Making) (p : Option Word)
+    → ActionPassed k ws early behind → PrecedencePassed behind p left → p ≢ None → early ≡ default
+    → ((m : Making) (rest : List Word) → ActionPassed k left m rest → ⊥) → (o : Option Word) (m : Making)
+    (rest : List Word) → BodyEnd k ws o m rest → ⊥
+no_late_action k ws behind left early (Some x) a b some e none o m rest h =
+    let d = end_late k ws behind left early o (Some x) m rest a b h in
+    none m rest (subst (λ i. LateAction k i (Some x) left m rest) e d.1)
+no_late_action k ws behind left early None a b some e none o m rest h = absurd (some refl)
+
 pub end_one : (k : ℕ) (ws : List Word) (o p : Option Word) (m n : Making) (r s : List Word) → BodyEnd k ws o m r
     → BodyEnd k ws p n s → (o ≡ p) × (m ≡ n) × (r ≡ s)
 end_one k ws o p m n r s a b =
@@ -60,10 +76,10 @@ end_one k ws o p m n r s a b =
     (sym d.0, one.0, one.1)
 
 -- what stands behind the symbols of a body
-pub body_behind : (n : List ℕ) (ws xs behind : List Word) (r : Ruling) (rest : List Word) → Symbols Plain ws xs behind
+pub body_behind : (n : List ℕ) (ws xs behind : List Word) (r : Ruling) (rest : List Word) → Symbols ws xs behind
     → Body n ws r rest → (r.body ≡ xs) × BodyEnd (length xs) behind r.precedence r.making rest
 body_behind n ws xs behind r rest h b =
-    let one = symbols_one Plain ws r.body xs b.behind behind b.symbols h in (
+    let one = symbols_one ws r.body xs b.behind behind b.symbols h in (
       one.0,
       subst (λ u. BodyEnd (length u) behind r.precedence r.making rest) one.0
           (subst (λ u. BodyEnd (length r.body) u r.precedence r.making rest) one.1 b.body_end),
@@ -87,133 +103,170 @@ body_one n ws r q rest left a b =
     (same_ruling r q (a.same_left ∙ sym b.same_left) (sym d.0) one.0 one.1, one.2)
 
 -- which body follows is determined
-pub follows_one : (last : Option (List ℕ)) (ws : List Word) (n m : List ℕ) (r s : List Word) → BodyFollows last ws n r
-    → BodyFollows last ws m s → (n ≡ m) × (r ≡ s)
-follows_one last ws n m r s (inl (e, f)) (inl (g, h)) = (cc, cc)
-follows_one last ws n m r s (inl (e, f)) (inr (g, h)) = absurd (cc (heads _ _ _ _ (sym e ∙ h)).0)
-follows_one last ws n m r s (inr (e, f)) (inl (g, h)) = absurd (cc (heads _ _ _ _ (sym f ∙ g)).0)
-follows_one last ws n m r s (inr (e, f)) (inr (g, h)) = (cc, cc)
+same_side : (l m : LeftSide) → l.symbol ≡ m.symbol → l.left ≡ m.left → l ≡ m
+same_side l m e f = λ i. record { symbol = e i; left = f i }
 
-follows_not_over : (last : Option (List ℕ)) (ws : List Word) (n : List ℕ) (r : List Word) → BodyFollows last ws n r
+pub follows_one : (last : Option LeftSide) (ws : List Word) (l m : LeftSide) (r s : List Word) → BodyFollows last ws l r
+    → BodyFollows last ws m s → (l ≡ m) × (r ≡ s)
+follows_one last ws l m r s (inl (e, f, c)) (inl (g, h, d))
+    = let same : l.symbol ≡ m.symbol = cc in (same_side l m same (c ∙ sym d), cc)
+follows_one last ws l m r s (inl (e, f, c)) (inr (g, h)) = absurd (cc (heads _ _ _ _ (sym e ∙ h)).0)
+follows_one last ws l m r s (inr (e, f)) (inl (g, h, d)) = absurd (cc (heads _ _ _ _ (sym f ∙ g)).0)
+follows_one last ws l m r s (inr (e, f)) (inr (g, h)) = (cc, cc)
+
+follows_not_over : (last : Option LeftSide) (ws : List Word) (l : LeftSide) (r : List Word) → BodyFollows last ws l r
     → AreRulesOver ws → ⊥
-follows_not_over last ws n r (inl (e, f)) (inl g) = cc (sym e ∙ g)
-follows_not_over last ws n r (inl (e, f)) (inr (s, g)) = cc (heads _ _ _ _ (sym e ∙ g)).0
-follows_not_over last ws n r (inr (e, f)) (inl g) = cc (sym f ∙ g)
-follows_not_over last ws n r (inr (e, f)) (inr (s, g)) = cc (heads _ _ _ _ (sym f ∙ g)).0
+follows_not_over last ws l r (inl (e, f, c)) (inl g) = cc (sym e ∙ g)
+follows_not_over last ws l r (inl (e, f, c)) (inr (s, g)) = cc (heads _ _ _ _ (sym e ∙ g)).0
+follows_not_over last ws l r (inr (e, f)) (inl g) = cc (sym f ∙ g)
+follows_not_over last ws l r (inr (e, f)) (inr (s, g)) = cc (heads _ _ _ _ (sym f ∙ g)).0
 
-follows_no_semicolon : (last : Option (List ℕ)) (ws : List Word) (n : List ℕ) (r q : List Word)
-    → BodyFollows last ws n r → ws ≡ mark Semicolon ∷ q → ⊥
-follows_no_semicolon last ws n r q (inl (e, f)) g = cc (heads _ _ _ _ (sym e ∙ g)).0
-follows_no_semicolon last ws n r q (inr (e, f)) g = cc (heads _ _ _ _ (sym f ∙ g)).0
+follows_no_semicolon : (last : Option LeftSide) (ws : List Word) (l : LeftSide) (r q : List Word)
+    → BodyFollows last ws l r → ws ≡ mark Semicolon ∷ q → ⊥
+follows_no_semicolon last ws l r q (inl (e, f, c)) g = cc (heads _ _ _ _ (sym e ∙ g)).0
+follows_no_semicolon last ws l r q (inr (e, f)) g = cc (heads _ _ _ _ (sym f ∙ g)).0
 
 semicolon_not_over : (ws : List Word) → AreRulesOver (mark Semicolon ∷ ws) → ⊥
 semicolon_not_over ws (inl e) = cc e
 semicolon_not_over ws (inr (s, e)) = cc (heads _ _ _ _ e).0
 
+-- where the rule of this left side stands whose body has so many words from its beginning on
+abbrev standing_at : LeftSide → List Word → Standing
+standing_at l inside = record { left = l.left; body = length inside }
+
 -- what rules there are that are over
-over_rules : (last : Option (List ℕ)) (ws : List Word) (rs : List Ruling) → AreRulesOver ws
-    → YaccRules last ws rs → [] ≡ rs
-over_rules last ws rs o (end l vs p) = refl
-over_rules last ws rs o (rule l n vs behind rest r qs f g h) = absurd (follows_not_over l vs n behind f o)
-over_rules last ws rs o (semicolon n vs qs h) = absurd (semicolon_not_over vs o)
+over_rules : (last : Option LeftSide) (ws : List Word) (rs : List Ruling) (ss : List Standing) → AreRulesOver ws
+    → YaccRules last ws rs ss → ([] ≡ rs) × ([] ≡ ss)
+over_rules last ws rs ss o (end k vs p) = (refl, refl)
+over_rules last ws rs ss o (rule k l vs behind rest r qs ts f g h) = absurd (follows_not_over k vs l behind f o)
+over_rules last ws rs ss o (semicolon l vs qs ts h) = absurd (semicolon_not_over vs o)
 
 -- behind a `;`
-semicolon_rules : (last : Option (List ℕ)) (ws behind : List Word) (rs : List Ruling) → ws ≡ mark Semicolon ∷ behind
-    → YaccRules last ws rs → YaccRules last behind rs
-semicolon_rules last ws behind rs e (end l vs o)
+semicolon_rules : (last : Option LeftSide) (ws behind : List Word) (rs : List Ruling) (ss : List Standing)
+    → ws ≡ mark Semicolon ∷ behind → YaccRules last ws rs ss → YaccRules last behind rs ss
+semicolon_rules last ws behind rs ss e (end k vs o)
     = absurd (semicolon_not_over behind (subst AreRulesOver e o))
-semicolon_rules last ws behind rs e (rule l n vs back rest r qs f g h)
-    = absurd (follows_no_semicolon l vs n back behind f e)
-semicolon_rules last ws behind rs e (semicolon n vs qs h)
-    = subst (λ u. YaccRules (Some n) u qs) (heads _ _ _ _ e).1 h
+semicolon_rules last ws behind rs ss e (rule k l vs back rest r qs ts f g h)
+    = absurd (follows_no_semicolon k vs l back behind f e)
+semicolon_rules last ws behind rs ss e (semicolon l vs qs ts h)
+    = subst (λ u. YaccRules (Some l) u qs ts) (heads _ _ _ _ e).1 h
 
--- where a body follows, its rule comes, and then the others
-body_rules : (last : Option (List ℕ)) (ws : List Word) (n : List ℕ) (behind : List Word) (rs : List Ruling)
-    → BodyFollows last ws n behind → YaccRules last ws rs
-    → (r : Ruling) × (rest : List Word) × (qs : List Ruling) × Body n behind r rest × YaccRules (Some n) rest qs
-    × (rs ≡ r ∷ qs)
-body_rules last ws n behind rs f (end l vs o) = absurd (follows_not_over l vs n behind f o)
-body_rules last ws n behind rs f (rule l m vs back rest r qs g b h) =
-    let one = follows_one l vs m n back behind g f in (
-      r,
-      rest,
-      qs,
-      subst (λ u. Body u behind r rest) one.0 (subst (λ u. Body m u r rest) one.1 b),
-      subst (λ u. YaccRules (Some u) rest qs) one.0 h,
-      refl,
-    )
-body_rules last ws n behind rs f (semicolon m vs qs h)
-    = absurd (follows_no_semicolon (Some m) (mark Semicolon ∷ vs) n behind vs f refl)
+-- Where a body follows, its rule comes, and then the others.
+record BodyRules (l : LeftSide) (behind : List Word) (rs : List Ruling) (ss : List Standing) : Type 0 where
+  first : Ruling
+  rest : List Word
+  others : List Ruling
+  standings : List Standing
+  body : Body l.symbol behind first rest
+  go_on : YaccRules (Some l) rest others standings
+  are : rs ≡ first ∷ others
+  stand : ss ≡ standing_at l behind ∷ standings
+
+body_rules : (last : Option LeftSide) (ws : List Word) (l : LeftSide) (behind : List Word) (rs : List Ruling)
+    (ss : List Standing) → BodyFollows last ws l behind → YaccRules last ws rs ss → BodyRules l behind rs ss
+body_rules last ws l behind rs ss f (end k vs o) = absurd (follows_not_over k vs l behind f o)
+body_rules last ws l behind rs ss f (rule k m vs back rest r qs ts g b h) =
+    let one = follows_one k vs m l back behind g f in
+    record {
+      first = r;
+      rest = rest;
+      others = qs;
+      standings = ts;
+      body = subst (λ u. Body u.symbol behind r rest) one.0 (subst (λ u. Body m.symbol u r rest) one.1 b);
+      go_on = subst (λ u. YaccRules (Some u) rest qs ts) one.0 h;
+      are = refl;
+      stand = ap₂ (λ k u. standing_at k u ∷ ts) one.0 one.1;
+    }
+body_rules last ws l behind rs ss f (semicolon m vs qs ts h)
+    = absurd (follows_no_semicolon (Some m) (mark Semicolon ∷ vs) l behind vs f refl)
 
 -- the rules so far and those that are left are all rules
-pub record RulesGoOn (ws : List Word) (rules : List Production) (last : Option (List ℕ)) (at : List Word) : Type 0 where
-  pub sound : (rs : List Ruling) → YaccRules last at rs → YaccRules None ws (map ruling_of rules ++ rs)
-  pub complete : (all : List Ruling) → YaccRules None ws all → (rs : List Ruling) × YaccRules last at rs
+pub record RulesGoOn (ws : List Word) (rules : List Production) (standings : List Standing) (last : Option LeftSide)
+    (at : List Word) : Type 0 where
+  pub sound : (rs : List Ruling) (ss : List Standing) → YaccRules last at rs ss
+      → YaccRules None ws (map ruling_of rules ++ rs) (standings ++ ss)
+  pub complete : (all : List Ruling) (every : List Standing) → YaccRules None ws all every
+      → (rs : List Ruling) × (ss : List Standing) × YaccRules last at rs ss
 
-module _ (ws : List Word) (rules : List Production) (last : Option (List ℕ)) (at : List Word)
-    (so_far : RulesGoOn ws rules last at) where
+module _ (ws : List Word) (rules : List Production) (standings : List Standing) (last : Option LeftSide)
+    (at : List Word) (so_far : RulesGoOn ws rules standings last at) where
   -- no rule more
-  pub rules_end : AreRulesOver at → YaccRules None ws (map ruling_of rules)
-  rules_end o = subst (YaccRules None ws) (append-nil (map ruling_of rules)) (so_far.sound [] (end last at o))
+  pub rules_end : AreRulesOver at → YaccRules None ws (map ruling_of rules) standings
+  rules_end o = subst (λ rs. YaccRules None ws rs standings) (append-nil (map ruling_of rules))
+      (subst (λ ss. YaccRules None ws (map ruling_of rules ++ []) ss) (append-nil standings)
+      (so_far.sound [] [] (end last at o)))
 
   -- a `;`
-  pub one_semicolon : (behind : List Word) → last ≢ None → at ≡ mark Semicolon ∷ behind → RulesGoOn ws rules last behind
+  pub one_semicolon : (behind : List Word) → last ≢ None → at ≡ mark Semicolon ∷ behind
+      → RulesGoOn ws rules standings last behind
   one_semicolon behind f e = record {
-    sound = λ rs h. so_far.sound rs (subst (λ u. YaccRules last u rs) (sym e) (behind_some last f rs h));
-    complete = λ all h. let q = so_far.complete all h in (q.0, semicolon_rules last at behind q.0 e q.1);
+    sound = λ rs ss h. so_far.sound rs ss
+        (subst (λ u. YaccRules last u rs ss) (sym e) (behind_some last f rs ss h));
+    complete = λ all every h. let q = so_far.complete all every h
+        in (q.0, q.1, semicolon_rules last at behind q.0 q.1 e q.2);
   }
     where
-      behind_some : (l : Option (List ℕ)) → l ≢ None → (rs : List Ruling) → YaccRules l behind rs
-          → YaccRules l (mark Semicolon ∷ behind) rs
-      behind_some None g rs h = absurd (g refl)
-      behind_some (Some n) g rs h = semicolon n behind rs h
+      behind_some : (l : Option LeftSide) → l ≢ None → (rs : List Ruling) (ss : List Standing)
+          → YaccRules l behind rs ss → YaccRules l (mark Semicolon ∷ behind) rs ss
+      behind_some None g rs ss h = absurd (g refl)
+      behind_some (Some l) g rs ss h = semicolon l behind rs ss h
 
   -- a rule more
-  pub one_rule : (n : List ℕ) (inside behind : List Word) (p : Production) (longer : List Production)
-      → BodyFollows last at n inside → Body n inside (ruling_of p) behind → longer ≡ rules ++ p ∷ []
-      → RulesGoOn ws longer (Some n) behind
-  one_rule n inside behind p longer f b e = record {
-    sound = λ rs h. subst (λ u. YaccRules None ws (u ++ rs))
-        (sym (ap (map ruling_of) e ∙ map-append ruling_of rules (p ∷ [])))
-        (subst (YaccRules None ws) (sym (append_assoc (map ruling_of rules) (ruling_of p ∷ []) rs))
-        (so_far.sound (ruling_of p ∷ rs) (rule last n at inside behind (ruling_of p) rs f b h)));
-    complete = λ all h.
-        let q = so_far.complete all h in
-        let d = body_rules last at n inside q.0 f q.1 in
-        let one = body_one n inside d.0 (ruling_of p) d.1 behind d.3 b in
-        (d.2, subst (λ u. YaccRules (Some n) u d.2) one.1 d.4);
+  pub one_rule : (l : LeftSide) (inside behind : List Word) (p : Production) (longer : List Production)
+      (s : Standing) (every : List Standing) → BodyFollows last at l inside
+      → Body l.symbol inside (ruling_of p) behind → longer ≡ rules ++ p ∷ [] → s ≡ standing_at l inside
+      → every ≡ standings ++ s ∷ [] → RulesGoOn ws longer every (Some l) behind
+  one_rule l inside behind p longer s every f b e here g = record {
+    sound = λ rs ss h. subst (λ u. YaccRules None ws (map ruling_of longer ++ rs) u)
+        (sym (append_assoc standings (standing_at l inside ∷ []) ss)
+        ∙ sym (ap (λ u. u ++ ss) (g ∙ ap (λ t. standings ++ t ∷ []) here)))
+        (subst (λ u. YaccRules None ws u (standings ++ standing_at l inside ∷ ss))
+        (sym (append_assoc (map ruling_of rules) (ruling_of p ∷ []) rs)
+        ∙ sym (ap (λ u. u ++ rs) (ap (map ruling_of) e ∙ map-append ruling_of rules (p ∷ []))))
+        (so_far.sound (ruling_of p ∷ rs) (standing_at l inside ∷ ss)
+        (rule last l at inside behind (ruling_of p) rs ss f b h)));
+    complete = λ all whole h.
+        let q = so_far.complete all whole h in
+        let d = body_rules last at l inside q.0 q.1 f q.2 in
+        let one = body_one l.symbol inside d.first (ruling_of p) d.rest behind d.body b in
+        (d.others, d.standings, subst (λ u. YaccRules (Some l) u d.others d.standings) one.1 d.go_on);
   }
 
   -- no rule, where none follows and the words aren't over
-  pub no_rule : (AreRulesOver at → ⊥) → ((n : List ℕ) (rest : List Word) → last ≡ Some n → at ≢ mark Semicolon ∷ rest)
-      → ((n : List ℕ) (rest : List Word) → BodyFollows last at n rest → ⊥)
-      → (all : List Ruling) → YaccRules None ws all → ⊥
-  no_rule a b c all h = let q = so_far.complete all h in at_rules last at q.0 a b c q.1
+  pub no_rule : (AreRulesOver at → ⊥)
+      → ((l : LeftSide) (rest : List Word) → last ≡ Some l → at ≢ mark Semicolon ∷ rest)
+      → ((l : LeftSide) (rest : List Word) → BodyFollows last at l rest → ⊥)
+      → (all : List Ruling) (every : List Standing) → YaccRules None ws all every → ⊥
+  no_rule a b c all every h = let q = so_far.complete all every h in at_rules last at q.0 q.1 a b c q.2
     where
-      at_rules : (l : Option (List ℕ)) (vs : List Word) (rs : List Ruling) → (AreRulesOver vs → ⊥)
-          → ((n : List ℕ) (rest : List Word) → l ≡ Some n → vs ≢ mark Semicolon ∷ rest)
-          → ((n : List ℕ) (rest : List Word) → BodyFollows l vs n rest → ⊥) → YaccRules l vs rs → ⊥
-      at_rules l vs rs a b c (end k us o) = a o
-      at_rules l vs rs a b c (rule k n us behind rest r qs f g i) = c n behind f
-      at_rules l vs rs a b c (semicolon n us qs i) = b n us refl refl
+      at_rules : (k : Option LeftSide) (vs : List Word) (rs : List Ruling) (ss : List Standing) → (AreRulesOver vs → ⊥)
+          → ((l : LeftSide) (rest : List Word) → k ≡ Some l → vs ≢ mark Semicolon ∷ rest)
+          → ((l : LeftSide) (rest : List Word) → BodyFollows k vs l rest → ⊥) → YaccRules k vs rs ss → ⊥
+      at_rules k vs rs ss a b c (end j us o) = a o
+      at_rules k vs rs ss a b c (rule j l us behind rest r qs ts f g i) = c l behind f
+      at_rules k vs rs ss a b c (semicolon l us qs ts i) = b l us refl refl
 
   -- a body follows that makes no rule
-  pub bad_body : (n : List ℕ) (inside : List Word) → BodyFollows last at n inside
-      → ((r : Ruling) (rest : List Word) → Body n inside r rest → ⊥) → (all : List Ruling) → YaccRules None ws all → ⊥
-  bad_body n inside f g all h =
-      let q = so_far.complete all h in let d = body_rules last at n inside q.0 f q.1 in g d.0 d.1 d.3
+  pub bad_body : (l : LeftSide) (inside : List Word) → BodyFollows last at l inside
+      → ((r : Ruling) (rest : List Word) → Body l.symbol inside r rest → ⊥) → (all : List Ruling)
+      (every : List Standing) → YaccRules None ws all every → ⊥
+  bad_body l inside f g all every h =
+      let q = so_far.complete all every h in
+      let d = body_rules last at l inside q.0 q.1 f q.2 in
+      g d.first d.rest d.body
 
 -- what rules say is determined
-pub rules_one : (last : Option (List ℕ)) (ws : List Word) (rs qs : List Ruling) → YaccRules last ws rs
-    → YaccRules last ws qs
-    → rs ≡ qs
-rules_one last ws rs qs (end l vs o) b = over_rules l vs qs o b
-rules_one last ws rs qs (semicolon n vs os h) b
-    = rules_one (Some n) vs os qs h (semicolon_rules (Some n) (mark Semicolon ∷ vs) vs qs refl b)
-rules_one last ws rs qs (rule l n vs behind rest r os f g h) b =
-    let d = body_rules l vs n behind qs f b in
-    let one = body_one n behind r d.0 rest d.1 g d.3 in
-    ap₂ ◌∷◌ one.0 (rules_one (Some n) rest os d.2 h (subst (λ u. YaccRules (Some n) u d.2) (sym one.1) d.4)) ∙ sym d.5
+pub rules_one : (last : Option LeftSide) (ws : List Word) (rs qs : List Ruling) (ss ts : List Standing)
+    → YaccRules last ws rs ss → YaccRules last ws qs ts → (rs ≡ qs) × (ss ≡ ts)
+rules_one last ws rs qs ss ts (end k vs o) b = over_rules k vs qs ts o b
+rules_one last ws rs qs ss ts (semicolon l vs os us h) b
+    = rules_one (Some l) vs os qs us ts h (semicolon_rules (Some l) (mark Semicolon ∷ vs) vs qs ts refl b)
+rules_one last ws rs qs ss ts (rule k l vs behind rest r os us f g h) b =
+    let d = body_rules k vs l behind qs ts f b in
+    let one = body_one l.symbol behind r d.first rest d.rest g d.body in
+    let others = rules_one (Some l) rest os d.others us d.standings h
+    (subst (λ u. YaccRules (Some l) u d.others d.standings) (sym one.1) d.go_on) in
+    (ap₂ ◌∷◌ one.0 others.0 ∙ sym d.are, ap (λ u. standing_at l behind ∷ u) others.1 ∙ sym d.stand)
 
 precedence_within : (ws : List Word) (o : Option Word) (rest : List Word) → PrecedencePassed ws o rest
     → length rest ≤ length ws
@@ -230,14 +283,14 @@ late_within k (build c ps) (Some x) ws m rest h = omega (arith, ap length h.1)
 late_within k (build c ps) None ws m rest h = omega (arith, ap length h.1)
 
 -- a rule has a word
-pub rule_shorter : (last : Option (List ℕ)) (ws : List Word) (n : List ℕ) (inside : List Word) (r : Ruling)
-    (rest : List Word) → BodyFollows last ws n inside → Body n inside r rest → length rest < length ws
-rule_shorter last ws n inside r rest f b =
+pub rule_shorter : (last : Option LeftSide) (ws : List Word) (l : LeftSide) (inside : List Word) (r : Ruling)
+    (rest : List Word) → BodyFollows last ws l inside → Body l.symbol inside r rest → length rest < length ws
+rule_shorter last ws l inside r rest f b =
     let k = length r.body in
     let e = b.body_end in
     let within : length rest ≤ length inside = omega (
       arith,
-      symbols_within Plain inside r.body b.behind b.symbols,
+      symbols_within inside r.body b.behind b.symbols,
       passed_within k b.behind e.early e.behind e.action,
       precedence_within e.behind r.precedence e.left e.has_precedence,
       late_within k e.early r.precedence e.left r.making rest e.late,

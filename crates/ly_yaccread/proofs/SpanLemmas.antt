@@ -8,11 +8,12 @@ use Rattle.ly_base.proofs.MemberLemmas.{Contains-one}
 use Rattle.ly_base.specs.Gap.{GapBefore}
 use Rattle.ly_base.specs.declared.language.Language.TheVariants.{Yacc}
 use Rattle.ly_yaccread.specs.Private.Words.{IsPartWord, word_of}
+use Rattle.ly_yaccread.specs.Words.{GapPassed}
 use Rattle.ly_yaccread.specs.declared.part.Part.{Part}
 use Rattle.ly_yaccread.specs.declared.spans.WordSpan.{WordSpan}
 use Rattle.ly_yaccread.specs.declared.words.NextWord.{NextWord}
 use Rattle.ly_yaccread.specs.declared.words.NextWord.TheVariants.{End, Other}
-use Rattle.ly_yaccread.proofs.PartLemmas.{taken, takes_shorter}
+use Rattle.ly_yaccread.proofs.PartLemmas.{taken, takes_from}
 
 -- a span ends before another
 abbrev pub EndsBefore : WordSpan → WordSpan → Type 0
@@ -39,10 +40,11 @@ no_spans text spans e = subst (λ l. AreSpans text text l) (sym e) (record {
 pub gap_less : (text rest : List ℕ) → GapBefore Yacc text rest → length rest ≤ length text
 gap_less text rest (g, _, e) = omega (arith, ap length e, length-append g rest)
 
--- what stands behind a word is shorter
-pub word_less : (p : Part) (text rest : List ℕ) (w : NextWord) → w ≢ End → w ≢ Other → IsPartWord p text w rest
-    → length rest < length text
-word_less p text rest w some known found = takes_shorter p text (word_of w) rest (taken p text rest w some known found)
+-- what stands behind a word is shorter than the text from the word on
+pub word_less : (p : Part) (text from rest : List ℕ) (w : NextWord) → w ≢ End → w ≢ Other → GapPassed text from
+    → IsPartWord p text w rest → length rest < length from
+word_less p text from rest w some known passed found
+    = takes_from p text from (word_of w) rest passed (taken p text rest w some known found)
 
 module _ (text rest front behind : ℕ) (spans longer : List WordSpan) (s : WordSpan) where
   -- a span more

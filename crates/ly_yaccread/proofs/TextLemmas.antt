@@ -1,37 +1,54 @@
 -- What a yacc file says is determined.
-use Rattle.std.proofs.Common.{◌≡◌, ℕ, List, None, ap₂, subst, sym}
-use Rattle.ly_yaccread.specs.Declarations.{Declarations, Preamble, no_preamble}
+use Rattle.std.proofs.Common.{◌≡◌, ◌∙◌, ℕ, List, None, subst, sym}
+use Rattle.ly_yaccread.specs.Declarations.{Declarations, Declaring, none_declared}
 use Rattle.ly_yaccread.specs.File.{Written}
+use Rattle.ly_yaccread.specs.Private.Read.{Says, file_at}
 use Rattle.ly_yaccread.specs.Rules.{YaccRules, Ruling}
 use Rattle.ly_yaccread.specs.Words.{Word, AreWordsOf}
 use Rattle.ly_yaccread.specs.YaccText.{YaccText, YaccTextIsOne}
 use Rattle.ly_yaccread.specs.declared.part.Part.TheVariants.{Declarations as in_declarations}
+use Rattle.ly_yaccread.specs.declared.standing.Standing.{Standing}
 use Rattle.ly_yaccread.proofs.DeclarationLemmas.{declarations_one}
 use Rattle.ly_yaccread.proofs.RuleLemmas.{rules_one}
 use Rattle.ly_yaccread.proofs.WordingLemmas.{wording_one}
 
-module _ (bytes : List ℕ) (ws : List Word) (spelled : AreWordsOf bytes ws) where
-  -- the declarations of the words of the text
-  pub declarations_of : (w : Written) (t : YaccText bytes w) → Declarations no_preamble ws w.preamble t.behind
-  declarations_of w t = subst (λ u. Declarations no_preamble u w.preamble t.behind)
-      (wording_one in_declarations bytes t.words ws t.spelled spelled) t.declarations
+-- what the declarations of a text say, and where its tokens stand among its words
+abbrev pub declaring : {bytes : List ℕ} {w : Written} → YaccText bytes w → Declaring
+declaring {w = w} t = record { preamble = w.preamble; tokens = t.tokens }
 
-  -- the rules behind the declarations
-  pub rules_of : (h : Preamble) (behind : List Word) (w : Written) → Declarations no_preamble ws h behind
-      → YaccText bytes w
-      → (w.preamble ≡ h) × YaccRules None behind w.rules
-  rules_of h behind w d t =
-      let one = declarations_one no_preamble w.preamble h ws t.behind behind (declarations_of w t) d in
-      (one.0, subst (λ u. YaccRules None u w.rules) one.1 t.rules)
+-- the words of a text say what it says
+pub text_says : (bytes : List ℕ) (ws : List Word) (os : List ℕ) → AreWordsOf bytes ws os → (w : Written)
+    (t : YaccText bytes w) → Says ws (declaring t) w.rules t.standings
+text_says bytes ws os spelled w t =
+    let same = wording_one _ in_declarations bytes t.words ws t.offsets os t.spelled spelled in
+    record {
+      behind = t.behind;
+      declarations = subst (λ u. Declarations none_declared u (declaring t) t.behind) same.0 t.declarations;
+      rules = t.rules;
+    }
+
+says_one : (ws : List Word) (d e : Declaring) (rs qs : List Ruling) (ss ts : List Standing) → Says ws d rs ss
+    → Says ws e qs ts → (d ≡ e) × (rs ≡ qs) × (ss ≡ ts)
+says_one ws d e rs qs ss ts a b =
+    let one = declarations_one none_declared d e ws a.behind b.behind a.declarations b.declarations in
+    let both = rules_one None b.behind rs qs ss ts (subst (λ u. YaccRules None u rs ss) one.1 a.rules) b.rules in
+    (one.0, both.0, both.1)
+
+-- a text that says something says what its words say
+is_file_at : (bytes : List ℕ) (w : Written) (t : YaccText bytes w) → w ≡ file_at t.offsets (declaring t) w.rules
+    t.standings
+is_file_at bytes w t = λ i. record {
+  preamble = w.preamble;
+  rules = w.rules;
+  token_offsets = t.tokens_stand i;
+  rule_offsets = t.rules_stand i;
+}
 
 pub text_one : YaccTextIsOne
 text_one bytes v w a b =
-    let d = rules_of bytes a.words a.spelled v.preamble a.behind w a.declarations b in
-    let r = rules_one None a.behind v.rules w.rules a.rules d.1 in
-    same_written v w (sym d.0) r
-  where
-    as_written : Preamble → List Ruling → Written
-    as_written h rs = record { preamble = h; rules = rs }
-
-    same_written : (v w : Written) → v.preamble ≡ w.preamble → v.rules ≡ w.rules → v ≡ w
-    same_written v w e f = ap₂ as_written e f
+    let offsets = wording_one _ in_declarations bytes a.words b.words a.offsets b.offsets a.spelled b.spelled in
+    let one = says_one a.words (declaring a) (declaring b) v.rules w.rules a.standings b.standings
+    (text_says bytes a.words a.offsets a.spelled v a) (text_says bytes a.words a.offsets a.spelled w b) in
+    is_file_at bytes v a
+    ∙ (λ i. file_at (offsets.1 i) (one.0 i) (one.1 i) (one.2 i))
+    ∙ sym (is_file_at bytes w b)

@@ -1,5 +1,6 @@
 -- The declarations of a yacc file (POSIX, XCU yacc, "Declarations Section").
 use Rattle.std.specs.Prelude.{◌≡◌, ◌≢◌, ◌⊎◌, ℕ, List, [], ◌∷◌, ◌++◌, Option, Some, None, codes}
+use Rattle.std.specs.Option.{option_map}
 use Rattle.ly_yaccread.specs.Symbols.{SymbolList}
 use Rattle.ly_yaccread.specs.Words.{Word, mark, directive, name, block, braces}
 use Rattle.ly_yaccread.specs.declared.declaration.Directive.{Directive}
@@ -19,16 +20,18 @@ directive_name Types = codes "type"
 directive_name Start = codes "start"
 directive_name Union = codes "union"
 
--- What a declaration says: what these tokens are, where the grammar starts, or nothing that is used.
+-- What a declaration says: what these tokens are, and how many words are left from each of them on; where the grammar
+-- starts; or nothing that is used.
 pub data Saying : Type 0 where
-  tokens : DeclarationKind → List Word → Saying
+  tokens : DeclarationKind → List Word → List ℕ → Saying
   start : List ℕ → Saying
   nothing : Saying
 
 -- what stands behind a directive, what the declaration says, and the rest
 abbrev pub FollowsDirective : Directive → List Word → Saying → List Word → Type 0
-FollowsDirective (Tokens k) ws s rest = (xs : List Word) × SymbolList Numbered ws xs rest × (s ≡ tokens k xs)
-FollowsDirective Types ws s rest = (xs : List Word) × SymbolList Plain ws xs rest × (s ≡ nothing)
+FollowsDirective (Tokens k) ws s rest
+    = (xs : List Word) × (ns : List ℕ) × SymbolList Numbered ws xs ns rest × (s ≡ tokens k xs ns)
+FollowsDirective Types ws s rest = (xs : List Word) × (ns : List ℕ) × SymbolList Plain ws xs ns rest × (s ≡ nothing)
 FollowsDirective Start ws s rest = (n : List ℕ) × (ws ≡ name n ∷ rest) × (n ≢ codes "error") × (s ≡ start n)
 FollowsDirective Union ws s rest = (ws ≡ braces ∷ rest) × (s ≡ nothing)
 
@@ -48,9 +51,14 @@ pub record Preamble : Type 0 where
   pub declarations : List Declared
   pub start : Option (List ℕ)
 
+-- What declarations say together, and how many words are left from each of their tokens on.
+pub record Declaring : Type 0 where
+  pub preamble : Preamble
+  pub tokens : List ℕ
+
 -- before any declaration
-abbrev pub no_preamble : Preamble
-no_preamble = record { declarations = []; start = None }
+abbrev pub none_declared : Declaring
+none_declared = record { preamble = record { declarations = []; start = None }; tokens = [] }
 
 -- where the grammar starts is said once
 abbrev pub with_start : List Declared → Option (List ℕ) → List ℕ → Option Preamble
@@ -58,15 +66,21 @@ with_start ds None n = Some (record { declarations = ds; start = Some n })
 with_start ds (Some m) n = None
 
 -- what is said with one declaration more
-abbrev pub with_saying : Preamble → Saying → Option Preamble
-with_saying h (tokens k xs)
-    = Some (record { declarations = h.declarations ++ record { kind = k; symbols = xs } ∷ []; start = h.start })
-with_saying h (start n) = with_start h.declarations h.start n
+abbrev pub with_saying : Declaring → Saying → Option Declaring
+with_saying h (tokens k xs ns) = Some (record {
+  preamble = record {
+    declarations = h.preamble.declarations ++ record { kind = k; symbols = xs } ∷ [];
+    start = h.preamble.start;
+  };
+  tokens = h.tokens ++ ns;
+})
+with_saying h (start n) = option_map (λ p. record { preamble = p; tokens = h.tokens })
+    (with_start h.preamble.declarations h.preamble.start n)
 with_saying h nothing = Some h
 
 -- the declarations up to the first `%%`, which go on from what was said before them, what is said in the end, and
 -- the rest
-pub data Declarations : Preamble → List Word → Preamble → List Word → Type 0 where
-  end : (h : Preamble) (rest : List Word) → Declarations h (mark Section ∷ rest) h rest
-  more : (h i all : Preamble) (ws behind rest : List Word) (s : Saying) → Declares ws s behind
+pub data Declarations : Declaring → List Word → Declaring → List Word → Type 0 where
+  end : (h : Declaring) (rest : List Word) → Declarations h (mark Section ∷ rest) h rest
+  more : (h i all : Declaring) (ws behind rest : List Word) (s : Saying) → Declares ws s behind
       → with_saying h s ≡ Some i → Declarations i behind all rest → Declarations h ws all rest

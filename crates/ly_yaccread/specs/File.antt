@@ -1,5 +1,5 @@
 -- What a yacc file says, whatever room its lists have.
-use Rattle.std.specs.Prelude.{List, map}
+use Rattle.std.specs.Prelude.{ℕ, List, map}
 use Rattle.std.specs.Option.{option_map}
 use Rattle.std.specs.Rc.{rc_slice_items}
 use Rattle.ly_yaccread.specs.Actions.{Making, default, pass, build}
@@ -10,6 +10,7 @@ use Rattle.ly_yaccread.specs.declared.file.TreeAction.{TreeAction}
 use Rattle.ly_yaccread.specs.declared.file.TreeAction.TheVariants.{Default, Pass, Build}
 use Rattle.ly_yaccread.specs.declared.file.Declaration.{Declaration}
 use Rattle.ly_yaccread.specs.declared.file.Production.{Production}
+use Rattle.ly_yaccread.specs.declared.file.RuleOffsets.{RuleOffsets}
 use Rattle.ly_yaccread.specs.declared.file.SymbolName.{SymbolName}
 use Rattle.ly_yaccread.specs.declared.file.SymbolName.TheVariants.{Name, Literal}
 use Rattle.ly_yaccread.specs.declared.file.YaccFile.{YaccFile}
@@ -41,14 +42,19 @@ ruling_of p = record {
 abbrev pub declared_of : Declaration → Declared
 declared_of d = record { kind = d.kind; symbols = symbol_words d.symbols.items }
 
--- What a yacc file says: its declarations and start, and its rules.
+-- What a yacc file says: its declarations and start, and its rules; and where the tokens that are declared stand, one
+-- declaration behind the other, and each rule.
 pub record Written : Type 0 where
   pub preamble : Preamble
   pub rules : List Ruling
+  pub token_offsets : List ℕ
+  pub rule_offsets : List RuleOffsets
 
 -- what a value of a yacc file says
 abbrev pub written_of : YaccFile → Written
 written_of f = record {
   preamble = record { declarations = map declared_of f.declarations.items; start = option_map (λ n. n.items) f.start };
   rules = map ruling_of f.rules.items;
+  token_offsets = f.token_offsets.items;
+  rule_offsets = f.rule_offsets.items;
 }

@@ -2,6 +2,7 @@ pub mod Actions
 pub mod Declarations
 pub mod Faults
 pub mod File
+pub mod Offsets
 pub mod Private
 pub mod Rules
 pub mod Symbols

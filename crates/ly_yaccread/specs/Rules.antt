@@ -3,7 +3,7 @@ use Rattle.std.specs.Prelude.{◌≡◌, ◌≢◌, ◌⊎◌, ℕ, List, [], �
 use Rattle.ly_yaccread.specs.Actions.{Making, default, ActionPassed}
 use Rattle.ly_yaccread.specs.Symbols.{SymbolFirst, Symbols}
 use Rattle.ly_yaccread.specs.Words.{Word, mark, directive, name}
-use Rattle.ly_yaccread.specs.declared.listing.Listing.TheVariants.{Plain}
+use Rattle.ly_yaccread.specs.declared.standing.Standing.{Standing}
 use Rattle.ly_yaccread.specs.declared.words.Mark.TheVariants.{Section, Colon, Bar, Semicolon}
 
 -- The symbol behind the `%prec` that comes first, and the rest; none, and all, where no `%prec` does.
@@ -38,22 +38,30 @@ pub record Ruling : Type 0 where
 pub record Body (n : List ℕ) (ws : List Word) (r : Ruling) (rest : List Word) : Type 0 where
   pub same_left : r.left ≡ n
   pub behind : List Word
-  pub symbols : Symbols Plain ws r.body behind
+  pub symbols : Symbols ws r.body behind
   pub body_end : BodyEnd (length r.body) behind r.precedence r.making rest
 
+-- A left side, and how many words are left from its name on.
+pub record LeftSide : Type 0 where
+  pub symbol : List ℕ
+  pub left : ℕ
+
 -- A body of this left side follows: behind the name and a `:`, or behind a `|` where it was the last left side.
-abbrev pub BodyFollows : Option (List ℕ) → List Word → List ℕ → List Word → Type 0
-BodyFollows last ws n behind = ((ws ≡ name n ∷ mark Colon ∷ behind) × (n ≢ codes "error"))
-    ⊎ ((last ≡ Some n) × (ws ≡ mark Bar ∷ behind))
+abbrev pub BodyFollows : Option LeftSide → List Word → LeftSide → List Word → Type 0
+BodyFollows last ws l behind
+    = ((ws ≡ name l.symbol ∷ mark Colon ∷ behind) × (l.symbol ≢ codes "error") × (l.left ≡ length ws))
+    ⊎ ((last ≡ Some l) × (ws ≡ mark Bar ∷ behind))
 
 -- the words are over, or the second `%%` comes first
 abbrev pub AreRulesOver : List Word → Type 0
 AreRulesOver ws = (ws ≡ []) ⊎ ((rest : List Word) × (ws ≡ mark Section ∷ rest))
 
--- The rules go on from the last left side: they are over, or a rule comes, or a `;` behind rules.
-pub data YaccRules : Option (List ℕ) → List Word → List Ruling → Type 0 where
-  end : (last : Option (List ℕ)) (ws : List Word) → AreRulesOver ws → YaccRules last ws []
-  rule : (last : Option (List ℕ)) (n : List ℕ) (ws behind rest : List Word) (r : Ruling) (rs : List Ruling)
-      → BodyFollows last ws n behind → Body n behind r rest → YaccRules (Some n) rest rs → YaccRules last ws (r ∷ rs)
-  semicolon : (n : List ℕ) (ws : List Word) (rs : List Ruling) → YaccRules (Some n) ws rs
-      → YaccRules (Some n) (mark Semicolon ∷ ws) rs
+-- The rules go on from the last left side: they are over, or a rule comes, or a `;` behind rules. Where each stands is
+-- said beside them.
+pub data YaccRules : Option LeftSide → List Word → List Ruling → List Standing → Type 0 where
+  end : (last : Option LeftSide) (ws : List Word) → AreRulesOver ws → YaccRules last ws [] []
+  rule : (last : Option LeftSide) (l : LeftSide) (ws behind rest : List Word) (r : Ruling) (rs : List Ruling)
+      (ss : List Standing) → BodyFollows last ws l behind → Body l.symbol behind r rest → YaccRules (Some l) rest rs ss
+      → YaccRules last ws (r ∷ rs) (record { left = l.left; body = length behind } ∷ ss)
+  semicolon : (l : LeftSide) (ws : List Word) (rs : List Ruling) (ss : List Standing) → YaccRules (Some l) ws rs ss
+      → YaccRules (Some l) (mark Semicolon ∷ ws) rs ss

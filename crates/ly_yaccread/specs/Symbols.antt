@@ -1,5 +1,5 @@
 -- The symbols of a declaration and of a body, and tags (POSIX, XCU yacc).
-use Rattle.std.specs.Prelude.{◌≡◌, ◌≢◌, ◌⊎◌, ℕ, List, [], ◌∷◌, codes}
+use Rattle.std.specs.Prelude.{◌≡◌, ◌≢◌, ◌⊎◌, ℕ, List, [], ◌∷◌, codes, length}
 use Rattle.ly_yaccread.specs.Words.{Word, mark, name, number, literal}
 use Rattle.ly_yaccread.specs.declared.listing.Listing.{Listing}
 use Rattle.ly_yaccread.specs.declared.listing.Listing.TheVariants.{Plain, Numbered}
@@ -24,17 +24,23 @@ SymbolFirst ws _ rest = ⊥
 abbrev pub NoSymbol : List Word → Type 0
 NoSymbol ws = (x : Word) (rest : List Word) → SymbolFirst ws x rest → ⊥
 
+-- symbols, as many as there are, and the rest
+pub data Symbols : List Word → List Word → List Word → Type 0 where
+  end : (ws : List Word) → NoSymbol ws → Symbols ws [] ws
+  more : (ws behind rest : List Word) (x : Word) (xs : List Word) → SymbolFirst ws x behind
+      → Symbols behind xs rest → Symbols ws (x ∷ xs) rest
+
 -- where symbols may have numbers: what stands behind the number that comes first, or all where none does
 abbrev pub NumberPassed : Listing → List Word → List Word → Type 0
 NumberPassed Plain ws rest = ws ≡ rest
 NumberPassed Numbered ws rest = ((ds : List ℕ) × (ws ≡ number ds ∷ rest))
     ⊎ (((ds : List ℕ) (s : List Word) → ws ≢ number ds ∷ s) × (ws ≡ rest))
 
--- symbols, as many as there are, and the rest
-pub data Symbols (l : Listing) : List Word → List Word → List Word → Type 0 where
-  end : (ws : List Word) → NoSymbol ws → Symbols l ws [] ws
-  more : (ws behind left rest : List Word) (x : Word) (xs : List Word) → SymbolFirst ws x behind
-      → NumberPassed l behind left → Symbols l left xs rest → Symbols l ws (x ∷ xs) rest
+-- Symbols of a declaration, as many as there are, how many words are left from each of them on, and the rest.
+pub data Listed (l : Listing) : List Word → List Word → List ℕ → List Word → Type 0 where
+  none : (ws : List Word) → NoSymbol ws → Listed l ws [] [] ws
+  one : (ws behind left rest : List Word) (x : Word) (xs : List Word) (ns : List ℕ) → SymbolFirst ws x behind
+      → NumberPassed l behind left → Listed l left xs ns rest → Listed l ws (x ∷ xs) (length ws ∷ ns) rest
 
 -- what stands behind the tag `<name>` that comes first, or all where no `<` does
 abbrev pub TagPassed : List Word → List Word → Type 0
@@ -42,9 +48,9 @@ TagPassed ws rest
     = ((n : List ℕ) × (ws ≡ mark OpenTag ∷ name n ∷ mark CloseTag ∷ rest) × (n ≢ codes "error"))
     ⊎ (NoMark OpenTag ws × (ws ≡ rest))
 
--- Perhaps a tag, then symbols, one or more, and the rest.
-pub record SymbolList (l : Listing) (ws xs rest : List Word) : Type 0 where
+-- Perhaps a tag, then symbols, one or more, how many words are left from each of them on, and the rest.
+pub record SymbolList (l : Listing) (ws xs : List Word) (ns : List ℕ) (rest : List Word) : Type 0 where
   pub behind : List Word
   pub tag : TagPassed ws behind
-  pub symbols : Symbols l behind xs rest
+  pub symbols : Listed l behind xs ns rest
   pub some : xs ≢ []

@@ -1,7 +1,7 @@
 -- The words of a yacc file (POSIX, XCU yacc).
-use Rattle.std.specs.Prelude.{◌≡◌, ◌≢◌, ℕ, List, [], ◌∷◌, ◌++◌, nat_eq, codes}
+use Rattle.std.specs.Prelude.{◌≡◌, ◌≢◌, ◌+◌, ℕ, List, [], ◌∷◌, ◌++◌, length, nat_eq, codes}
 use Rattle.ly_base.specs.Escapes.{Stops}
-use Rattle.ly_base.specs.Gap.{Closes, EndBefore, Gap}
+use Rattle.ly_base.specs.Gap.{Closes, EndBefore, Gap, GapBefore, GapEnds}
 use Rattle.ly_base.specs.Language.{DigitsBefore, NameBefore}
 use Rattle.ly_base.specs.Literals.{Literal}
 use Rattle.ly_base.specs.Words.{WordBefore}
@@ -90,16 +90,26 @@ part_behind Declarations (mark Section) = Rules
 part_behind Rules (mark Section) = Programs
 part_behind p x = p
 
--- The words of a text that stands in this part of a file. In the programs everything is free. Where no word can be
--- read, one that is anything else ends the list.
-pub data Wording : Part → List ℕ → List Word → Type 0 where
-  free : (text : List ℕ) → Wording Programs text []
-  end : (p : Part) (text : List ℕ) → Gap Yacc text → Wording p text []
-  stuck : (p : Part) (text : List ℕ) → p ≢ Programs → (Gap Yacc text → ⊥)
-      → ((x : Word) (s : List ℕ) → Takes p text x s → ⊥) → Wording p text (other ∷ [])
-  more : (p : Part) (text rest : List ℕ) (x : Word) (xs : List Word) → p ≢ Programs → Takes p text x rest
-      → Wording (part_behind p x) rest xs → Wording p text (x ∷ xs)
+-- what stands behind the gap in front of a text
+abbrev pub GapPassed : List ℕ → List ℕ → Type 0
+GapPassed text rest = GapBefore Yacc text rest × GapEnds Yacc rest
 
--- the words of a whole file
-abbrev pub AreWordsOf : List ℕ → List Word → Type 0
-AreWordsOf bytes ws = Wording Declarations bytes ws
+-- The text ends a file of so many bytes, and what stands behind the gap in front of it begins at this offset.
+abbrev pub BeginsAt : ℕ → List ℕ → ℕ → Type 0
+BeginsAt bytes text offset = (rest : List ℕ) × GapPassed text rest × (offset + length rest ≡ bytes)
+
+-- The words of a text that stands in this part of a file of so many bytes, which it ends, and the offset of each. In
+-- the programs everything is free. Where no word can be read, one that is anything else ends the list.
+pub data Wording (bytes : ℕ) : Part → List ℕ → List Word → List ℕ → Type 0 where
+  free : (text : List ℕ) → Wording bytes Programs text [] []
+  end : (p : Part) (text : List ℕ) → Gap Yacc text → Wording bytes p text [] []
+  stuck : (p : Part) (text : List ℕ) (offset : ℕ) → p ≢ Programs → (Gap Yacc text → ⊥)
+      → ((x : Word) (s : List ℕ) → Takes p text x s → ⊥) → BeginsAt bytes text offset
+      → Wording bytes p text (other ∷ []) (offset ∷ [])
+  more : (p : Part) (text rest : List ℕ) (x : Word) (offset : ℕ) (xs : List Word) (offsets : List ℕ) → p ≢ Programs
+      → Takes p text x rest → BeginsAt bytes text offset → Wording bytes (part_behind p x) rest xs offsets
+      → Wording bytes p text (x ∷ xs) (offset ∷ offsets)
+
+-- the words of a whole file, and the offset of each
+abbrev pub AreWordsOf : List ℕ → List Word → List ℕ → Type 0
+AreWordsOf bytes ws offsets = Wording (length bytes) Declarations bytes ws offsets

@@ -8,9 +8,10 @@ ghost use Rattle.ly_yaccread.specs.Words.{Word, mark as mark_word};
 
 use crate::cursor::Cursor;
 use crate::expected::Expected;
-use crate::fault::YaccFault;
+use crate::fault::YaccFaultKind;
 use crate::file::{Node, TreeAction};
 use crate::place::read_place;
+use crate::refusal::Refusal;
 use crate::words::Mark;
 use ly_base::{Language, SparseSet, leading_name};
 use std::alloc::Global;
@@ -21,7 +22,7 @@ pub(crate) fn read_action(
     alloc: Global,
     words: Cursor<'_>,
     symbols: usize,
-) -> Result<(TreeAction, Cursor<'_>), YaccFault>
+) -> Result<(TreeAction, Cursor<'_>), Refusal>
     ensures { IsFound (ActionPassed symbols (words_left words.entry)) (λ found. making_of found.0)
         (λ found. words_left found.1) result }
 {
@@ -35,17 +36,17 @@ pub(crate) fn read_action(
 }
 
 /// What is left behind these two marks, which have to come first.
-fn after_both(words: Cursor<'_>, first: Mark, second: Mark) -> Result<Cursor<'_>, YaccFault>
+fn after_both(words: Cursor<'_>, first: Mark, second: Mark) -> Result<Cursor<'_>, Refusal>
     ensures { MatchResult result
         (λ rest. words_left words.entry ≡ mark_word first ∷ mark_word second ∷ words_left rest)
         (λ _. (rest : List Word) → words_left words.entry ≢ mark_word first ∷ mark_word second ∷ rest) }
 {
     let Some(inside) = words.after(first) else {
-        return Err(words.fault(Expected::Action));
+        return Err(words.refusal(Expected::Action));
     };
     match inside.after(second) {
         Some(rest) => Ok(rest),
-        None => Err(inside.fault(Expected::Action)),
+        None => Err(inside.refusal(Expected::Action)),
     }
 }
 
@@ -54,7 +55,7 @@ fn read_value(
     alloc: Global,
     words: Cursor<'_>,
     symbols: usize,
-) -> Result<(TreeAction, Cursor<'_>), YaccFault>
+) -> Result<(TreeAction, Cursor<'_>), Refusal>
     ensures { IsFound (ValueFirst symbols (words_left words.entry)) (λ found. making_of found.0)
         (λ found. words_left found.1) result }
 {
@@ -63,10 +64,10 @@ fn read_value(
         return Ok((TreeAction::Pass(place), rest));
     };
     if !is_constructor(name) {
-        return Err(words.fault(Expected::Action));
+        return Err(words.refusal(Expected::Action));
     }
     let Some(inside) = behind.after(Mark::OpenParenthesis) else {
-        return Err(behind.fault(Expected::Action));
+        return Err(behind.refusal(Expected::Action));
     };
     let (places, rest) = read_places(alloc, inside, symbols)?;
     let name = Vec::from_slice(alloc, name)?;
@@ -89,7 +90,7 @@ fn read_places(
     alloc: Global,
     words: Cursor<'_>,
     symbols: usize,
-) -> Result<(Vec<u32>, Cursor<'_>), YaccFault>
+) -> Result<(Vec<u32>, Cursor<'_>), Refusal>
     ensures { IsFound (Places symbols (words_left words.entry)) (λ found. found.0.items) (λ found. words_left found.1)
         result }
 {
@@ -108,7 +109,7 @@ fn more_places<'t>(
     places: &mut SparseSet,
     words: Cursor<'t>,
     symbols: usize,
-) -> Result<Cursor<'t>, YaccFault>
+) -> Result<Cursor<'t>, Refusal>
     requires { (symbols < places.old.below) ⊎ (2 ^ 32 ≤ places.old.below) }
     ensures { MatchResult result
         (λ rest. MorePlaces symbols places.old.members (words_left words.entry) places.new.members (words_left rest))
@@ -121,12 +122,11 @@ fn more_places<'t>(
             return Ok(behind);
         }
         let Some(inside) = rest.after(Mark::Comma) else {
-            return Err(rest.fault(Expected::Action));
+            return Err(rest.refusal(Expected::Action));
         };
         let (place, behind) = read_place(inside, symbols)?;
         if !places.insert(place) {
-            let (line, column) = inside.line_and_column();
-            return Err(YaccFault::DollarTwice { line, column });
+            return Err(inside.refused(YaccFaultKind::DollarTwice));
         }
         rest = behind;
     }

@@ -5,17 +5,15 @@ ghost use Rattle.ly_yaccread.specs.Symbols.{NameFirst, NoMark};
 ghost use Rattle.ly_yaccread.specs.Words.{Word, mark as mark_word, directive as directive_word, number as number_word};
 ghost use Rattle.ly_yaccread.specs.Words.{block as block_word, braces as braces_word, literal as literal_word};
 
-use crate::words::{Mark, NextWord};
+use crate::words::{FileWord, Mark, NextWord};
 
 /// The words of a file that are left.
 #[derive(Clone, Copy)]
 pub(crate) struct Cursor<'t> {
     /// The bytes of the file.
     pub(crate) text: &'t [u8],
-    /// How many words it has.
-    pub(crate) count: usize,
     /// The words that are left.
-    pub(crate) left: &'t [NextWord<'t>],
+    pub(crate) left: &'t [FileWord<'t>],
 }
 
 impl<'t> Cursor<'t> {
@@ -25,7 +23,7 @@ impl<'t> Cursor<'t> {
             (λ found. words_left self.entry ≡ word_of found.0 ∷ words_left found.1) }
     {
         let (first, left) = self.left.split_first()?;
-        Some((*first, Cursor { left, ..self }))
+        Some((first.word, Cursor { left, ..self }))
     }
 
     /// What is left behind this mark, if it comes first.

@@ -5,10 +5,10 @@ ghost use Rattle.ly_yaccread.specs.Words.{Word, directive as directive_word};
 
 use crate::cursor::{Cursor, is};
 use crate::expected::Expected;
-use crate::fault::YaccFault;
 use crate::file::{Declaration, DeclarationKind};
 use crate::listing::Listing;
-use crate::symbols::read_symbol_list;
+use crate::refusal::Refusal;
+use crate::symbols::{Listed, read_symbol_list};
 use std::alloc::Global;
 
 /// What stands behind the `%` of a declaration.
@@ -27,8 +27,8 @@ pub(crate) enum Directive {
 /// What a declaration says.
 #[derive(Drop)]
 pub(crate) enum Said {
-    /// What these tokens are.
-    Tokens(Declaration),
+    /// What these tokens are, and how many words are left from each of them on.
+    Tokens(Declaration, Vec<usize>),
     /// The name of the nonterminal where the grammar starts.
     Start(Vec<u8>),
     /// Nothing that is used.
@@ -39,7 +39,7 @@ pub(crate) enum Said {
 pub(crate) fn read_declaration(
     alloc: Global,
     words: Cursor<'_>,
-) -> Result<(Said, Cursor<'_>), YaccFault>
+) -> Result<(Said, Cursor<'_>), Refusal>
     ensures { IsFound (Declares (words_left words.entry)) (λ found. saying_of found.0) (λ found. words_left found.1)
         result }
 {
@@ -47,24 +47,25 @@ pub(crate) fn read_declaration(
         return Ok((Said::Nothing, rest));
     }
     let Some((directive, behind)) = directive_first(words) else {
-        return Err(words.fault(Expected::Declaration));
+        return Err(words.refusal(Expected::Declaration));
     };
     match directive {
         Directive::Tokens(kind) => {
-            let (symbols, rest) = read_symbol_list(alloc, behind, Listing::Numbered)?;
-            Ok((Said::Tokens(Declaration { kind, symbols }), rest))
+            let (listed, rest) = read_symbol_list(alloc, behind, Listing::Numbered)?;
+            let Listed { symbols, left } = listed;
+            Ok((Said::Tokens(Declaration { kind, symbols }, left), rest))
         }
         Directive::Types => {
-            let (_symbols, rest) = read_symbol_list(alloc, behind, Listing::Plain)?;
+            let (_listed, rest) = read_symbol_list(alloc, behind, Listing::Plain)?;
             Ok((Said::Nothing, rest))
         }
         Directive::Start => match behind.name() {
             Some((name, rest)) => Ok((Said::Start(Vec::from_slice(alloc, name)?), rest)),
-            None => Err(behind.fault(Expected::Declaration)),
+            None => Err(behind.refusal(Expected::Declaration)),
         },
         Directive::Union => match behind.braces() {
             Some(rest) => Ok((Said::Nothing, rest)),
-            None => Err(behind.fault(Expected::Braces)),
+            None => Err(behind.refusal(Expected::Braces)),
         },
     }
 }

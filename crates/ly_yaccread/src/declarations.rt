@@ -1,12 +1,12 @@
 ghost use Rattle.std.specs.Prelude.{◌≡◌, Some, None, IfOk, MatchBool};
-ghost use Rattle.ly_yaccread.specs.Declarations.{Declarations, no_preamble, with_saying};
-ghost use Rattle.ly_yaccread.specs.Private.Read.{IsFound, preamble_of, left as words_left, saying_of};
+ghost use Rattle.ly_yaccread.specs.Declarations.{Declarations, none_declared, with_saying};
+ghost use Rattle.ly_yaccread.specs.Private.Read.{IsFound, declaring_of, left as words_left, saying_of};
 
 use crate::cursor::Cursor;
 use crate::declaration::{Said, read_declaration};
 use crate::expected::Expected;
-use crate::fault::YaccFault;
 use crate::file::Declaration;
+use crate::refusal::Refusal;
 use crate::words::Mark;
 use std::alloc::{AllocError, Global};
 
@@ -17,17 +17,22 @@ pub(crate) struct Preamble {
     pub(crate) declarations: Vec<Declaration>,
     /// The name behind `%start`, where it stands.
     pub(crate) start: Option<Vec<u8>>,
+    /// How many words are left from each token of the declarations on.
+    pub(crate) tokens: Vec<usize>,
 }
 
 impl Preamble {
     /// Adds what a declaration says, and answers whether it may be said: a second start may not.
     fn add(&mut self, said: Said) -> Result<bool, AllocError>
         ensures { IfOk result (λ added. MatchBool added
-            (with_saying (preamble_of self.old) (saying_of said) ≡ Some (preamble_of self.new))
-            (with_saying (preamble_of self.old) (saying_of said) ≡ None)) }
+            (with_saying (declaring_of self.old) (saying_of said) ≡ Some (declaring_of self.new))
+            (with_saying (declaring_of self.old) (saying_of said) ≡ None)) }
     {
         match said {
-            Said::Tokens(declaration) => self.declarations.push(declaration)?,
+            Said::Tokens(declaration, left) => {
+                self.tokens.extend_from_slice(&left)?;
+                self.declarations.push(declaration)?;
+            }
             Said::Start(name) => {
                 if self.start.is_some() {
                     return Ok(false);
@@ -44,13 +49,14 @@ impl Preamble {
 pub(crate) fn read_declarations(
     alloc: Global,
     words: Cursor<'_>,
-) -> Result<(Preamble, Cursor<'_>), YaccFault>
-    ensures { IsFound (Declarations no_preamble (words_left words.entry)) (λ found. preamble_of found.0)
+) -> Result<(Preamble, Cursor<'_>), Refusal>
+    ensures { IsFound (Declarations none_declared (words_left words.entry)) (λ found. declaring_of found.0)
         (λ found. words_left found.1) result }
 {
     let mut preamble = Preamble {
         declarations: Vec::new(alloc),
         start: None,
+        tokens: Vec::new(alloc),
     };
     let mut rest = words;
     loop {
@@ -59,7 +65,7 @@ pub(crate) fn read_declarations(
         }
         let (said, behind) = read_declaration(alloc, rest)?;
         if !preamble.add(said)? {
-            return Err(rest.fault(Expected::Declaration));
+            return Err(rest.refusal(Expected::Declaration));
         }
         rest = behind;
     }

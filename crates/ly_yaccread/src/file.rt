@@ -1,6 +1,7 @@
 use std::rc::RcSlice;
 
-/// What a yacc file says. Tags, numbers, `%type`, `%union` and blocks leave nothing behind.
+/// What a yacc file says, and where it says it. Tags, numbers, `%type`, `%union` and blocks leave nothing behind. An
+/// offset that 32 bits can't hold is kept as `u32::MAX`.
 #[derive(Drop)]
 pub struct YaccFile {
     /// The declarations that name tokens, in the order of the text.
@@ -9,6 +10,19 @@ pub struct YaccFile {
     pub start: Option<Vec<u8>>,
     /// The rules, in the order of the text: one for each body.
     pub rules: Vec<Production>,
+    /// The offset of each symbol that the declarations name, one declaration behind the other.
+    pub token_offsets: Vec<u32>,
+    /// Where each rule stands.
+    pub rule_offsets: Vec<RuleOffsets>,
+}
+
+/// Where a rule stands.
+#[derive(Clone, Copy, Debug, PartialEq, Eq)]
+pub struct RuleOffsets {
+    /// The offset of the name on the left, which rules have in common whose bodies stand behind one `:`.
+    pub left: u32,
+    /// The offset at which the body begins, right behind the `:` or the `|`.
+    pub body: u32,
 }
 
 /// A declaration of tokens.

@@ -15,18 +15,23 @@ mod fault;
 mod file;
 mod laws;
 mod listing;
+mod offsets;
 mod part;
 mod place;
 mod read;
+mod refusal;
 mod rule;
 mod rules;
 mod spans;
+mod standing;
 mod symbols;
 mod wording;
 mod words;
 
-pub use fault::YaccFault;
-pub use file::{Declaration, DeclarationKind, Node, Production, SymbolName, TreeAction, YaccFile};
+pub use fault::{YaccFault, YaccFaultKind};
+pub use file::{
+    Declaration, DeclarationKind, Node, Production, RuleOffsets, SymbolName, TreeAction, YaccFile,
+};
 pub use laws::yacc_text_is_one;
 pub use read::read_yacc;
 pub use spans::{WordSpan, word_spans};

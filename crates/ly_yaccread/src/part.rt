@@ -1,9 +1,9 @@
 ghost use Rattle.std.specs.Prelude.{◌≡◌, ◌≢◌, MatchBool};
 ghost use Rattle.ly_yaccread.specs.Private.Words.{IsPartWord, word_of};
-ghost use Rattle.ly_yaccread.specs.Words.{part_behind};
+ghost use Rattle.ly_yaccread.specs.Words.{GapPassed, part_behind};
 ghost use Rattle.ly_yaccread.specs.declared.part.Part.TheVariants.{Declarations, Programs};
 
-use crate::words::{Mark, NextWord, next_word};
+use crate::words::{Front, Mark, NextWord, next_word};
 use ly_base::{after_block, after_braces};
 
 /// A part of a yacc file: each but the last ends with a `%%`.
@@ -43,27 +43,42 @@ impl Part {
         }
     }
 
-    /// The word behind the gap at the front of a text in this part, and what stands behind it.
-    pub(crate) fn word(self, text: &[u8]) -> (NextWord<'_>, &[u8])
-        ensures { IsPartWord self text.now result.0 result.1.now }
+    /// The word behind the gap at the front of a text in this part.
+    pub(crate) fn word(self, text: &[u8]) -> Front<'_>
+        ensures word { IsPartWord self text.now result.word result.behind.now }
+        ensures from { GapPassed text.now result.from.now }
     {
-        let (word, rest) = next_word(text);
-        let NextWord::Mark(mark) = word else {
-            return (word, rest);
+        let front = next_word(text);
+        let NextWord::Mark(mark) = front.word else {
+            return front;
         };
         if !self.has_blocks() {
-            return (word, rest);
+            return front;
         }
         match mark {
-            Mark::Block => match after_block(rest) {
-                Some(behind) => (NextWord::Block, behind),
-                None => (NextWord::Other, rest),
+            Mark::Block => match after_block(front.behind) {
+                Some(behind) => Front {
+                    word: NextWord::Block,
+                    behind,
+                    ..front
+                },
+                None => Front {
+                    word: NextWord::Other,
+                    ..front
+                },
             },
-            Mark::OpenBrace => match after_braces(rest) {
-                Some(behind) => (NextWord::Braces, behind),
-                None => (NextWord::Other, rest),
+            Mark::OpenBrace => match after_braces(front.behind) {
+                Some(behind) => Front {
+                    word: NextWord::Braces,
+                    behind,
+                    ..front
+                },
+                None => Front {
+                    word: NextWord::Other,
+                    ..front
+                },
             },
-            _ => (word, rest),
+            _ => front,
         }
     }
 }

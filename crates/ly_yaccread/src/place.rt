@@ -7,19 +7,20 @@ ghost use Rattle.ly_yaccread.specs.Words.{Word};
 
 use crate::cursor::Cursor;
 use crate::expected::Expected;
-use crate::fault::YaccFault;
+use crate::fault::YaccFaultKind;
+use crate::refusal::Refusal;
 use crate::words::Mark;
 
 /// Reads a `$` and a place of a body of so many symbols, and answers the place and what is left behind it.
-pub(crate) fn read_place(words: Cursor<'_>, symbols: usize) -> Result<(u32, Cursor<'_>), YaccFault>
+pub(crate) fn read_place(words: Cursor<'_>, symbols: usize) -> Result<(u32, Cursor<'_>), Refusal>
     ensures { MatchResult result (λ found. PlaceFirst symbols (words_left words.entry) found.0 (words_left found.1))
         (λ _. (p : ℕ) (rest : List Word) → PlaceFirst symbols (words_left words.entry) p rest → ⊥) }
 {
     let Some(inside) = words.after(Mark::Dollar) else {
-        return Err(words.fault(Expected::Action));
+        return Err(words.refusal(Expected::Action));
     };
     let Some((digits, rest)) = inside.number() else {
-        return Err(inside.fault(Expected::Action));
+        return Err(inside.refusal(Expected::Action));
     };
     match place_of(digits, symbols) {
         Some(place) => Ok((place, rest)),
@@ -28,13 +29,12 @@ pub(crate) fn read_place(words: Cursor<'_>, symbols: usize) -> Result<(u32, Curs
 }
 
 /// The fault at digits that spell no place and come first: leading zeros are no part of one.
-fn no_place(digits: &[u8], words: Cursor<'_>) -> YaccFault {
-    let (line, column) = words.line_and_column();
-    if digits.len() > 1 && digits.starts_with(b"0") {
-        YaccFault::BadAction { line, column }
+fn no_place(digits: &[u8], words: Cursor<'_>) -> Refusal {
+    words.refused(if digits.len() > 1 && digits.starts_with(b"0") {
+        YaccFaultKind::BadAction
     } else {
-        YaccFault::DollarRange { line, column }
-    }
+        YaccFaultKind::DollarRange
+    })
 }
 
 /// The place that the digits spell, in a body of so many symbols.

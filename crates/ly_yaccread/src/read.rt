@@ -1,15 +1,26 @@
-ghost use Rattle.std.specs.Prelude.{◌≢◌, IfErr, IfOk};
-ghost use Rattle.ly_yaccread.specs.File.{Written, written_of};
+ghost use Rattle.std.specs.Prelude.{◌≡◌, ◌≢◌, List, map, IfErr, IfOk, MatchResult};
+ghost use Rattle.ly_yaccread.specs.Declarations.{Declaring};
+ghost use Rattle.ly_yaccread.specs.Faults.{IsWithin, StandsAt};
+ghost use Rattle.ly_yaccread.specs.File.{Written, ruling_of, written_of};
+ghost use Rattle.ly_yaccread.specs.Private.Read.{Says, declaring_of, file_at};
+ghost use Rattle.ly_yaccread.specs.Private.Words.{offsets_of, words_of};
+ghost use Rattle.ly_yaccread.specs.Rules.{Ruling};
 ghost use Rattle.ly_yaccread.specs.YaccText.{YaccText};
-ghost use Rattle.ly_yaccread.specs.declared.fault.YaccFault.TheVariants.{OutOfMemory};
+ghost use Rattle.ly_yaccread.specs.declared.fault.YaccFault.TheVariants as fault;
+ghost use Rattle.ly_yaccread.specs.declared.refusal.Refusal.TheVariants.{OutOfMemory};
+ghost use Rattle.ly_yaccread.specs.declared.standing.Standing as spec;
 
 use crate::cursor::Cursor;
 use crate::declarations::{Preamble, read_declarations};
 use crate::fault::YaccFault;
-use crate::file::YaccFile;
+use crate::file::{Production, YaccFile};
+use crate::offsets::{rule_offsets, token_offsets};
+use crate::refusal::Refusal;
 use crate::rules::read_rules;
+use crate::standing::Standing;
 use crate::wording::words;
-use std::alloc::Global;
+use crate::words::FileWord;
+use std::alloc::{AllocError, Global};
 
 /// Reads a yacc file (POSIX, XCU yacc): declarations, `%%`, rules, and all that follows a second `%%`, which
 /// isn't used.
@@ -24,23 +35,69 @@ use std::alloc::Global;
 pub fn read_yacc(alloc: Global, bytes: &[u8]) -> Result<YaccFile, YaccFault>
     ensures ok { IfOk result (λ file. YaccText bytes.now (written_of file)) }
     ensures refused { IfErr result
-        (λ fault. fault ≢ OutOfMemory → (w : Written) → YaccText bytes.now w → ⊥) }
+        (λ f. f ≢ fault.OutOfMemory → (w : Written) → YaccText bytes.now w → ⊥) }
+    ensures within { IfErr result (IsWithin bytes.now) }
+    ensures stands { IfErr result (StandsAt bytes.now) }
 {
     let words = words(alloc, bytes)?;
-    let all = Cursor {
-        text: bytes,
-        count: words.len(),
-        left: words.as_slice(),
-    };
+    match read_words(alloc, bytes, &words) {
+        Ok(reading) => Ok(reading.file(alloc, &words)?),
+        Err(refusal) => Err(refusal.fault(bytes, &words)),
+    }
+}
+
+/// What the words of a file say, and where among them.
+#[derive(Drop)]
+struct Reading {
+    /// What the declarations say.
+    preamble: Preamble,
+    /// The rules.
+    rules: Vec<Production>,
+    /// Where each rule stands.
+    standings: Vec<Standing>,
+}
+
+impl Reading {
+    /// The file of these words.
+    fn file(self, alloc: Global, words: &[FileWord<'_>]) -> Result<YaccFile, AllocError>
+        ensures { IfOk result (λ file. written_of file ≡ file_at (offsets_of words.now) (declaring_of self.preamble)
+            (map ruling_of self.rules.items) self.standings.items) }
+    {
+        let Reading {
+            preamble,
+            rules,
+            standings,
+        } = self;
+        let Preamble {
+            declarations,
+            start,
+            tokens,
+        } = preamble;
+        let token_offsets = token_offsets(alloc, words, &tokens)?;
+        let rule_offsets = rule_offsets(alloc, words, &standings)?;
+        Ok(YaccFile {
+            declarations,
+            start,
+            rules,
+            token_offsets,
+            rule_offsets,
+        })
+    }
+}
+
+/// Reads the words of a file: declarations, a `%%`, and rules.
+fn read_words(alloc: Global, text: &[u8], words: &[FileWord<'_>]) -> Result<Reading, Refusal>
+    ensures { MatchResult result
+        (λ r. Says (words_of words.now) (declaring_of r.preamble) (map ruling_of r.rules.items) r.standings.items)
+        (λ refusal. refusal ≢ OutOfMemory → (d : Declaring) (rs : List Ruling) (ss : List spec.Standing)
+        → Says (words_of words.now) d rs ss → ⊥) }
+{
+    let all = Cursor { text, left: words };
     let (preamble, behind) = read_declarations(alloc, all)?;
-    let rules = read_rules(alloc, behind)?;
-    let Preamble {
-        declarations,
-        start,
-    } = preamble;
-    Ok(YaccFile {
-        declarations,
-        start,
+    let (rules, standings) = read_rules(alloc, behind)?;
+    Ok(Reading {
+        preamble,
         rules,
+        standings,
     })
 }

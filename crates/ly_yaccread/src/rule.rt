@@ -10,9 +10,8 @@ ghost use Rattle.ly_yaccread.specs.Words.{Word, directive as directive_word};
 use crate::action::read_action;
 use crate::cursor::{Cursor, is};
 use crate::expected::Expected;
-use crate::fault::YaccFault;
 use crate::file::{Production, SymbolName, TreeAction};
-use crate::listing::Listing;
+use crate::refusal::Refusal;
 use crate::symbols::{read_symbols, symbol_first};
 use std::alloc::Global;
 use std::rc::RcSlice;
@@ -31,11 +30,11 @@ pub(crate) fn read_rule<'t>(
     alloc: Global,
     left: RcSlice<u8>,
     words: Cursor<'t>,
-) -> Result<(Production, Cursor<'t>), YaccFault>
+) -> Result<(Production, Cursor<'t>), Refusal>
     ensures { IsFound (Body (rc_slice_items left) (words_left words.entry)) (λ found. ruling_of found.0)
         (λ found. words_left found.1) result }
 {
-    let (body, behind) = read_symbols(alloc, words, Listing::Plain)?;
+    let (body, behind) = read_symbols(alloc, words)?;
     let (end, rest) = read_body_end(alloc, behind, body.len())?;
     let BodyEnd { precedence, action } = end;
     Ok((
@@ -55,7 +54,7 @@ fn read_body_end(
     alloc: Global,
     words: Cursor<'_>,
     symbols: usize,
-) -> Result<(BodyEnd, Cursor<'_>), YaccFault>
+) -> Result<(BodyEnd, Cursor<'_>), Refusal>
     ensures { IsFound (λ (x : Option Word × Making). EndsBody symbols (words_left words.entry) x.0 x.1)
         (λ found. (option_map (λ x. symbol_word x.value) found.0.precedence, making_of found.0.action))
         (λ found. words_left found.1) result }
@@ -81,7 +80,7 @@ pub(crate) fn is_default(action: &TreeAction) -> bool
 fn read_precedence(
     alloc: Global,
     words: Cursor<'_>,
-) -> Result<(Option<Box<SymbolName>>, Cursor<'_>), YaccFault>
+) -> Result<(Option<Box<SymbolName>>, Cursor<'_>), Refusal>
     ensures { IsFound (PrecedencePassed (words_left words.entry))
         (λ found. option_map (λ x. symbol_word x.value) found.0) (λ found. words_left found.1) result }
 {
@@ -93,7 +92,7 @@ fn read_precedence(
             let symbol = Box::new(alloc, symbol.owned(alloc)?)?;
             Ok((Some(symbol), rest))
         }
-        None => Err(behind.fault(Expected::Rule)),
+        None => Err(behind.refusal(Expected::Rule)),
     }
 }
 

@@ -2,27 +2,44 @@ ghost use Rattle.std.specs.Prelude.{◌≡◌, ◌≢◌, ◌∷◌, ℕ, List, 
 ghost use Rattle.std.specs.Prelude.{IfOk, MatchResult};
 ghost use Rattle.std.specs.Rc.{rc_slice_items};
 ghost use Rattle.ly_yaccread.specs.File.{ruling_of};
-ghost use Rattle.ly_yaccread.specs.Private.Read.{last_of, left as words_left};
-ghost use Rattle.ly_yaccread.specs.Rules.{AreRulesOver, BodyFollows, Ruling, YaccRules};
+ghost use Rattle.ly_yaccread.specs.Private.Read.{last_of, left as words_left, left_side};
+ghost use Rattle.ly_yaccread.specs.Rules.{AreRulesOver, BodyFollows, LeftSide, Ruling, YaccRules};
 ghost use Rattle.ly_yaccread.specs.Words.{Word, mark as mark_word};
-ghost use Rattle.ly_yaccread.specs.declared.fault.YaccFault.TheVariants.{OutOfMemory};
+ghost use Rattle.ly_yaccread.specs.declared.refusal.Refusal.TheVariants.{OutOfMemory};
+ghost use Rattle.ly_yaccread.specs.declared.standing.Standing as spec;
 ghost use Rattle.ly_yaccread.specs.declared.words.Mark.TheVariants.{Semicolon};
 
 use crate::cursor::{Cursor, is};
 use crate::expected::Expected;
-use crate::fault::YaccFault;
 use crate::file::Production;
+use crate::refusal::Refusal;
 use crate::rule::{is_default, read_rule};
+use crate::standing::Standing;
 use crate::words::Mark;
 use std::alloc::{AllocError, Global};
 use std::rc::RcSlice;
 
-/// Reads the rules.
-pub(crate) fn read_rules(alloc: Global, words: Cursor<'_>) -> Result<Vec<Production>, YaccFault>
-    ensures { MatchResult result (λ rules. YaccRules None (words_left words.entry) (map ruling_of rules.items))
-        (λ fault. fault ≢ OutOfMemory → (rs : List Ruling) → YaccRules None (words_left words.entry) rs → ⊥) }
+/// A left side, where it stands in the text.
+#[derive(Clone, Copy)]
+pub(crate) struct Left<'t> {
+    /// Its name.
+    pub(crate) name: &'t [u8],
+    /// How many words are left from the name on.
+    pub(crate) left: usize,
+}
+
+/// Reads the rules, and says beside them where each stands.
+pub(crate) fn read_rules(
+    alloc: Global,
+    words: Cursor<'_>,
+) -> Result<(Vec<Production>, Vec<Standing>), Refusal>
+    ensures { MatchResult result
+        (λ found. YaccRules None (words_left words.entry) (map ruling_of found.0.items) found.1.items)
+        (λ refusal. refusal ≢ OutOfMemory → (rs : List Ruling) (ss : List spec.Standing)
+        → YaccRules None (words_left words.entry) rs ss → ⊥) }
 {
     let mut rules = Vec::new(alloc);
+    let mut standings = Vec::new(alloc);
     let mut last = None;
     let mut expected = Expected::Rule;
     let mut rest = words;
@@ -33,16 +50,20 @@ pub(crate) fn read_rules(alloc: Global, words: Cursor<'_>) -> Result<Vec<Product
             continue;
         }
         let Some((left, inside)) = body_follows(rest, last) else {
-            return Err(rest.fault(expected));
+            return Err(rest.refusal(expected));
         };
-        let shared = shared_left(alloc, left, &rules)?;
+        let shared = shared_left(alloc, left.name, &rules)?;
         let (rule, behind) = read_rule(alloc, shared, inside)?;
         expected = Expected::behind(&rule);
         rules.push(rule)?;
+        standings.push(Standing {
+            left: left.left,
+            body: inside.left.len(),
+        })?;
         last = Some(left);
         rest = behind;
     }
-    Ok(rules)
+    Ok((rules, standings))
 }
 
 impl Expected {
@@ -74,23 +95,25 @@ fn is_over(words: Cursor<'_>) -> bool
 }
 
 /// What is left behind the `;` that comes first, where a rule stood before it.
-fn after_semicolon<'t>(words: Cursor<'t>, last: Option<&[u8]>) -> Option<Cursor<'t>>
-    ensures { MatchOption result ((n : List ℕ) (rest : List Word) → last_of last.entry ≡ Some n
+fn after_semicolon<'t>(words: Cursor<'t>, last: Option<Left<'_>>) -> Option<Cursor<'t>>
+    ensures { MatchOption result ((l : LeftSide) (rest : List Word) → last_of last.entry ≡ Some l
         → words_left words.entry ≢ mark_word Semicolon ∷ rest)
         (λ rest. (last_of last.entry ≢ None) × (words_left words.entry ≡ mark_word Semicolon ∷ words_left rest)) }
 {
-    let _name = last?;
+    let _last = last?;
     words.after(Mark::Semicolon)
 }
 
 /// The left side of the body that follows, and what is left where the body begins.
-fn body_follows<'t>(words: Cursor<'t>, last: Option<&'t [u8]>) -> Option<(&'t [u8], Cursor<'t>)>
-    ensures { MatchOption result ((n : List ℕ) (rest : List Word)
-        → BodyFollows (last_of last.entry) (words_left words.entry) n rest → ⊥)
-        (λ found. BodyFollows (last_of last.entry) (words_left words.entry) found.0.now (words_left found.1)) }
+fn body_follows<'t>(words: Cursor<'t>, last: Option<Left<'t>>) -> Option<(Left<'t>, Cursor<'t>)>
+    ensures { MatchOption result ((l : LeftSide) (rest : List Word)
+        → BodyFollows (last_of last.entry) (words_left words.entry) l rest → ⊥)
+        (λ found. BodyFollows (last_of last.entry) (words_left words.entry) (left_side found.0)
+        (words_left found.1)) }
 {
     if let Some((name, behind)) = words.name() {
-        return Some((name, behind.after(Mark::Colon)?));
+        let left = words.left.len();
+        return Some((Left { name, left }, behind.after(Mark::Colon)?));
     }
     Some((last?, words.after(Mark::Bar)?))
 }

@@ -2,7 +2,6 @@ ghost use Rattle.std.specs.Prelude.{◌≡◌, ◌<◌, ◌≤◌, ◌+◌, [], 
 ghost use Rattle.std.specs.List.{All, AllPairs};
 
 use crate::part::Part;
-use ly_base::{Language, after_gap};
 use std::alloc::{AllocError, Global};
 
 /// Where a word stands in a file.
@@ -36,17 +35,16 @@ pub fn word_spans(alloc: Global, text: &[u8]) -> Result<Vec<WordSpan>, AllocErro
     let mut part = Part::Declarations;
     let mut rest = text;
     while !part.is_free() {
-        let front = after_gap(rest, Language::Yacc);
-        let (word, behind) = part.word(front);
-        if word.is_end() || word.is_other() {
+        let front = part.word(rest);
+        if front.word.is_end() || front.word.is_other() {
             return Ok(spans);
         }
         spans.push(WordSpan {
-            start: text.len() - front.len(),
-            length: front.len() - behind.len(),
+            start: text.len() - front.from.len(),
+            length: front.from.len() - front.behind.len(),
         })?;
-        part = part.behind(word);
-        rest = behind;
+        part = part.behind(front.word);
+        rest = front.behind;
     }
     Ok(spans)
 }

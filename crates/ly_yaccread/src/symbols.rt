@@ -1,14 +1,15 @@
-ghost use Rattle.std.specs.Prelude.{◌≡◌, List, IfOk, MatchOption, MatchResult};
+ghost use Rattle.std.specs.Prelude.{◌≡◌, ℕ, List, IfOk, MatchOption, MatchResult};
 ghost use Rattle.ly_yaccread.specs.File.{symbol_word, symbol_words};
 ghost use Rattle.ly_yaccread.specs.Private.Read.{IsFound, left as words_left, next_symbol};
-ghost use Rattle.ly_yaccread.specs.Symbols.{NoSymbol, NumberPassed, SymbolFirst, SymbolList, Symbols, TagPassed};
+ghost use Rattle.ly_yaccread.specs.Symbols.{Listed as ListsWords, NoSymbol, NumberPassed, SymbolFirst, SymbolList};
+ghost use Rattle.ly_yaccread.specs.Symbols.{Symbols, TagPassed};
 ghost use Rattle.ly_yaccread.specs.Words.{Word};
 
 use crate::cursor::Cursor;
 use crate::expected::Expected;
-use crate::fault::YaccFault;
 use crate::file::SymbolName;
 use crate::listing::Listing;
+use crate::refusal::Refusal;
 use crate::words::Mark;
 use std::alloc::{AllocError, Global};
 
@@ -37,18 +38,46 @@ impl NextSymbol<'_> {
 pub(crate) fn read_symbols(
     alloc: Global,
     words: Cursor<'_>,
-    listing: Listing,
 ) -> Result<(Vec<SymbolName>, Cursor<'_>), AllocError>
     ensures { IfOk result
-        (λ found. Symbols listing (words_left words.entry) (symbol_words found.0.items) (words_left found.1)) }
+        (λ found. Symbols (words_left words.entry) (symbol_words found.0.items) (words_left found.1)) }
 {
     let mut symbols = Vec::new(alloc);
     let mut rest = words;
     while let Some((symbol, behind)) = symbol_first(rest) {
         symbols.push(symbol.owned(alloc)?)?;
-        rest = after_number(behind, listing);
+        rest = behind;
     }
     Ok((symbols, rest))
+}
+
+/// The symbols that a declaration lists.
+#[derive(Drop)]
+pub(crate) struct Listed {
+    /// The symbols.
+    pub(crate) symbols: Vec<SymbolName>,
+    /// How many words are left from each of them on.
+    pub(crate) left: Vec<usize>,
+}
+
+/// Reads the symbols of a declaration, as many as there are, and answers what is left behind them.
+fn read_listed(
+    alloc: Global,
+    words: Cursor<'_>,
+    listing: Listing,
+) -> Result<(Listed, Cursor<'_>), AllocError>
+    ensures { IfOk result (λ found. ListsWords listing (words_left words.entry) (symbol_words found.0.symbols.items)
+        found.0.left.items (words_left found.1)) }
+{
+    let mut symbols = Vec::new(alloc);
+    let mut left = Vec::new(alloc);
+    let mut rest = words;
+    while let Some((symbol, behind)) = symbol_first(rest) {
+        symbols.push(symbol.owned(alloc)?)?;
+        left.push(rest.left.len())?;
+        rest = after_number(behind, listing);
+    }
+    Ok((Listed { symbols, left }, rest))
 }
 
 /// Reads perhaps a tag, and then symbols, one or more; where they don't stand, nothing can be declared.
@@ -56,20 +85,20 @@ pub(crate) fn read_symbol_list(
     alloc: Global,
     words: Cursor<'_>,
     listing: Listing,
-) -> Result<(Vec<SymbolName>, Cursor<'_>), YaccFault>
-    ensures { IsFound (SymbolList listing (words_left words.entry)) (λ found. symbol_words found.0.items)
-        (λ found. words_left found.1) result }
+) -> Result<(Listed, Cursor<'_>), Refusal>
+    ensures { IsFound (λ (x : List Word × List ℕ). SymbolList listing (words_left words.entry) x.0 x.1)
+        (λ found. (symbol_words found.0.symbols.items, found.0.left.items)) (λ found. words_left found.1) result }
 {
     let behind = after_tag(words)?;
-    let (symbols, rest) = read_symbols(alloc, behind, listing)?;
-    if symbols.is_empty() {
-        return Err(rest.fault(Expected::Declaration));
+    let (listed, rest) = read_listed(alloc, behind, listing)?;
+    if listed.symbols.is_empty() {
+        return Err(rest.refusal(Expected::Declaration));
     }
-    Ok((symbols, rest))
+    Ok((listed, rest))
 }
 
 /// What is left behind the tag that comes first, or all where no `<` does.
-fn after_tag(words: Cursor<'_>) -> Result<Cursor<'_>, YaccFault>
+fn after_tag(words: Cursor<'_>) -> Result<Cursor<'_>, Refusal>
     ensures { MatchResult result (λ rest. TagPassed (words_left words.entry) (words_left rest))
         (λ _. (rest : List Word) → TagPassed (words_left words.entry) rest → ⊥) }
 {
@@ -77,11 +106,11 @@ fn after_tag(words: Cursor<'_>) -> Result<Cursor<'_>, YaccFault>
         return Ok(words);
     };
     let Some((_name, behind)) = inside.name() else {
-        return Err(inside.fault(Expected::Declaration));
+        return Err(inside.refusal(Expected::Declaration));
     };
     match behind.after(Mark::CloseTag) {
         Some(rest) => Ok(rest),
-        None => Err(behind.fault(Expected::Declaration)),
+        None => Err(behind.refusal(Expected::Declaration)),
     }
 }
 

@@ -1,6 +1,6 @@
 ghost use Rattle.std.specs.Prelude.{◌≡◌, ◌≢◌, ◌++◌, ◌∷◌, [], ℕ, List, MatchBool, MatchOption};
 ghost use Rattle.ly_yaccread.specs.Private.Words.{IsWordAt, IsFront};
-ghost use Rattle.ly_yaccread.specs.Words.{DirectiveBefore, MarkBefore, spelling};
+ghost use Rattle.ly_yaccread.specs.Words.{DirectiveBefore, GapPassed, MarkBefore, spelling};
 ghost use Rattle.ly_yaccread.specs.declared.words.NextWord.TheVariants.{End, Other};
 
 use ly_base::{Language, after_gap, leading_digits, leading_name, literal};
@@ -79,11 +79,34 @@ impl NextWord<'_> {
     }
 }
 
-/// The word behind the gap at the front, and what stands behind it.
-pub(crate) fn next_word(text: &[u8]) -> (NextWord<'_>, &[u8])
-    ensures { IsFront text.now result.0 result.1.now }
+/// A word of a file, and where it stands.
+#[derive(Clone, Copy)]
+pub(crate) struct FileWord<'t> {
+    /// The word.
+    pub(crate) word: NextWord<'t>,
+    /// The offset of its first byte.
+    pub(crate) offset: usize,
+}
+
+/// What stands at the front of a text, behind a gap.
+#[derive(Clone, Copy)]
+pub(crate) struct Front<'t> {
+    /// The word.
+    pub(crate) word: NextWord<'t>,
+    /// The text from the word on.
+    pub(crate) from: &'t [u8],
+    /// The text behind it.
+    pub(crate) behind: &'t [u8],
+}
+
+/// The word behind the gap at the front.
+pub(crate) fn next_word(text: &[u8]) -> Front<'_>
+    ensures word { IsFront text.now result.word result.behind.now }
+    ensures from { GapPassed text.now result.from.now }
 {
-    word_at(after_gap(text, Language::Yacc))
+    let from = after_gap(text, Language::Yacc);
+    let (word, behind) = word_at(from);
+    Front { word, from, behind }
 }
 
 /// The word at the front, and what stands behind it.

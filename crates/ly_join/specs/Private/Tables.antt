@@ -22,10 +22,14 @@ abbrev pub AreFoundByName : {K X : Type 0} → (K → List ℕ) → (List ℕ �
 AreFoundByName name_of symbol all by_name
     = (n : List ℕ) → IsFoundAs all (symbol n) (lookup (λ k. bytes_eq n (name_of k)) by_name)
 
+-- The numbers of the literals by byte.
+pub record AreLiterals (terminals : List TerminalName) (by_byte : List (Option Sym)) : Type 0 where
+  pub bytes : length by_byte ≡ 256
+  pub numbers : (b : ℕ) → b < 256 → IsFoundAs terminals (byte b) (slice_index_or by_byte b None)
+
 -- The numbers of the tokens by name and of the literals by byte, of terminals that a u32 counts.
 pub record AreTables {K : Type 0} (name_of : K → List ℕ) (terminals : List TerminalName) (by_name : List (K × Sym))
     (by_byte : List (Option Sym)) : Type 0 where
   pub count : length terminals < 2 ^ 32
   pub tokens : AreFoundByName name_of token terminals by_name
-  pub bytes : length by_byte ≡ 256
-  pub literals : (b : ℕ) → b < 256 → IsFoundAs terminals (byte b) (slice_index_or by_byte b None)
+  pub literals : AreLiterals terminals by_byte

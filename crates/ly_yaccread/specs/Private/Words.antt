@@ -6,6 +6,7 @@ use Rattle.ly_yaccread.specs.Words.{Word, mark, directive, name, number, literal
 use Rattle.ly_yaccread.specs.Words.{HasInFront}
 use Rattle.ly_yaccread.specs.Words.{Takes}
 use Rattle.ly_yaccread.specs.declared.part.Part.{Part}
+use Rattle.ly_yaccread.specs.declared.words.FileWord.{FileWord}
 use Rattle.ly_yaccread.specs.declared.words.NextWord.{NextWord}
 use Rattle.ly_yaccread.specs.declared.words.NextWord.TheVariants.{End, Mark, Directive, Name, Number, Literal, Other}
 use Rattle.ly_yaccread.specs.declared.words.NextWord.TheVariants.{Block, Braces}
@@ -40,5 +41,9 @@ IsPartWord p text Other rest = (Gap Yacc text → ⊥) × ((x : Word) (s : List 
 IsPartWord p text w rest = Takes p text (word_of w) rest
 
 -- the words, which borrow nothing
-abbrev pub words_of : List NextWord → List Word
-words_of ws = map word_of ws
+abbrev pub words_of : List FileWord → List Word
+words_of ws = map (λ w. word_of w.word) ws
+
+-- where they begin
+abbrev pub offsets_of : List FileWord → List ℕ
+offsets_of ws = map (λ w. w.offset) ws

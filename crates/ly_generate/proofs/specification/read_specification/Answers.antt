@@ -29,7 +29,8 @@ returns-in_err-file-clause-refused c = when_becomes c.from_residual.result lex.O
 pub returns-in_err-yacc-clause-refused : goal.returns-in_err-yacc-clause-refused
 returns-in_err-yacc-clause-refused c = when_becomes c.from_residual-in_err-yacc.result yacc.OutOfMemory Yacc
     c.in_err-yacc.field-0.0 (IsRefusedFor c.args.limits.now c.args.lex.now c.args.yacc.now)
-    c.from_residual-in_err-yacc.ensures.1 tt (λ ne. c.in_err-yacc.ensures.refused ne)
+    c.from_residual-in_err-yacc.ensures.1 tt
+    (λ ne. (c.in_err-yacc.ensures.refused ne, c.in_err-yacc.ensures.within, c.in_err-yacc.ensures.stands))
 
 pub returns-in_err-spec-clause-refused : goal.returns-in_err-spec-clause-refused
 returns-in_err-spec-clause-refused c = when_becomes c.from_residual-in_err-spec.result join.OutOfMemory Join

@@ -1,25 +1,24 @@
-use Rattle.std.proofs.Common.{List, subst}
-use Rattle.std.proofs.lemmas.Result.{err_from_is_err_and}
-use Rattle.ly_yaccread.specs.Declarations.{Declarations, no_preamble}
-use Rattle.ly_yaccread.specs.declared.words.NextWord.{NextWord}
-use Rattle.ly_yaccread.specs.Private.Read.{preamble_of, left}
-use Rattle.ly_yaccread.specs.Private.Words.{words_of}
-use Rattle.ly_yaccread.proofs.TextLemmas.{declarations_of, rules_of}
+use Rattle.std.proofs.Common.{List, length, subst, sym}
+use Rattle.ly_yaccread.specs.Private.Read.{Says}
+use Rattle.ly_yaccread.specs.Private.Refusals.{IsFaultOf}
+use Rattle.ly_yaccread.specs.Private.Words.{offsets_of, words_of}
+use Rattle.ly_yaccread.specs.declared.words.FileWord.{FileWord}
+use Rattle.ly_yaccread.proofs.RefusalLemmas.{fault_within, still_refused}
+use Rattle.ly_yaccread.proofs.TextLemmas.{declaring, text_says}
 use Rattle.ly_yaccread.proofs.read.read_yacc.Goals as goal
 
-pub returns-in_err-preamble-clause-refused : goal.returns-in_err-preamble-clause-refused
-returns-in_err-preamble-clause-refused c =
-    let p = err_from_is_err_and c.from_residual-in_err-preamble.result c.from_residual-in_err-preamble.ensures.1 in
-    rw (p.1, p.2) (λ n w t. c.in_err-preamble.ensures n w.preamble t.behind
-    (rw c.as_slice.ensures.value (declarations_of c.args.bytes.now (words_of c.in_ok-words.words.items)
-    c.in_ok-words.ensures w t)))
+pub returns-clause-refused : goal.returns-clause-refused
+returns-clause-refused c =
+    let bytes = c.args.bytes.now in
+    let read = c.in_ok-words.words.items in
+    λ h w t. c.in-Err.ensures
+    (still_refused c.in-Err.refusal (length bytes) _ c.fault.result c.fault.ensures h) (declaring t) w.rules t.standings
+    (subst (λ (ws : List FileWord). Says (words_of ws) (declaring t) w.rules t.standings) (sym c.deref.ensures.value)
+    (text_says bytes (words_of read) (offsets_of read) c.in_ok-words.ensures w t))
 
-pub returns-in_err-rules-clause-refused : goal.returns-in_err-rules-clause-refused
-returns-in_err-rules-clause-refused c =
-    let p = err_from_is_err_and c.from_residual-in_err-rules.result c.from_residual-in_err-rules.ensures.1 in
-    let h = preamble_of c.in_ok-preamble.preamble in
-    let behind = left c.in_ok-preamble.behind in
-    rw (p.1, p.2) (λ n w t. c.in_err-rules.ensures n w.rules
-    (rules_of c.args.bytes.now (words_of c.in_ok-words.words.items) c.in_ok-words.ensures h behind w
-    (subst (λ (ws : List NextWord). Declarations no_preamble (words_of ws) h behind) c.as_slice.ensures.value
-    c.in_ok-preamble.ensures) t).1)
+pub returns-clause-within : goal.returns-clause-within
+returns-clause-within c =
+    let read = c.in_ok-words.words.items in
+    fault_within c.args.bytes.now (words_of read) (offsets_of read) c.in_ok-words.ensures c.in-Err.refusal c.fault.result
+    (subst (λ (ws : List FileWord). IsFaultOf c.in-Err.refusal (length c.args.bytes.now) (offsets_of ws) c.fault.result)
+    c.deref-in-Err.ensures.value c.fault.ensures)

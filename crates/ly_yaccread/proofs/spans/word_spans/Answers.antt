@@ -4,21 +4,31 @@ use Rattle.ly_yaccread.proofs.spans.word_spans.Goals as goal
 
 pub overflow_sub-front : goal.overflow_sub-front
 overflow_sub-front c =
-    let shorter = word_less c.loop-rest.part c.after_gap-front.result.now c.word.result.1.now c.word.result.0
-    c.if-is_end.ensures c.if-is_other.ensures c.word.ensures in
+    let front = c.word-front.result in
+    let shorter = word_less c.loop-rest.part c.loop-rest.rest.now front.from.now front.behind.now front.word
+    c.if-is_end.ensures c.if-is_other.ensures c.word-front.ensures.from c.word-front.ensures.word in
+    omega arith
+
+pub overflow_sub-text : goal.overflow_sub-text
+overflow_sub-text c =
+    let front = c.word-front.result in
+    let less = gap_less c.loop-rest.rest.now front.from.now c.word-front.ensures.from.0 in
     omega arith
 
 pub loop-rest-smaller : goal.loop-rest-smaller
 loop-rest-smaller c =
-    let shorter = word_less c.loop-rest.part c.after_gap-front.result.now c.word.result.1.now c.word.result.0
-    c.if-is_end.ensures c.if-is_other.ensures c.word.ensures in
-    let less = gap_less c.loop-rest.rest.now c.after_gap-front.result.now c.after_gap-front.ensures.before in
+    let front = c.word-front.result in
+    let shorter = word_less c.loop-rest.part c.loop-rest.rest.now front.from.now front.behind.now front.word
+    c.if-is_end.ensures c.if-is_other.ensures c.word-front.ensures.from c.word-front.ensures.word in
+    let less = gap_less c.loop-rest.rest.now front.from.now c.word-front.ensures.from.0 in
     omega arith
 
 pub loop-rest-preserved : goal.loop-rest-preserved
 loop-rest-preserved c =
-    one_span (length c.args.text.now) (length c.loop-rest.rest.now) (length c.after_gap-front.result.now)
-    (length c.word.result.1.now) c.loop-rest.spans.items c.push.new.self.items _ c.loop-rest.invariant
-    (gap_less c.loop-rest.rest.now c.after_gap-front.result.now c.after_gap-front.ensures.before)
-    (word_less c.loop-rest.part c.after_gap-front.result.now c.word.result.1.now c.word.result.0
-    c.if-is_end.ensures c.if-is_other.ensures c.word.ensures) refl refl c.in_ok-push.ensures.items
+    let front = c.word-front.result in
+    one_span (length c.args.text.now) (length c.loop-rest.rest.now) (length front.from.now)
+    (length front.behind.now) c.loop-rest.spans.items c.push.new.self.items _ c.loop-rest.invariant
+    (gap_less c.loop-rest.rest.now front.from.now c.word-front.ensures.from.0)
+    (word_less c.loop-rest.part c.loop-rest.rest.now front.from.now front.behind.now front.word
+    c.if-is_end.ensures c.if-is_other.ensures c.word-front.ensures.from c.word-front.ensures.word) refl refl
+    c.in_ok-push.ensures.items

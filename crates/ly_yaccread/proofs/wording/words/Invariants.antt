@@ -1,11 +1,13 @@
-use Rattle.std.proofs.Common.{◌++◌, List, length}
-use Rattle.ly_yaccread.specs.Private.Words.{words_of}
-use Rattle.ly_yaccread.specs.Words.{Word, Wording, AreWordsOf}
+use Rattle.std.proofs.Common.{◌≤◌, length}
+use Rattle.ly_yaccread.proofs.WordingLemmas.{GoesOn}
 use Rattle.ly_yaccread.proofs.wording.words.Given as goal
 
 -- the words so far and those of the rest are all words
 abbrev pub invariant-loop-rest : goal.invariant-loop-rest
-invariant-loop-rest l = (ws : List Word) → Wording l.part l.rest ws → AreWordsOf l.text (words_of l.words.items ++ ws)
+invariant-loop-rest l = record {
+  goes_on : GoesOn l.text l.words.items l.part l.rest;
+  within : length l.rest ≤ length l.text;
+}
 
 abbrev pub decreases-loop-rest : goal.decreases-loop-rest
 decreases-loop-rest l = length l.rest

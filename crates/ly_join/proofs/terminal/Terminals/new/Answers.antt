@@ -13,4 +13,4 @@ invariant_of-result c =
     ∙ ap (λ xs. pushed xs End) c.new-names.ensures.items) in
     let none : c.in_ok-vec.field-0.items ≡ replicate 256 None
     = c.in_ok-vec.ensures.items_if_clones_equal (λ y h. search rules) in
-    rw (names, c.new.ensures.empty) (no_tables (λ k. k.items) c.in_ok-vec.field-0.items none)
+    rw (names, c.new.ensures.empty) (no_tables (λ k. k.now) c.in_ok-vec.field-0.items none)

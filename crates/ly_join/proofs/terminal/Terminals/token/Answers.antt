@@ -8,6 +8,6 @@ use Rattle.ly_join.proofs.terminal.Terminals.token.Goals as goal
 pub returns : goal.returns
 returns c =
     let name = c.args.name.now in
-    let found = lookup (λ k. bytes_eq name k.items) c.self.inside.tokens.entries in
+    let found = lookup (λ k. bytes_eq name k.now) c.self.inside.tokens.entries in
     subst (IsFoundAs c.args.self.now (token name)) (sym (c.copied.ensures ∙ c.get.ensures.value))
     (subst (λ ts. IsFoundAs ts (token name) found) c.self.view_is (c.self.invariant.tokens name))

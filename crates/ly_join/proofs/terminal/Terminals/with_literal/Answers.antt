@@ -28,7 +28,7 @@ invariant_of-self c =
       length-map c.self.inside.names.items terminal_from,
     ) in
     rw (names c)
-    (tables_byte (λ k. k.items) ts c.self.inside.tokens.entries c.self.inside.literals.items c.in_ok-number.number
+    (tables_byte (λ k. k.now) ts c.self.inside.tokens.entries c.self.inside.literals.items c.in_ok-number.number
     c.self.invariant next (omega (arith, next, c.in_ok-number.ensures.number, c.in_ok-number.ensures.small))
     c.args.byte (omega arith))
 

@@ -1,4 +1,4 @@
-use Rattle.std.proofs.Common.{◌≡◌, ◌∙◌, ◌++◌, ◌∷◌, [], ap, arith, Contains, length, map, subst, sym}
+use Rattle.std.proofs.Common.{◌≡◌, ◌∙◌, ◌++◌, ◌∷◌, [], ap, arith, Contains, length, map, refl, subst, sym}
 use Rattle.std.proofs.lemmas.List.{length-map, map_push}
 use Rattle.ly_base.specs.Keys.{PutsAt}
 use Rattle.ly_base.proofs.KeyLemmas.{found_put}
@@ -18,13 +18,13 @@ names : (c : goal.In_ok-push) → map terminal_from c.push.new.self.items
     ≡ map terminal_from c.self.inside.names.items ++ token c.args.name.now ∷ []
 names c = ap (map terminal_from) c.in_ok-push.ensures.items
     ∙ (map_push terminal_from c.self.inside.names.items _
-    ∙ ap (λ n. map terminal_from c.self.inside.names.items ++ token n ∷ []) c.in_ok-from_slice-2.ensures.items)
+    ∙ ap (λ n. map terminal_from c.self.inside.names.items ++ token n ∷ []) c.in_ok-from_slice.ensures.items)
 
 -- what a name finds
-put : (c : goal.In_ok-push) → PutsAt (λ k. k.items) c.args.name.now c.in_ok-number.number
+put : (c : goal.In_ok-push) → PutsAt (λ k. k.now) c.args.name.now c.in_ok-number.number
     c.self.inside.tokens.entries c.insert.new.self.entries
-put c = found_put (λ k. k.items) c.self.inside.tokens c.insert.new.self c.in_ok-from_slice.field-0.items
-    c.args.name.now c.in_ok-number.number c.in_ok-from_slice.ensures.items c.in_ok-insert.ensures.updates
+put c = found_put (λ k. k.now) c.self.inside.tokens c.insert.new.self c.args.name.now c.args.name.now
+    c.in_ok-number.number refl c.in_ok-insert.ensures.updates
 
 pub invariant_of-self : goal.invariant_of-self
 invariant_of-self c =
@@ -38,7 +38,7 @@ invariant_of-self c =
       length-map c.self.inside.names.items terminal_from,
     ) in
     rw (names c)
-    (tables_token (λ k. k.items) ts c.self.inside.tokens.entries c.self.inside.literals.items c.in_ok-number.number
+    (tables_token (λ k. k.now) ts c.self.inside.tokens.entries c.self.inside.literals.items c.in_ok-number.number
     c.self.invariant next (omega (arith, next, c.in_ok-number.ensures.number, c.in_ok-number.ensures.small))
     c.insert.new.self.entries c.args.name.now (put c))
 
