@@ -72,14 +72,17 @@ abbrev pub version_number : Version → ℕ
 version_number V1 = 1
 version_number V2 = 2
 
--- the line that says how many there are, and which version the file has
-abbrev pub set_line : SetCounts → Version → List ℕ
-set_line counts version = codes "tables: " ++ (decimal counts.terminals ++ codes " terminals, ")
+-- how many there are, in words, up to the number of the version
+abbrev pub counts_text : SetCounts → List ℕ
+counts_text counts = codes "tables: " ++ (decimal counts.terminals ++ codes " terminals, ")
     ++ (decimal counts.nonterminals ++ codes " nonterminals, ")
     ++ (decimal counts.scanner_rules ++ codes " scanner rules, ")
     ++ (decimal counts.scanner_states ++ codes " scanner states, ")
     ++ (decimal counts.rules ++ codes " rules, ") ++ (decimal counts.parser_states ++ codes " parser states, version ")
-    ++ (decimal (version_number version) ++ codes "\n")
+
+-- the line that says how many there are, and which version the file has
+abbrev pub set_line : SetCounts → Version → List ℕ
+set_line counts version = counts_text counts ++ (decimal (version_number version) ++ codes "\n")
 
 -- that line was written
 pub record IsCheckTold (before after : Option (List ℕ)) (c : Completion) : Type 0 where

@@ -1,15 +1,15 @@
 //! The command `build`.
-ghost use Rattle.std.specs.Prelude.{◌≡◌, IfErr, IfOk, OnOk, option_map};
+ghost use Rattle.std.specs.Prelude.{◌≡◌, IfErr, IfOk, OnOk};
 ghost use Rattle.ly_base.specs.Limits.{version_2};
 ghost use Rattle.ly_report.specs.Report.{counts_line};
-ghost use Rattle.lytab.specs.CarriedOut.{IsBuildTold};
+ghost use Rattle.lytab.specs.CarriedOut.{wanted_for, IsBuildTold};
 ghost use Rattle.lytab.specs.Devices.{IsOutputTold};
 ghost use Rattle.lytab.specs.Files.{HasTaken, IsWrittenIf};
 ghost use Rattle.lytab.specs.Refusal.{IsRefusalOfBuild};
 
 use crate::completion::Completion;
 use crate::failure::Failure;
-use crate::files::{FileFault, read_file, write_file};
+use crate::files::{FileFault, read_file, write_file, write_if_named};
 use ly_base::{Limits, Version};
 use ly_engine::{Built, ConflictCounts, Report, build};
 use ly_print::{Counted, Sink};
@@ -29,24 +29,30 @@ pub fn build_tables<'a, F: Files, W: Sink>(
     output: &mut W,
 ) -> Result<Completion, Failure<'a>>
     ensures built { IfOk result (IsBuildTold ⟦<Counted<F::File> as Sink>⟧.contents version_2 version
-        (option_map (λ s. s.now) paths.entry.report) (W.contents output.old) (W.contents output.new)) }
+        paths.entry.report (W.contents output.old) (W.contents output.new)) }
     ensures refused { IfErr result (IsRefusalOfBuild version) }
     ensures devices { IsOutputTold result output.old output.new (W.failures output.old) (W.failures output.new) }
 {
     let lex = read_file(files, alloc, paths.lex)?;
     let yacc = read_file(files, alloc, paths.yacc)?;
-    let report = match paths.report {
-        Some(_) => Report::Wanted,
-        None => Report::Unwanted,
-    };
     let limits = Limits::version_2();
-    let built = match build(alloc, &lex, &yacc, &limits, version, report) {
+    let built = match build(alloc, &lex, &yacc, &limits, version, wanted(paths.report)) {
         Ok(built) => built,
         Err(fault) => return Err(Failure::of_files(fault, &lex, &yacc)),
     };
     let line = conflicts_line(alloc, &built.conflicts)?;
     write_files(files, paths, &built)?;
     Completion::Done.said(output, &line)
+}
+
+/// Whether a report is wanted: where a file is named for it.
+fn wanted(path: Option<&str>) -> Report
+    ensures { result ≡ wanted_for path.entry }
+{
+    match path {
+        Some(_) => Report::Wanted,
+        None => Report::Unwanted,
+    }
 }
 
 /// The line that says how many conflicts there are.
@@ -65,12 +71,8 @@ fn write_files<'a, F: Files>(
     built: &Built,
 ) -> Result<(), FileFault<'a>>
     ensures tables { OnOk result (HasTaken ⟦<Counted<F::File> as Sink>⟧.contents built.now.tables.items) }
-    ensures report { OnOk result
-        (IsWrittenIf ⟦<Counted<F::File> as Sink>⟧.contents (option_map (λ s. s.now) paths.entry.report) built.now.report) }
+    ensures report { OnOk result (IsWrittenIf ⟦<Counted<F::File> as Sink>⟧.contents paths.entry.report built.now.report) }
 {
     write_file(files, paths.tables, &built.tables)?;
-    match (paths.report, &built.report) {
-        (Some(path), Some(report)) => write_file(files, path, report),
-        _ => Ok(()),
-    }
+    write_if_named(files, paths.report, &built.report)
 }

@@ -1,7 +1,7 @@
 //! The command `check`.
 ghost use Rattle.std.specs.Prelude.{◌≡◌, ◌++◌, IfErr, IfOk, OnOk, string_bytes};
 ghost use Rattle.std.specs.Fmt.{decimal};
-ghost use Rattle.lytab.specs.CarriedOut.{HasCounts, IsCheckTold, set_line, version_number};
+ghost use Rattle.lytab.specs.CarriedOut.{counts_text, HasCounts, IsCheckTold, set_line, version_number};
 ghost use Rattle.lytab.specs.Devices.{IsOutputTold};
 ghost use Rattle.lytab.specs.Refusal.{IsRefusalOfCheck};
 ghost use Rattle.ly_tables.specs.Refusal.{IsRefusedAs};
@@ -49,6 +49,15 @@ fn counts_of(alloc: Global, bytes: &[u8]) -> Result<(SetCounts, Version), TableF
 fn line_of(alloc: Global, counts: &SetCounts, version: Version) -> Result<String, AllocError>
     ensures { IfOk result (λ line. string_bytes line ≡ set_line counts.now version) }
 {
+    let mut line = text_of(alloc, counts)?;
+    push_count(&mut line, number_of(version), "\n")?;
+    Ok(line)
+}
+
+/// That line up to the number of the version.
+fn text_of(alloc: Global, counts: &SetCounts) -> Result<String, AllocError>
+    ensures { IfOk result (λ line. string_bytes line ≡ counts_text counts.now) }
+{
     let mut line = String::from_str(alloc, "tables: ")?;
     push_count(&mut line, counts.terminals, " terminals, ")?;
     push_count(&mut line, counts.nonterminals, " nonterminals, ")?;
@@ -56,7 +65,6 @@ fn line_of(alloc: Global, counts: &SetCounts, version: Version) -> Result<String
     push_count(&mut line, counts.scanner_states, " scanner states, ")?;
     push_count(&mut line, counts.rules, " rules, ")?;
     push_count(&mut line, counts.parser_states, " parser states, version ")?;
-    push_count(&mut line, number_of(version), "\n")?;
     Ok(line)
 }
 

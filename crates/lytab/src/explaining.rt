@@ -1,5 +1,5 @@
 //! The command `explain`.
-ghost use Rattle.std.specs.Prelude.{IfErr, IfOk, OnOk, option_map};
+ghost use Rattle.std.specs.Prelude.{IfErr, IfOk, OnOk};
 ghost use Rattle.lytab.specs.CarriedOut.{IsExplanationTold};
 ghost use Rattle.lytab.specs.Devices.{IsOutputTold};
 ghost use Rattle.lytab.specs.Failure.{IsOfDevice};
@@ -7,7 +7,7 @@ ghost use Rattle.lytab.specs.Files.{IsWrittenIf};
 
 use crate::completion::Completion;
 use crate::failure::Failure;
-use crate::files::{FileFault, read_file, write_file};
+use crate::files::{FileFault, read_file, write_if_named};
 use ly_base::Limits;
 use ly_explain::{Explanation, Named, Wish, explain};
 use ly_print::{Counted, Sink};
@@ -26,7 +26,7 @@ pub fn explain_files<'a, F: Files, W: Sink>(
     output: &mut W,
 ) -> Result<Completion, Failure<'a>>
     ensures said { IfOk result (IsExplanationTold ⟦<Counted<F::File> as Sink>⟧.contents
-        (option_map (λ s. s.now) paths.entry.states) (option_map (λ s. s.now) paths.entry.graph) (W.contents output.old)
+        paths.entry.states paths.entry.graph (W.contents output.old)
         (W.contents output.new)) }
     ensures failed { IfErr result IsOfDevice }
     ensures devices { IsOutputTold result output.old output.new (W.failures output.old) (W.failures output.new) }
@@ -56,20 +56,11 @@ fn write_files<'a, F: Files>(
     paths: ExplainPaths<'a>,
     explanation: &Explanation,
 ) -> Result<(), FileFault<'a>>
-    ensures states { OnOk result
-        (IsWrittenIf ⟦<Counted<F::File> as Sink>⟧.contents (option_map (λ s. s.now) paths.entry.states)
-        explanation.now.states) }
-    ensures picture { OnOk result
-        (IsWrittenIf ⟦<Counted<F::File> as Sink>⟧.contents (option_map (λ s. s.now) paths.entry.graph)
-        explanation.now.picture) }
+    ensures states { OnOk result (IsWrittenIf ⟦<Counted<F::File> as Sink>⟧.contents paths.entry.states explanation.now.states) }
+    ensures picture { OnOk result (IsWrittenIf ⟦<Counted<F::File> as Sink>⟧.contents paths.entry.graph explanation.now.picture) }
 {
-    if let (Some(path), Some(states)) = (paths.states, &explanation.states) {
-        write_file(files, path, states)?;
-    }
-    match (paths.graph, &explanation.picture) {
-        (Some(path), Some(picture)) => write_file(files, path, picture),
-        _ => Ok(()),
-    }
+    write_if_named(files, paths.states, &explanation.states)?;
+    write_if_named(files, paths.graph, &explanation.picture)
 }
 
 /// Reads a file whole. A failure has the system's reason, where a second look at the file finds one.

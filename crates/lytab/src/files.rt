@@ -2,7 +2,7 @@
 ghost use Rattle.std.specs.Prelude.{◌≡◌, ◌⊎◌, ◌<◌, ℕ, IfErr, length, OnErr, OnOk, take};
 ghost use Rattle.std.specs.Io.KnownBytes.{Appends};
 ghost use Rattle.ly_print.specs.Device.{next_count};
-ghost use Rattle.lytab.specs.Files.{HasTaken};
+ghost use Rattle.lytab.specs.Files.{HasTaken, IsWrittenIf};
 
 use ly_print::{Counted, ReadFault, Sink, read_whole, write_whole};
 use std::alloc::Global;
@@ -57,6 +57,23 @@ pub fn write_file<'a, F: Files>(files: &F, path: &'a str, bytes: &[u8]) -> Resul
     match fs::create(files, path) {
         Ok(file) => write_to(&mut Counted::new(file), path, bytes),
         Err(_) => Err(FileFault::CannotWrite(path)),
+    }
+}
+
+/// Makes a file of bytes that there may be, where a path is named for it.
+pub fn write_if_named<'a, F: Files>(
+    files: &F,
+    path: Option<&'a str>,
+    bytes: &Option<Vec<u8>>,
+) -> Result<(), FileFault<'a>>
+    ensures { OnOk result (IsWrittenIf ⟦<Counted<F::File> as Sink>⟧.contents path.entry bytes.now) }
+{
+    match path {
+        Some(path) => match bytes {
+            Some(bytes) => write_file(files, path, bytes),
+            None => Ok(()),
+        },
+        None => Ok(()),
     }
 }
 

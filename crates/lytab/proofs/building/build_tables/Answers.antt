@@ -1,5 +1,6 @@
 use Rattle.std.proofs.Common.{◌≡◌, IfOk, rules, subst, sym}
 use Rattle.std.specs.Io.KnownBytes.{Appends}
+use Rattle.ly_generate.specs.Parser.{IsReportIf}
 use Rattle.ly_generate.proofs.GenFaultLemmas.{ok_weaker}
 use Rattle.lytab.specs.CarriedOut.{IsBuildTold}
 use Rattle.lytab.specs.declared.completion.Completion.TheVariants.{Done}
@@ -12,13 +13,20 @@ returns-clause-built g c =
     let after = g.W.Sink.contents c.said.new.output in
     let is_said : IfOk c.said.result (λ done. (done ≡ Done) × Appends before after c.in_ok-line.line.items) =
     search rules in
-    subst (λ limits. IfOk c.said.result (IsBuildTold limits c.args.version before after)) c.version_2-limits.ensures
+    subst (λ limits. IfOk c.said.result (IsBuildTold _ limits c.args.version c.args.paths.report before after))
+    c.version_2-limits.ensures
     (ok_weaker c.said.result _ _
     (λ done said. record {
       lex = _;
       yacc = _;
       set = built.0;
       generated = built.1;
+      tables = _;
+      spelled = built.2;
+      tables_written = c.in_ok-write_files.ensures.tables;
+      report = c.in_ok-built.built.report;
+      is_report = subst (λ wish. IsReportIf wish built.1.spec c.in_ok-built.built.report) c.wanted.ensures built.4;
+      report_written = c.in_ok-write_files.ensures.report;
       counts = c.in_ok-built.built.conflicts;
       are_counts = built.3;
       line = rw (sym c.in_ok-line.ensures) said.1;

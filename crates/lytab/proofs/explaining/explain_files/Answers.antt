@@ -16,6 +16,8 @@ returns-clause-said g c =
       yacc = _;
       explanation = explanation;
       explained = c.in_ok-explanation.ensures;
+      states_written = c.in_ok-write_files.ensures.states;
+      picture_written = c.in_ok-write_files.ensures.picture;
       text = said.1;
       completed = rw said.0 c.of_files.ensures;
     })
