@@ -1,16 +1,10 @@
-use Rattle.ly_generate.proofs.GenFaultLemmas.{ok_weaker}
+use Rattle.std.proofs.Common.{refl}
+use Rattle.lytab.proofs.CarriedLemmas.{carried_build, carried_explain, carried_run, carried_tokens, carried_try}
+use Rattle.lytab.proofs.CarriedLemmas.{failed_with}
 use Rattle.lytab.proofs.perform.carry_out.Goals as goal
 
-pub returns-in_ok-lex-in-Tokens-clause-completed : goal.returns-in_ok-lex-in-Tokens-clause-completed
-returns-in_ok-lex-in-Tokens-clause-completed g c = rw c.in-Tokens.is
-    (ok_weaker c.answer_text.result _ _ (λ completion printed. (_, printed)) c.answer_text.ensures.answered)
-
-pub returns-in_ok-tables-in-Run-clause-completed : goal.returns-in_ok-tables-in-Run-clause-completed
-returns-in_ok-tables-in-Run-clause-completed g c = rw c.in-Run.is
-    (ok_weaker c.answer_text-in-Run.result _ _ (λ completion answered. (_, answered))
-    c.answer_text-in-Run.ensures.answered)
-
-pub returns-in_ok-yacc-in-Try-clause-completed : goal.returns-in_ok-yacc-in-Try-clause-completed
-returns-in_ok-yacc-in-Try-clause-completed g c = rw c.in-Try.is
-    (ok_weaker c.answer_text-in-Try.result _ _ (λ completion answered. (_, _, answered))
-    c.answer_text-in-Try.ensures.answered)
+pub returns-in_ok-lex-in-Tokens-clause-carried_out : goal.returns-in_ok-lex-in-Tokens-clause-carried_out
+returns-in_ok-lex-in-Tokens-clause-carried_out g c =
+    let r = c.answer_text.ensures in
+    rw c.in-Tokens.is (carried_tokens _ _ _ _ _ c.answer_text.result _ r.answered r.refused r.unread
+    (λ no. (r.needed no).unread) (λ no. (r.needed no).needed))

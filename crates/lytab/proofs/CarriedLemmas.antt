@@ -1,0 +1,249 @@
+-- What a command did is said of its request, whose paths are the bytes of those that the command has.
+use Rattle.std.proofs.Common.{◌≡◌, absurd, ap, Err, IfErr, IfOk, inl, inr, ◌∷◌, [], List, None, Ok, OnOk, Option, refl, Result, Some, subst, sym}
+use Rattle.std.proofs.Common.{option_map, ℕ}
+use Rattle.std.specs.Prelude.{IsSome}
+use Rattle.std.specs.Result.{IsErrAnd}
+use Rattle.std.specs.Io.KnownBytes.{IsAtEnd}
+use Rattle.std.specs.declared.alloc.Global.{Global}
+use Rattle.std.specs.declared.vec.Vec.{Vec}
+use Rattle.ly_base.specs.Limits.{Sizes, version_2}
+use Rattle.ly_base.specs.declared.version.Version.{Version}
+use Rattle.ly_generate.specs.Parser.{IsReportIf}
+use Rattle.ly_words.specs.Request.{Request, build, check, explain, run, tokens, try}
+use Rattle.lytab.specs.Answering.{AreTokensPrinted, IsAnsweredByFiles, IsAnsweredByTables, text_from}
+use Rattle.lytab.specs.CarriedOut.{Ends, IsBuildTold, IsCarriedOut, IsExplanationTold, IsInputTold, wanted_for}
+use Rattle.lytab.specs.Devices.{IsLeftOrFailed, IsOutputTold}
+use Rattle.lytab.specs.Failure.{IsOfDevice, failure_of_file}
+use Rattle.lytab.specs.Files.{IsWrittenIf}
+use Rattle.lytab.specs.Reading.{IsOfRules, IsReadByFiles, IsReadByTables}
+use Rattle.lytab.specs.Refusal.{IsRefusalOfBuild, IsRefusalOfCheck, IsRefusalOfFiles, IsRefusalOfLex}
+use Rattle.lytab.specs.Refusal.{IsRefusalOfTables}
+use Rattle.lytab.specs.declared.completion.Completion.{Completion}
+use Rattle.lytab.specs.declared.failure.Failure.{Failure}
+use Rattle.lytab.specs.declared.files.FileFault.{FileFault}
+use Rattle.lytab.specs.declared.files.FileFault.TheVariants.{CannotRead, CannotWrite, OutOfMemory}
+
+-- a file that can't be read, or want of memory, says nothing of what files hold
+fails_lex : (lex : List ℕ) (fault : FileFault) → IsRefusalOfLex lex (failure_of_file fault)
+fails_lex lex (CannotRead path) = tt
+fails_lex lex (CannotWrite path) = tt
+fails_lex lex OutOfMemory = tt
+
+fails_tables : (tables : List ℕ) (given : Option (List ℕ)) (fault : FileFault)
+    → IsRefusalOfTables tables given (failure_of_file fault)
+fails_tables tables given (CannotRead path) = tt
+fails_tables tables given (CannotWrite path) = tt
+fails_tables tables given OutOfMemory = tt
+
+fails_files : (lex yacc : List ℕ) (given : Option (List ℕ)) (fault : FileFault)
+    → IsRefusalOfFiles lex yacc given (failure_of_file fault)
+fails_files lex yacc given (CannotRead path) = tt
+fails_files lex yacc given (CannotWrite path) = tt
+fails_files lex yacc given OutOfMemory = tt
+
+pub fails_build : (version : Version) (fault : FileFault) → IsRefusalOfBuild version (failure_of_file fault)
+fails_build version (CannotRead path) = tt
+fails_build version (CannotWrite path) = tt
+fails_build version OutOfMemory = tt
+
+fails_check : (fault : FileFault) → IsRefusalOfCheck (failure_of_file fault)
+fails_check (CannotRead path) = tt
+fails_check (CannotWrite path) = tt
+fails_check OutOfMemory = tt
+
+fails_device : (fault : FileFault) → IsOfDevice (failure_of_file fault)
+fails_device (CannotRead path) = tt
+fails_device (CannotWrite path) = tt
+fails_device OutOfMemory = tt
+
+-- so a command failed before it did anything, and standard input is as it was
+pub failed_first : {R D : Type 0} (contents : D → Option (List ℕ)) (request : Request) (fault : FileFault) (e : Ends R)
+    → e.input_after ≡ e.input_before → IsCarriedOut contents request (Err (failure_of_file fault)) e
+failed_first contents (tokens lex text) fault e same = (
+  [],
+  tt,
+  fails_lex [] fault,
+  record { elsewhere = λ _. same; refused = λ _. same; as_needed = λ _. tt },
+)
+failed_first contents (run table_file text) fault e same = (
+  [],
+  tt,
+  fails_tables [] (text_from text e.given) fault,
+  record { elsewhere = λ _. same; refused = λ _. same; as_needed = λ _. inl same },
+)
+failed_first contents (try lex yacc text) fault e same = (
+  [],
+  [],
+  tt,
+  fails_files [] [] (text_from text e.given) fault,
+  record { elsewhere = λ _. same; refused = λ _. same; as_needed = λ _ _. inl same },
+)
+failed_first contents (build lex yacc table_file report version) fault e same = (tt, fails_build version fault, same)
+failed_first contents (check table_file) fault e same = (tt, fails_check fault, same)
+failed_first contents (explain lex yacc states graph) fault e same = (tt, fails_device fault, same)
+
+pub failed_with : {R D : Type 0} (contents : D → Option (List ℕ)) (request : Request) (fault : FileFault) (e : Ends R)
+    (r : Result Completion Failure) → IsErrAnd r (λ f. f ≡ failure_of_file fault) → e.input_after ≡ e.input_before
+    → IsCarriedOut contents request r e
+failed_with contents request fault e (Ok c) is same = absurd is
+failed_with contents request fault e (Err f) is same = subst (λ g. IsCarriedOut contents request (Err g) e) (sym is)
+    (failed_first contents request fault e same)
+
+text_mapped : {A B : Type 0} (f : A → B) (text : Option A) (given : Option (List ℕ))
+    → text_from (option_map f text) given ≡ text_from text given
+text_mapped f None given = refl
+text_mapped f (Some path) given = refl
+
+-- what is said of standard input, whatever paths are
+input_mapped : {A B R : Type 0} (f : A → B) (text : Option A) (r : Result Completion Failure) (e : Ends R)
+    (read : Type 0) → (IsSome text → e.input_after ≡ e.input_before)
+    → (text ≡ None → IfErr r (λ g. IsOfRules g → e.input_after ≡ e.input_before)) → (text ≡ None → read)
+    → IsInputTold (option_map f text) r e read
+input_mapped f None r e read elsewhere refused needed =
+    record { elsewhere = λ some. absurd some; refused = refused refl; as_needed = λ _. needed refl }
+input_mapped f (Some path) r e read elsewhere refused needed = record {
+  elsewhere = λ _. elsewhere tt;
+  refused = untouched r (elsewhere tt);
+  as_needed = λ no. absurd (let off : Some (f path) ≡ None → ⊥ = λ k. cc in off no);
+}
+  where
+    untouched : (r : Result Completion Failure) → e.input_after ≡ e.input_before
+        → IfErr r (λ g. IsOfRules g → e.input_after ≡ e.input_before)
+    untouched (Ok c) same = tt
+    untouched (Err g) same = λ _. same
+
+-- a command that answers a text, by the bytes of its files
+pub carried_tokens : {A R D : Type 0} (contents : D → Option (List ℕ)) (f : A → List ℕ) (path lex : List ℕ)
+    (text : Option A) (r : Result Completion Failure) (e : Ends R)
+    → IfOk r (AreTokensPrinted lex (text_from text e.given) e.before e.after) → IfErr r (IsRefusalOfLex lex)
+    → (IsSome text → e.input_after ≡ e.input_before)
+    → (text ≡ None → IfErr r (λ g. IsOfRules g → e.input_after ≡ e.input_before))
+    → (text ≡ None → OnOk r (IsAtEnd e.left))
+    → IsCarriedOut contents (tokens path (option_map f text)) r e
+carried_tokens contents f path lex text r e answered refused elsewhere unread needed = (
+  lex,
+  subst (λ given. IfOk r (AreTokensPrinted lex given e.before e.after)) (sym (text_mapped f text e.given)) answered,
+  refused,
+  input_mapped f text r e (OnOk r (IsAtEnd e.left)) elsewhere unread needed,
+)
+
+pub carried_run : {A R D : Type 0} (contents : D → Option (List ℕ)) (f : A → List ℕ) (path bytes : List ℕ)
+    (text : Option A) (r : Result Completion Failure) (e : Ends R)
+    → IfOk r (IsAnsweredByTables bytes (text_from text e.given) e.before e.after)
+    → IfErr r (IsRefusalOfTables bytes (text_from text e.given))
+    → (IsSome text → e.input_after ≡ e.input_before)
+    → (text ≡ None → IfErr r (λ g. IsOfRules g → e.input_after ≡ e.input_before))
+    → (text ≡ None → IsReadByTables bytes r e.given e.left)
+    → IsCarriedOut contents (run path (option_map f text)) r e
+carried_run contents f path bytes text r e answered refused elsewhere unread needed = (
+  bytes,
+  subst (λ given. IfOk r (IsAnsweredByTables bytes given e.before e.after)) (sym (text_mapped f text e.given)) answered,
+  subst (λ given. IfErr r (IsRefusalOfTables bytes given)) (sym (text_mapped f text e.given)) refused,
+  input_mapped f text r e _ elsewhere unread (λ no. inr (needed no)),
+)
+
+pub carried_try : {A R D : Type 0} (contents : D → Option (List ℕ)) (f : A → List ℕ) (path other lex yacc : List ℕ)
+    (text : Option A) (r : Result Completion Failure) (e : Ends R)
+    → IfOk r (IsAnsweredByFiles lex yacc (text_from text e.given) e.before e.after)
+    → IfErr r (IsRefusalOfFiles lex yacc (text_from text e.given))
+    → (IsSome text → e.input_after ≡ e.input_before)
+    → (text ≡ None → IfErr r (λ g. IsOfRules g → e.input_after ≡ e.input_before))
+    → (text ≡ None → IsReadByFiles lex yacc r e.input_before e.input_after e.given e.left)
+    → IsCarriedOut contents (try path other (option_map f text)) r e
+carried_try contents f path other lex yacc text r e answered refused elsewhere unread needed = (
+  lex,
+  yacc,
+  subst (λ given. IfOk r (IsAnsweredByFiles lex yacc given e.before e.after)) (sym (text_mapped f text e.given))
+      answered,
+  subst (λ given. IfErr r (IsRefusalOfFiles lex yacc given)) (sym (text_mapped f text e.given)) refused,
+  input_mapped f text r e _ elsewhere unread needed,
+)
+
+written_mapped : {A B D : Type 0} (f : A → B) (contents : D → Option (List ℕ)) (path : Option A)
+    (bytes : Option (Vec ℕ Global)) → IsWrittenIf contents path bytes → IsWrittenIf contents (option_map f path) bytes
+written_mapped f contents None bytes h = tt
+written_mapped f contents (Some path) None h = tt
+written_mapped f contents (Some path) (Some bytes) h = h
+
+wanted_mapped : {A B : Type 0} (f : A → B) (path : Option A) → wanted_for (option_map f path) ≡ wanted_for path
+wanted_mapped f None = refl
+wanted_mapped f (Some path) = refl
+
+build_told : {A B D : Type 0} (f : A → B) (contents : D → Option (List ℕ)) (limits : Sizes) (version : Version)
+    (path : Option A) (before after : Option (List ℕ)) (c : Completion)
+    → IsBuildTold contents limits version path before after c
+    → IsBuildTold contents limits version (option_map f path) before after c
+build_told f contents limits version path before after c h = record {
+  lex = h.lex;
+  yacc = h.yacc;
+  set = h.set;
+  generated = h.generated;
+  tables = h.tables;
+  spelled = h.spelled;
+  tables_written = h.tables_written;
+  report = h.report;
+  is_report = subst (λ wish. IsReportIf wish h.generated.spec h.report) (sym (wanted_mapped f path)) h.is_report;
+  report_written = written_mapped f contents path h.report h.report_written;
+  counts = h.counts;
+  are_counts = h.are_counts;
+  line = h.line;
+  done = h.done;
+}
+
+explanation_told : {A B D : Type 0} (f : A → B) (contents : D → Option (List ℕ)) (states graph : Option A)
+    (before after : Option (List ℕ)) (c : Completion) → IsExplanationTold contents states graph before after c
+    → IsExplanationTold contents (option_map f states) (option_map f graph) before after c
+explanation_told f contents states graph before after c h = record {
+  lex = h.lex;
+  yacc = h.yacc;
+  explanation = h.explanation;
+  explained = h.explained;
+  states_written = written_mapped f contents states h.explanation.states h.states_written;
+  picture_written = written_mapped f contents graph h.explanation.picture h.picture_written;
+  text = h.text;
+  completed = h.completed;
+}
+
+if_build_told : {A B D : Type 0} (f : A → B) (contents : D → Option (List ℕ)) (limits : Sizes) (version : Version)
+    (path : Option A) (before after : Option (List ℕ)) (r : Result Completion Failure)
+    → IfOk r (IsBuildTold contents limits version path before after)
+    → IfOk r (IsBuildTold contents limits version (option_map f path) before after)
+if_build_told f contents limits version path before after (Ok c) h =
+    build_told f contents limits version path before after c h
+if_build_told f contents limits version path before after (Err g) h = h
+
+if_explanation_told : {A B D : Type 0} (f : A → B) (contents : D → Option (List ℕ)) (states graph : Option A)
+    (before after : Option (List ℕ)) (r : Result Completion Failure)
+    → IfOk r (IsExplanationTold contents states graph before after)
+    → IfOk r (IsExplanationTold contents (option_map f states) (option_map f graph) before after)
+if_explanation_told f contents states graph before after (Ok c) h =
+    explanation_told f contents states graph before after c h
+if_explanation_told f contents states graph before after (Err g) h = h
+
+pub carried_build : {A R D : Type 0} (contents : D → Option (List ℕ)) (f : A → List ℕ) (lex yacc tables : List ℕ)
+    (path : Option A) (version : Version) (r : Result Completion Failure) (e : Ends R)
+    → IfOk r (IsBuildTold contents version_2 version path e.before e.after) → IfErr r (IsRefusalOfBuild version)
+    → e.input_after ≡ e.input_before
+    → IsCarriedOut contents (build lex yacc tables (option_map f path) version) r e
+carried_build contents f lex yacc tables path version r e told refused same =
+    (if_build_told f contents version_2 version path e.before e.after r told, refused, same)
+
+pub carried_explain : {A R D : Type 0} (contents : D → Option (List ℕ)) (f : A → List ℕ) (lex yacc : List ℕ)
+    (states graph : Option A) (r : Result Completion Failure) (e : Ends R)
+    → IfOk r (IsExplanationTold contents states graph e.before e.after) → IfErr r IsOfDevice
+    → e.input_after ≡ e.input_before
+    → IsCarriedOut contents (explain lex yacc (option_map f states) (option_map f graph)) r e
+carried_explain contents f lex yacc states graph r e told failed same =
+    (if_explanation_told f contents states graph e.before e.after r told, failed, same)
+
+-- what is told of a device is told of what is known of it
+left_or_failed : {W : Type 0} (known : W → Option (List ℕ)) (old new : W) (before after : ℕ) (f : Failure)
+    → IsLeftOrFailed old new before after f → IsLeftOrFailed (known old) (known new) before after f
+left_or_failed known old new before after f (inl left) = inl (left.0, ap known left.1)
+left_or_failed known old new before after f (inr failed) = inr failed
+
+pub told_of_known : {W : Type 0} (known : W → Option (List ℕ)) (r : Result Completion Failure) (old new : W)
+    (before after : ℕ) → IsOutputTold r old new before after → IsOutputTold r (known old) (known new) before after
+told_of_known known (Ok c) old new before after h = record { failed = tt; held = h.held }
+told_of_known known (Err f) old new before after h =
+    record { failed = left_or_failed known old new before after f h.failed; held = h.held }
