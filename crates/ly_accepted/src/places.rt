@@ -84,10 +84,8 @@ impl Places {
 
     /// Whether a terminal stands behind a `%prec`, and so is there to give a rule its precedence.
     pub(crate) fn gives_precedence(&self, spec: &Spec, terminal: Sym) -> bool {
-        let (Some(file), Some(name)) = (
-            &self.file,
-            spec.terminals().get(terminal.0 as usize),
-        ) else {
+        let (Some(file), Some(name)) = (&self.file, spec.terminals().get(terminal.0 as usize))
+        else {
             return false;
         };
         for rule in self.ranked.iter().take(RANKS) {
@@ -120,10 +118,8 @@ impl Places {
 
     /// The offset where a terminal stands first in a rule.
     fn offset_in_rules(&self, file: &YaccFile, text: &[u8], name: &TerminalName) -> Option<usize> {
-        let rule = file
-            .rules
-            .iter()
-            .position(|rule| has_terminal(&rule.body, name) || is_ranked_by(rule, name))?;
+        let rule = file.rules.iter().position(|rule| has_terminal(&rule.body, name)
+            || is_ranked_by(rule, name))?;
         let from = file.rule_offsets.get(rule)?.body as usize;
         for span in &self.words {
             if span.start >= from && spells(span.word(text), name) {

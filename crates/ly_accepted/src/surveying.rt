@@ -88,10 +88,7 @@ pub fn survey(
 }
 
 /// What is doubtful, where the conflicts are, and which rule has which number.
-fn text_of(
-    alloc: Global,
-    files: &Accepted<'_>,
-) -> Result<Vec<u8>, OutOfMemory>
+fn text_of(alloc: Global, files: &Accepted<'_>) -> Result<Vec<u8>, OutOfMemory>
     requires { IsBreadthFirst files.now.dfa.now }
 {
     let places = Places::of(alloc, files.yacc.bytes)?;

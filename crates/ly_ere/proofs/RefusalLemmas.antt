@@ -1,5 +1,6 @@
 -- Why a pattern is refused, by why its sides are.
-use Rattle.std.proofs.Common.{◌≡◌, ◌≢◌, ℕ, ◌<◌, ◌≤◌, ◌-◌, List, length, Some, None, refl, sym, ap, subst, arith, inl, inr}
+use Rattle.std.proofs.Common.{◌≡◌, ◌≢◌, ℕ, ◌<◌, ◌≤◌, ◌-◌, List, length}
+use Rattle.std.proofs.Common.{Some, None, refl, sym, ap, subst, arith, inl, inr}
 use Rattle.std.proofs.Common.{take}
 use Rattle.std.proofs.lemmas.List.{drop_all, take_all}
 use Rattle.ly_base.specs.declared.cut.Cut.{Cut}
@@ -81,7 +82,8 @@ module _ (most : ℕ) (names : List Definition) (Have : Sides → Type 0) (Is : 
   pub refused_reading : (text : List ℕ) (fault : ReadFault) → (fault ≢ OutOfMemory → (p : Pattern) → Is p → ⊥)
       → IsRefused most names Have Is (fault_in text fault)
   refused_reading text (Syntax fault) none = refused_text (fault_in text (Syntax fault))
-      (text_is_other (kind_of_syntax fault.kind) (length text - fault.left) (kind_is_other fault.kind)) (none (λ e. absurd (cc)))
+      (text_is_other (kind_of_syntax fault.kind) (length text - fault.left) (kind_is_other fault.kind))
+      (none (λ e. absurd (cc)))
   refused_reading text OutOfMemory none = record {
     refused = λ other. absurd (other refl);
     vary = λ e. absurd (cc);

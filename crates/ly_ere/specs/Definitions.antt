@@ -90,11 +90,13 @@ pub record IsAtFault (list : List DefinedText) (place : ℕ) (fault : EreFault) 
 pub record AreRefused (most : ℕ) (list : List DefinedText) (place : ℕ) (fault : EreFault) : Type 0 where
   pub within : fault ≢ OutOfMemory → place < length list
   pub at : (d : DefinedText) → slice_get list place ≡ Some d → IsAtMost (length d.text) fault
-  pub refused : fault ≢ OutOfMemory → ere_kind fault ≢ Some TooHeavy → (names : List Definition) → AreNames list names → ⊥
+  pub refused : fault ≢ OutOfMemory → ere_kind fault ≢ Some TooHeavy → (names : List Definition)
+      → AreNames list names → ⊥
   pub at_place : fault ≢ OutOfMemory → ere_kind fault ≢ Some TooHeavy → IsAtFault list place fault
   pub spelled : ere_kind fault ≡ Some TooHeavy → AreSpelled list
   pub heavy : ere_kind fault ≡ Some TooHeavy → IsHeavyDefinition most list place
-  pub none_light : ere_kind fault ≡ Some TooHeavy → (names : List Definition) → AreNames list names → AreLightNames most names → ⊥
+  pub none_light : ere_kind fault ≡ Some TooHeavy → (names : List Definition) → AreNames list names
+      → AreLightNames most names → ⊥
 
 -- a definition as it stands in a lex file
 abbrev pub named_text : code.NamedText → DefinedText

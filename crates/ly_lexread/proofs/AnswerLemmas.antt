@@ -128,7 +128,8 @@ module _ {T : Type 0} (value : T → Rule × Saying × List ℕ) (most : ℕ) (c
 -- the texts of definitions are refused
 module _ (most : ℕ) (ds : List DefinedLine) (list : List DefinedText) (place : ℕ) (inner : EreFault)
     (fault : LexFault) (memory : inner ≡ ere.OutOfMemory → fault ≡ OutOfMemory)
-    (other : inner ≢ ere.OutOfMemory → IsPatternFault (ere_kind inner) fault) (refusal : AreRefused most list place inner) where
+    (other : inner ≢ ere.OutOfMemory → IsPatternFault (ere_kind inner) fault)
+    (refusal : AreRefused most list place inner) where
   abbrev Answer : LexFault → Type 0
   Answer f = IsReadAs {T = List Definition} (λ names. names) (AreDefinitions ds) (AreLightNames most)
       (HasHeavyDefinition most ds) (Err f)

@@ -28,11 +28,13 @@ line_says_one Unused p q r text line behind u v a b = (a.0 ∙ sym b.0, a.1 ∙ 
 line_says_one Block p q r text line behind u v a b = (a.0 ∙ sym b.0, block_one behind u v a.1 b.1)
 line_says_one Comment p q r text line behind u v a b = (a.0 ∙ sym b.0, comment_ends_one text u v a.1 b.1)
 line_says_one Directive p q r text line behind u v a b = (
-  preamble_of_parts q r (directive_one (left_in text line) p.conditions q.conditions r.conditions line a.2 b.2) (a.1 ∙ sym b.1),
+  preamble_of_parts q r (directive_one (left_in text line) p.conditions q.conditions r.conditions line a.2 b.2)
+      (a.1 ∙ sym b.1),
   a.0 ∙ sym b.0,
 )
 line_says_one Plain p q r text line behind u v a b = (
-  preamble_of_parts q r (a.1 ∙ sym b.1) (definition_one (length text) p.definitions line q.definitions r.definitions a.2 b.2),
+  preamble_of_parts q r (a.1 ∙ sym b.1)
+      (definition_one (length text) p.definitions line q.definitions r.definitions a.2 b.2),
   a.0 ∙ sym b.0,
 )
 

@@ -33,7 +33,8 @@ all_blank_name text behind n rest a b h = at behind b.3 n h (stop text b.0 behin
     at (x ∷ behind) s n h p = cc (s, p.0)
 
 -- no name stands there
-pub declares_none : (exclusive : Bool) (left : List ℕ → ℕ) (cs all : List Condition) (text : List ℕ) → (AllPass is_blank text → ⊥)
+pub declares_none : (exclusive : Bool) (left : List ℕ → ℕ) (cs all : List Condition) (text : List ℕ)
+    → (AllPass is_blank text → ⊥)
     → ((behind n rest : List ℕ) → BlanksBefore text behind → NameBefore Lex behind n rest → ⊥)
     → DeclaresAll exclusive left cs text all → ⊥
 declares_none x left cs all text a b (end _ _ p) = a p
@@ -70,15 +71,18 @@ declares_behind x left cs all text behind n rest b h (more _ _ _ u m r c d i k) 
 
 pub declares_on : (exclusive : Bool) (left : List ℕ → ℕ) (cs next all : List Condition) (text behind n rest : List ℕ)
     → BlanksBefore text behind → NameBefore Lex behind n rest → is_some (condition_of cs n) ≡ false
-    → next ≡ cs ++ (n, (exclusive, left behind)) ∷ [] → DeclaresAll exclusive left next rest all → DeclaresAll exclusive left cs text all
+    → next ≡ cs ++ (n, (exclusive, left behind)) ∷ [] → DeclaresAll exclusive left next rest all
+    → DeclaresAll exclusive left cs text all
 declares_on x left cs next all text behind n rest b h is e k
-    = more cs all text behind n rest b h (no_some (condition_of cs n) is) (subst (λ i. DeclaresAll x left i rest all) e k)
+    = more cs all text behind n rest b h (no_some (condition_of cs n) is)
+    (subst (λ i. DeclaresAll x left i rest all) e k)
   where
     no_some : (o : Option ℕ) → is_some o ≡ false → o ≡ None
     no_some None f = refl
     no_some (Some y) f = absurd (cc)
 
-declares_one : (exclusive : Bool) (left : List ℕ → ℕ) (cs a b : List Condition) (text : List ℕ) → DeclaresAll exclusive left cs text a
+declares_one : (exclusive : Bool) (left : List ℕ → ℕ) (cs a b : List Condition) (text : List ℕ)
+    → DeclaresAll exclusive left cs text a
     → DeclaresAll exclusive left cs text b → a ≡ b
 declares_one x left cs a b text (end _ _ p) (end _ _ q) = refl
 declares_one x left cs a b text (end _ _ p) (more _ _ _ u m r c d i k) = absurd (all_blank_name text u m r p c d)
@@ -95,7 +99,8 @@ directs_one TextKind left cs a b text h k = h.0 ∙ sym k.0
 directs_one Unknown left cs a b text h k = h.0 ∙ sym k.0
 
 -- what stands behind the word of a line
-pub directive_behind : (left : List ℕ → ℕ) (cs all : List Condition) (line behind word rest : List ℕ) → line ≡ codes "%" ++ behind
+pub directive_behind : (left : List ℕ → ℕ) (cs all : List Condition) (line behind word rest : List ℕ)
+    → line ≡ codes "%" ++ behind
     → NameBefore Lex behind word rest → DirectiveLine left cs line all → Directs (directive_of word) left cs rest all
 directive_behind left cs all line behind word rest e h d =
     let there : NameBefore Lex behind d.word d.rest
@@ -104,12 +109,14 @@ directive_behind left cs all line behind word rest e h d =
     subst (λ i. Directs (directive_of i) left cs rest all) same.0
     (subst (λ i. Directs (directive_of d.word) left cs i all) same.1 d.directs)
 
-pub directive_with : (left : List ℕ → ℕ) (cs all : List Condition) (line behind word rest : List ℕ) → line ≡ codes "%" ++ behind
+pub directive_with : (left : List ℕ → ℕ) (cs all : List Condition) (line behind word rest : List ℕ)
+    → line ≡ codes "%" ++ behind
     → NameBefore Lex behind word rest → Directs (directive_of word) left cs rest all → DirectiveLine left cs line all
 directive_with left cs all line behind word rest e h d
     = record { behind = behind; is_directive = e; word = word; rest = rest; named = h; directs = d }
 
-pub directive_one : (left : List ℕ → ℕ) (cs a b : List Condition) (line : List ℕ) → DirectiveLine left cs line a → DirectiveLine left cs line b
+pub directive_one : (left : List ℕ → ℕ) (cs a b : List Condition) (line : List ℕ) → DirectiveLine left cs line a
+    → DirectiveLine left cs line b
     → a ≡ b
 directive_one left cs a b line d f = directs_one (directive_of d.word) left cs a b d.rest d.directs
     (directive_behind left cs b line d.behind d.word d.rest d.is_directive d.named f)
@@ -127,7 +134,8 @@ idle Size left cs all text a b h = h
 idle TextKind left cs all text a b h = h
 idle Unknown left cs all text a b h = h
 
-pub idle_directs : (d : Directed) (left : List ℕ → ℕ) (cs : List Condition) (text : List ℕ) → IsIdle d text → Directs d left cs text cs
+pub idle_directs : (d : Directed) (left : List ℕ → ℕ) (cs : List Condition) (text : List ℕ) → IsIdle d text
+    → Directs d left cs text cs
 idle_directs Inclusive left cs text h = absurd h
 idle_directs Exclusive left cs text h = absurd h
 idle_directs Size left cs text h = (refl, h)
@@ -140,7 +148,8 @@ pub directed_as : {T : Type 0} (P Q : T → Type 0) (r : Result T LexFault) → 
 directed_as P Q (Ok x) to back h = to x h
 directed_as P Q (Err fault) to back h = (h.0, λ ne x q. h.1 ne x (back x q))
 
-pub declares_behind_into : (exclusive : Bool) (left : List ℕ → ℕ) (cs next all : List Condition) (text behind n rest : List ℕ)
+pub declares_behind_into : (exclusive : Bool) (left : List ℕ → ℕ) (cs next all : List Condition)
+    (text behind n rest : List ℕ)
     → BlanksBefore text behind → NameBefore Lex behind n rest → next ≡ cs ++ (n, (exclusive, left behind)) ∷ []
     → DeclaresAll exclusive left cs text all → DeclaresAll exclusive left next rest all
 declares_behind_into x left cs next all text behind n rest b h e d = subst (λ i. DeclaresAll x left i rest all) (sym e)

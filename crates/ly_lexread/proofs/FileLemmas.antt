@@ -1,5 +1,6 @@
 -- What a lex file says is determined.
-use Rattle.std.proofs.Common.{◌≡◌, ◌<◌, ◌+◌, ◌-◌, ℕ, zero, suc, Some, None, List, [], ◌∷◌, ◌++◌, Bool, true, false, refl}
+use Rattle.std.proofs.Common.{◌≡◌, ◌<◌, ◌+◌, ◌-◌, ℕ, zero, suc, Some, None, List, [], ◌∷◌, ◌++◌, Bool, true, false}
+use Rattle.std.proofs.Common.{refl}
 use Rattle.std.proofs.Common.{sym}
 use Rattle.std.proofs.Common.{◌∙◌, ap, subst, length, map, arith, inl, inr, length-append, ◌⊎◌, cond, ltb}
 use Rattle.std.proofs.lemmas.Bool.Decides.{nat_tests}
@@ -269,7 +270,8 @@ some_condition p q text rest some (more _ s _ _ u _ h d)
     said Unused g = omega (arith, some, ap (λ i. length i.conditions) g.0)
     said Block g = omega (arith, some, ap (λ i. length i.conditions) g.0)
     said Comment g = omega (arith, some, ap (λ i. length i.conditions) g.0)
-    said Directive g = directed (directive_of g.2.word) (left_in text h.0) p.conditions s.conditions g.2.rest some g.2.directs
+    said Directive g = directed (directive_of g.2.word) (left_in text h.0) p.conditions s.conditions g.2.rest some
+        g.2.directs
     said Plain g = omega (arith, some, ap length g.1)
 
 pub rules_of : (bytes : List ℕ) (file : LexFile) → LexText bytes file → (i : ℕ) (r : Rule)

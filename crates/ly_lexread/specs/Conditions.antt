@@ -2,8 +2,8 @@
 use Rattle.std.specs.Prelude.{ℕ, ◌+◌, List, [], ◌∷◌, Bool, false, position, codes, Option, if◌then◌else◌}
 use Rattle.std.specs.Str.{bytes_eq}
 
--- A condition: its name, whether it is exclusive, and how many bytes of the file are left from that name on, where it is
--- declared. Its number is its place in the list.
+-- A condition: its name, whether it is exclusive, and how many bytes of the file are left from that name on, where it
+-- is declared. Its number is its place in the list.
 abbrev pub Condition : Type 0
 Condition = List ℕ × (Bool × ℕ)
 

@@ -1,6 +1,6 @@
 -- What a lex file says (POSIX, XCU lex).
-use Rattle.std.specs.Prelude.{◌≡◌, ◌≢◌, ◌⊎◌, ◌-◌, ℕ, List, [], ◌∷◌, Option, Some, None, Result, IfErr, IfOk, length, map}
-use Rattle.std.specs.Prelude.{if◌then◌else◌, nat_eq}
+use Rattle.std.specs.Prelude.{◌≡◌, ◌≢◌, ◌⊎◌, ◌-◌, ℕ, List, [], ◌∷◌, Option, Some, None, Result}
+use Rattle.std.specs.Prelude.{IfErr, IfOk, length, map, if◌then◌else◌, nat_eq}
 use Rattle.ly_ere.specs.Definitions.{AreLightNames}
 use Rattle.ly_ere.specs.Names.{Definition}
 use Rattle.ly_ere.specs.declared.pattern.Rule.{Rule}

@@ -1,5 +1,6 @@
 -- The lines of a file.
-use Rattle.std.specs.Prelude.{◌≡◌, ◌≢◌, ◌-◌, ℕ, length, Bool, true, List, [], ◌∷◌, ◌++◌, not, nat_eq, codes, drop, if◌then◌else◌}
+use Rattle.std.specs.Prelude.{◌≡◌, ◌≢◌, ◌-◌, ℕ, length, Bool, true, List, [], ◌∷◌, ◌++◌, not, nat_eq, codes, drop}
+use Rattle.std.specs.Prelude.{if◌then◌else◌}
 use Rattle.std.specs.List.{starts_with}
 use Rattle.ly_base.specs.Blank.{is_blank}
 use Rattle.ly_base.specs.Bytes.{newline}

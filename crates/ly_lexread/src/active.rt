@@ -22,8 +22,8 @@ pub(crate) fn read_active<'t>(
     }
 }
 
-/// What is left of a line from the name in front of a rule on that is no condition, or from the `<` of a list that isn't
-/// well formed on.
+/// What is left of the line of a rule from a name in its list on that is no condition; all of the line, where the list
+/// isn't well formed.
 pub(crate) fn fault_in_list<'t>(line: &'t [u8], conditions: &Conditions) -> &'t [u8] {
     let mut left = line.strip_prefix(b"<").unwrap_or(line);
     while let Some((_number, behind)) = leading_condition(left, conditions) {

@@ -1,4 +1,5 @@
-ghost use Rattle.std.specs.Prelude.{◌≡◌, ◌≢◌, ◌<◌, ◌^◌, ◌++◌, ◌∷◌, [], ℕ, None, Some, length, map, zip, IfOk, MatchOption};
+ghost use Rattle.std.specs.Prelude.{◌≡◌, ◌≢◌, ◌<◌, ◌^◌, ◌++◌, ◌∷◌, [], ℕ, None, Some, length};
+ghost use Rattle.std.specs.Prelude.{map, zip, IfOk, MatchOption};
 ghost use Rattle.ly_lexread.specs.Conditions.{Condition, condition_of, inclusive, initial};
 ghost use Rattle.ly_lexread.specs.LexText.{conditions_in, declared_at, said_of};
 

@@ -1,4 +1,5 @@
-ghost use Rattle.std.specs.Prelude.{◌≡◌, ◌++◌, ◌∷◌, ◌⊎◌, [], ℕ, List, Contains, length, IfOk, MatchBool, MatchOption, map};
+ghost use Rattle.std.specs.Prelude.{◌≡◌, ◌++◌, ◌∷◌, ◌⊎◌, [], ℕ, List, Contains, length, IfOk, MatchBool};
+ghost use Rattle.std.specs.Prelude.{MatchOption, map};
 ghost use Rattle.ly_lexread.specs.Definitions.{defined_names, DefinesName};
 ghost use Rattle.ly_lexread.specs.Private.Names.{AreApart, parts_of};
 

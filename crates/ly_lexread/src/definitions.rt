@@ -165,7 +165,7 @@ pub(crate) fn first_fault(
                 Err(earlier) => earlier.or_earlier(fault, text.bytes),
             }
         }
-        Err(_) => LexFault::OutOfMemory,
+        Err(error) => LexFault::from(error),
     }
 }
 

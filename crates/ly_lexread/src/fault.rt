@@ -30,7 +30,8 @@ pub enum LexFaultKind {
     #[error("no line begins with %%")]
     NoRulesMark,
     /// A line that has no form of a definition: the first byte that has no place in that form, or the first of the line
-    /// where its name is at fault. A name that is defined again. A block or a comment that isn't closed: where it opens.
+    /// where its name is at fault. A name that is defined again. A block or a comment that isn't closed: where it
+    /// opens.
     #[error("not a definition")]
     BadDefinition,
     /// A condition that isn't declared: its name. A list of conditions that isn't well formed: its `<`.
@@ -39,8 +40,8 @@ pub enum LexFaultKind {
     /// A condition that is declared a second time, or `INITIAL`: its name.
     #[error("a condition declared twice")]
     ConditionTwice,
-    /// What stands behind a pattern has no form of an action: the word at fault, or where one is wanting; of braces that
-    /// aren't closed the file's last byte.
+    /// What stands behind a pattern has no form of an action: the word at fault, or where one is wanting; of braces
+    /// that aren't closed the file's last byte.
     #[error("not an action")]
     BadAction,
     /// The last rule has the action of the next one: its `|`.

@@ -89,7 +89,8 @@ fn flaw_fault(file: &[u8], left: usize) -> LexFault
 pub(crate) struct NameTexts<'t> {
     /// They, in the order of the lines.
     list: Vec<NamedText<'t>>,
-    /// How many bytes of the file are left from the first byte on that is no blank behind an expression, if there is one.
+    /// How many bytes of the file are left from the first byte on that is no blank behind an expression, if there is
+    /// one.
     flaw: Option<usize>,
 }
 

@@ -97,10 +97,7 @@ fn find_mark_fault(
 }
 
 /// Why a text is refused, if it is, and the offset at fault.
-fn refusal(
-    alloc: Global,
-    text: &[u8],
-) -> Result<Option<(YaccFaultKind, usize)>, OutOfMemory> {
+fn refusal(alloc: Global, text: &[u8]) -> Result<Option<(YaccFaultKind, usize)>, OutOfMemory> {
     match read_yacc(alloc, text) {
         Ok(_) => Ok(None),
         Err(YaccFault::Refused { kind, offset }) => Ok(Some((kind, offset))),

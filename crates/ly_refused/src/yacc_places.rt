@@ -28,9 +28,8 @@ pub(crate) fn symbol_location(
             Some(body) => word_offset(alloc, text, body, b"%prec", name)?,
             None => None,
         },
-        JoinFault::ReturnUndeclared(_)
-        | JoinFault::LimitPassed { .. }
-        | JoinFault::OutOfMemory => None,
+        JoinFault::ReturnUndeclared(_) | JoinFault::LimitPassed { .. } | JoinFault::OutOfMemory =>
+            None,
     };
     Ok(offset.map(|offset| Location::of(text, offset)))
 }
@@ -86,13 +85,10 @@ fn has_name(symbols: &[SymbolName], name: &[u8]) -> bool {
 
 /// Where the first body begins that has this name behind its `%prec`.
 fn offset_of_body_ranked_by(file: &YaccFile, name: &[u8]) -> Option<usize> {
-    let rule = file
-        .rules
-        .iter()
-        .position(|rule| match &rule.precedence {
-            Some(symbol) => is_name(symbol, name),
-            None => false,
-        })?;
+    let rule = file.rules.iter().position(|rule| match &rule.precedence {
+        Some(symbol) => is_name(symbol, name),
+        None => false,
+    })?;
     Some(file.rule_offsets.get(rule)?.body as usize)
 }
 

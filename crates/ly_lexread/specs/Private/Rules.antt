@@ -16,8 +16,8 @@ pub data AreSkipped : List ℕ → List ℕ → Type 0 where
 abbrev pub BeginsWithRule : List ℕ → Type 0
 BeginsWithRule text = (text ≢ []) × (line end : List ℕ) × LineOf text line end × BeginsRule (kind_of line)
 
--- the rules, what each says of its action, and which byte of a file of so many, of which the text is what is left, is the
--- first of each
+-- the rules, what each says of its action, and which byte of a file of so many, of which the text is what is left, is
+-- the first of each
 abbrev pub AreRulesAt : ℕ → List Condition → List Definition → List ℕ → List Rule → List Saying → List ℕ → Type 0
 AreRulesAt whole cs names text rules sayings starts =
     (lefts : List ℕ) × Rules cs names text rules sayings lefts × (starts ≡ map (λ n. whole - n) lefts)

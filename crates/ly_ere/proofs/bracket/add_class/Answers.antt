@@ -15,7 +15,8 @@ returns-in_err-ranges-clause-refused c =
     let within = rw c.in_ok-end.ensures.ok_part at c.named_end.ensures.within in
     let p = err_from_is_err_and c.from_residual-in_err-ranges.result c.from_residual-in_err-ranges.ensures.1 in
     rw p.1 (class_nowhere c.args.text.now c.in_ok-end.end within.0
-    (rw c.in_ok-end.ensures.ok_part at c.named_end.ensures.first) (rw c.in_err-ranges.ensures.ok_part at c.class.ensures.none))
+    (rw c.in_ok-end.ensures.ok_part at c.named_end.ensures.first)
+    (rw c.in_err-ranges.ensures.ok_part at c.class.ensures.none))
 
 pub loop-low-preserved : goal.loop-low-preserved
 loop-low-preserved c = rw (add-one, take-suc c.in_ok-ranges.ranges.now c.loop-low.low-index (0, 0) c.loop-low-test.true)

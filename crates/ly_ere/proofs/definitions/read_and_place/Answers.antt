@@ -22,7 +22,8 @@ put t us p is h = subst (λ (vs : List (Vec ℕ Global)). ArePut (map (λ (v : V
 refused : (most : ℕ) (list : List DefinedText) → AreDistinct list → (t : DefinitionTexts)
     → AreRead (known_names list) list t
     → (p : InTurn) → ArePut (text_uses t) p → (r : Refusal)
-    → (t.refusal ≡ Some r) ⊎ ((p.left ≡ Some r.place) × (r.fault ≡ Refused NameCycle 0)) → AreRefused most list r.place r.fault
+    → (t.refusal ≡ Some r) ⊎ ((p.left ≡ Some r.place) × (r.fault ≡ Refused NameCycle 0))
+    → AreRefused most list r.place r.fault
 refused most list distinct t a p h r (inl is) = refused_text most list distinct r (a.refusal r is)
 refused most list distinct t a p h r (inr is) =
     let left = subst (λ o. MatchOption o ((n : ℕ) → n < length (text_uses t) → Contains p.order.items n)

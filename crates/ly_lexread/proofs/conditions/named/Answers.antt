@@ -10,7 +10,8 @@ pub loop-place-preserved : goal.loop-place-preserved
 loop-place-preserved c = names_step c.args.names.now.keys c.args.lefts.now (declared_at c.args.whole) c.loop-place.place
     c.unwrap-name.result.now _ c.loop-place.all.items c.push.new.self.items _ c.requires c.loop-place-test.true
     (sym c.get_index.ensures.key ∙ ap option_copied c.unwrap-name.ensures) refl c.in_ok-push.ensures.items
-    (ap₂ (λ n o. (n, o)) (c.in_ok-from_slice.ensures.items ∙ c.deref.ensures.value) c.declared_at.ensures) c.loop-place.invariant
+    (ap₂ (λ n o. (n, o)) (c.in_ok-from_slice.ensures.items ∙ c.deref.ensures.value) c.declared_at.ensures)
+    c.loop-place.invariant
 
 pub returns : goal.returns
 returns c =

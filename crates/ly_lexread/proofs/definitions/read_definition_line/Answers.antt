@@ -37,4 +37,5 @@ returns-clause-these c =
     says_with p q c.args.text.bytes.now c.in-Some.line.now c.in-Some.behind.bytes.now
     c.in-Some-behind_definition.rest.bytes.now kind c.in-Some.ensures.these (sym c.kind_of-kind.ensures)
     (says_both kind p q c.args.text.bytes.now c.in-Some.line.now c.in-Some.behind.bytes.now
-    c.in-Some-behind_definition.rest.bytes.now c.in-Some-behind_definition.ensures.these c.in_ok-with_line.ensures.these)
+    c.in-Some-behind_definition.rest.bytes.now c.in-Some-behind_definition.ensures.these
+    c.in_ok-with_line.ensures.these)

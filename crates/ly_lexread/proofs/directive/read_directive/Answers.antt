@@ -19,12 +19,14 @@ returns-in_default-clause-these c = rw c.fault.ensures.1 (
 )
 
 pub returns-in-Inclusive-clause-these : goal.returns-in-Inclusive-clause-these
-returns-in-Inclusive-clause-these c = directive_by (left_from c.args.line) c.args.conditions c.args.line.bytes.now c.in-Some.ensures.0 c.in-Some.word.now
+returns-in-Inclusive-clause-these c = directive_by (left_from c.args.line) c.args.conditions c.args.line.bytes.now
+    c.in-Some.ensures.0 c.in-Some.word.now
     c.in-Some.rest.now Inclusive c.declare.result c.in-Some.ensures.1 c.in-Some.ensures.2
     (sym c.directive_of-directed.ensures ∙ c.in-Inclusive.is) c.declare.ensures.these
 
 pub returns-in-Exclusive-clause-these : goal.returns-in-Exclusive-clause-these
-returns-in-Exclusive-clause-these c = directive_by (left_from c.args.line) c.args.conditions c.args.line.bytes.now c.in-Some.ensures.0 c.in-Some.word.now
+returns-in-Exclusive-clause-these c = directive_by (left_from c.args.line) c.args.conditions c.args.line.bytes.now
+    c.in-Some.ensures.0 c.in-Some.word.now
     c.in-Some.rest.now Exclusive c.declare-in-Exclusive.result c.in-Some.ensures.1 c.in-Some.ensures.2
     (sym c.directive_of-directed.ensures ∙ c.in-Exclusive.is) c.declare-in-Exclusive.ensures.these
 

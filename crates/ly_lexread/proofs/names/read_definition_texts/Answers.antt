@@ -18,6 +18,7 @@ returns-in-Err-clause-read c =
     c.first_fault.ensures.light
 
 pub returns-clause-read : goal.returns-clause-read
-returns-clause-read c = answer_ok _ _ _ _ _ (cut_defined c.lines-lines.result.now c.args.definitions.now c.in_ok-texts.texts
+returns-clause-read c = answer_ok _ _ _ _ _
+    (cut_defined c.lines-lines.result.now c.args.definitions.now c.in_ok-texts.texts
     c.deref.result.now c.in-Ok.names c.lines-lines.ensures.these c.deref.ensures.value c.in_ok-texts.ensures
     c.lines-lines.ensures.apart c.in-None.is c.in-Ok.ensures.ok) c.in-Ok.ensures.light

@@ -23,7 +23,8 @@ returns-in_err-section-clause-read c =
     let behind = c.args.behind.bytes.now in
     let names = c.in_ok-names.names in
     let p = err_from_is_err_and c.from_residual-in_err-section.result c.from_residual-in_err-section.ensures.1 in
-    rw (p.1, p.2) (answer_up _ _ _ _ _ c.in_err-section.ensures.read (λ h. inr (names, c.in_ok-names.ensures.read.ok, h))
+    rw (p.1, p.2) (answer_up _ _ _ _ _ c.in_err-section.ensures.read
+    (λ h. inr (names, c.in_ok-names.ensures.read.ok, h))
     (λ file is.
     let rules = behind_rules (length c.args.bytes.now) all behind file is names c.in_ok-names.ensures.read.ok in (
       (file.rules.items, is.sayings, file.rule_starts.items),

@@ -24,7 +24,8 @@ returns-in-Ok-clause-read c =
     let most = c.args.limits.now.pattern_weight in
     let read_so : Definitions at_first bytes all behind
     = subst (λ b. Definitions at_first b all behind) (ap (λ b. b.now) c.of-text.ensures.bytes) c.in-Ok.ensures.these in
-    answer_as (λ file. file) (LexText bytes) (IsBehind (length bytes) all behind) (IsLight most) (IsHeavyText most bytes)
+    answer_as (λ file. file) (LexText bytes) (IsBehind (length bytes) all behind) (IsLight most)
+    (IsHeavyText most bytes)
     (IsHeavyBehind most all behind) c.read_behind-read.result
     (λ file is. record {
       all = all;
