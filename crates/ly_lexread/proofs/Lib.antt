@@ -7,6 +7,7 @@ pub mod DefinitionLemmas
 pub mod DirectiveLemmas
 pub mod FileLemmas
 pub mod FrontLemmas
+pub mod LeftLemmas
 pub mod LexingLaws
 pub mod LineLemmas
 pub mod NameLemmas

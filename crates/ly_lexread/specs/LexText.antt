@@ -1,6 +1,6 @@
 -- What a lex file says (POSIX, XCU lex).
 use Rattle.std.specs.Prelude.{◌≡◌, ◌≢◌, ◌⊎◌, ◌-◌, ℕ, List, [], ◌∷◌, Option, Some, None, Result}
-use Rattle.std.specs.Prelude.{IfErr, IfOk, length, map, if◌then◌else◌, nat_eq}
+use Rattle.std.specs.Prelude.{IfErr, IfOk, drop, length, map, slice_get, if◌then◌else◌, nat_eq}
 use Rattle.ly_ere.specs.Definitions.{AreLightNames}
 use Rattle.ly_ere.specs.Names.{Definition}
 use Rattle.ly_ere.specs.declared.pattern.Rule.{Rule}
@@ -11,10 +11,11 @@ use Rattle.ly_lexread.specs.declared.fault.LexFault.{LexFault}
 use Rattle.ly_lexread.specs.declared.fault.LexFault.TheVariants.{OutOfMemory}
 use Rattle.ly_lexread.specs.Action.{AreEffects, Saying, effect_of, meaning_of}
 use Rattle.ly_lexread.specs.Conditions.{Condition}
-use Rattle.ly_lexread.specs.Definitions.{at_first, Definitions, Preamble}
+use Rattle.ly_lexread.specs.Definitions.{at_first, DefinedLine, DefinesName, Definitions, Preamble}
 use Rattle.ly_lexread.specs.Faults.{IsTooHeavy}
 use Rattle.ly_lexread.specs.Names.{AreDefinitions, HasHeavyDefinition}
-use Rattle.ly_lexread.specs.Rules.{AreLight, HasHeavyRule, Rules}
+use Rattle.ly_lexread.specs.Lines.{LineOf}
+use Rattle.ly_lexread.specs.Rules.{AreLight, HasHeavyRule, RuleBefore, Rules}
 
 -- the name of a condition, and which byte is its first, where it is declared
 abbrev pub said_of : StartCondition → List ℕ × Option ℕ
@@ -98,3 +99,23 @@ pub record AreSame (f g : LexFile) : Type 0 where
 -- a text says one thing
 abbrev pub LexTextIsOne : Type 0
 LexTextIsOne = (bytes : List ℕ) (f g : LexFile) → LexText bytes f → LexText bytes g → AreSame f g
+
+-- a text begins with the rule
+abbrev pub RuleStands : List Condition → List Definition → List ℕ → Rule → Type 0
+RuleStands cs names text r = (s : Saying) × (rest : List ℕ) × RuleBefore cs names text r s rest
+
+-- a text begins with the line that defines this
+abbrev pub DefinitionStands : List ℕ → DefinedLine → Type 0
+DefinitionStands text d = (line end : List ℕ) × LineOf text line end × DefinesName line d.0 d.1.0
+
+-- behind so many bytes as the file says each rule begins
+abbrev pub RulesBegin : Type 0
+RulesBegin = (bytes : List ℕ) (file : LexFile) (text : LexText bytes file) (i n : ℕ) (r : Rule)
+    → slice_get file.rule_starts.items i ≡ Some n → slice_get file.rules.items i ≡ Some r
+    → RuleStands text.all.conditions file.names (drop n bytes) r
+
+-- behind so many bytes as the file says each line begins that defines a name
+abbrev pub DefinitionsBegin : Type 0
+DefinitionsBegin = (bytes : List ℕ) (file : LexFile) (text : LexText bytes file) (i n : ℕ) (d : DefinedLine)
+    → slice_get file.definition_starts.items i ≡ Some n → slice_get text.all.definitions i ≡ Some d
+    → DefinitionStands (drop n bytes) d

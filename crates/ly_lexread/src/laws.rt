@@ -1,5 +1,5 @@
 ghost use Rattle.ly_lexread.specs.Laws.{LexingGoesOn, LexingIsOne};
-ghost use Rattle.ly_lexread.specs.LexText.{LexTextIsOne};
+ghost use Rattle.ly_lexread.specs.LexText.{DefinitionsBegin, LexTextIsOne, RulesBegin};
 
 /// A text has one lexing, where each cut tells the truth.
 pub fn lexing_is_one()
@@ -11,7 +11,13 @@ pub fn lexing_goes_on()
     ensures { LexingGoesOn }
 {}
 
-/// Two values of one text have the same names, patterns, conditions and actions.
+/// Two values of one text have the same names, patterns, conditions and actions, and these begin at the same places.
 pub fn lex_text_is_one()
     ensures { LexTextIsOne }
+{}
+
+/// What stands behind as many bytes of a file as it says of a rule, or of a line that defines a name, begins with that.
+pub fn lex_text_begins_there()
+    ensures rules { RulesBegin }
+    ensures definitions { DefinitionsBegin }
 {}

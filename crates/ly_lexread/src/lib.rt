@@ -33,5 +33,5 @@ pub use action::{LexAction, Returned};
 pub use fault::{LexFault, LexFaultKind};
 pub use file::{LexFile, StartCondition};
 pub use kind::{LineKind, kind_of};
-pub use laws::{lex_text_is_one, lexing_goes_on, lexing_is_one};
+pub use laws::{lex_text_begins_there, lex_text_is_one, lexing_goes_on, lexing_is_one};
 pub use read::read_lex;

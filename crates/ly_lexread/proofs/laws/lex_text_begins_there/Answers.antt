@@ -1,0 +1,8 @@
+use Rattle.ly_lexread.proofs.LeftLemmas.{definitions_begin_there, rules_begin_there}
+use Rattle.ly_lexread.proofs.laws.lex_text_begins_there.Goals as goal
+
+pub returns-clause-rules : goal.returns-clause-rules
+returns-clause-rules c = rules_begin_there
+
+pub returns-clause-definitions : goal.returns-clause-definitions
+returns-clause-definitions c = definitions_begin_there
