@@ -1,5 +1,5 @@
 -- What comes next in a lex file is what is left of it.
-use Rattle.std.specs.Prelude.{All, codes}
+use Rattle.std.specs.Prelude.{All, codes, if◌then◌else◌, nat_eq}
 use Rattle.std.specs.List.{slice_get}
 use Rattle.std.specs.Option.{option_map}
 use Rattle.std.proofs.Common.{Option, None}
@@ -20,20 +20,25 @@ use Rattle.ly_base.specs.declared.language.Language.TheVariants.{Lex, Yacc}
 use Rattle.ly_ere.specs.Names.{Definition}
 use Rattle.ly_ere.specs.declared.pattern.Rule.{Rule}
 use Rattle.ly_lexread.specs.Action.{Effect, Saying, no_effect}
-use Rattle.ly_lexread.specs.Conditions.{Condition}
-use Rattle.ly_lexread.specs.Definitions.{at_first, CommentEnds, DefinedLine, Definitions, LineSays, Preamble, Says}
+use Rattle.ly_lexread.specs.Conditions.{Condition, initial}
+use Rattle.ly_lexread.specs.Definitions.{at_first, CommentEnds, DeclaresAll, DefinedLine, Definitions, DirectiveLine}
+use Rattle.ly_lexread.specs.Definitions.{Directs, LineSays, Preamble, directive_of}
 use Rattle.ly_lexread.specs.Definitions as defining
-use Rattle.ly_lexread.specs.LexText.{DefinitionStands, DefinitionsBegin, LexText, RuleStands, RulesBegin}
+use Rattle.ly_lexread.specs.LexText.{ConditionsBegin, DefinitionStands, DefinitionsBegin, LexText, RuleStands}
+use Rattle.ly_lexread.specs.LexText.{RulesBegin, declared_at, said_of}
 use Rattle.ly_lexread.specs.declared.file.LexFile.{LexFile}
 use Rattle.ly_ere.proofs.PlaceLemmas.{some_one}
-use Rattle.ly_lexread.specs.Lines.{BlockEnds, LineBefore, LineOf, kind_of, last, more}
+use Rattle.ly_lexread.specs.Lines.{BeginsWith, BlockEnds, LineBefore, LineOf, kind_of, last, left_in, more}
 use Rattle.ly_lexread.specs.Rules.{RuleBefore, Rules, Skips}
 use Rattle.ly_lexread.specs.Rules as ruling
-use Rattle.ly_lexread.specs.Statements.{Closed, Given, LineEnds, Opens, SaysAction, Statement, StatementFirst, Statements}
+use Rattle.ly_lexread.specs.Statements.{Closed, Given, LineEnds, Opens, SaysAction, Statement, StatementFirst}
+use Rattle.ly_lexread.specs.Statements.{Statements}
 use Rattle.ly_lexread.specs.Statements.{begins, empty, ends, gaps, in_braces, of_next, on_line, returns}
 use Rattle.ly_lexread.specs.Statements as said
 use Rattle.ly_lexread.specs.Words.{Begins, HasInFront, Word, literal, mark, name, text_byte}
 use Rattle.ly_lexread.specs.Words.{close_brace, close_parenthesis, open_brace, open_parenthesis, semicolon}
+use Rattle.ly_lexread.specs.declared.directive.Directed.{Directed}
+use Rattle.ly_lexread.specs.declared.directive.Directed.TheVariants.{Exclusive, Inclusive, Size, TextKind, Unknown}
 use Rattle.ly_lexread.specs.declared.kind.LineKind.{LineKind}
 use Rattle.ly_lexread.specs.declared.kind.LineKind.TheVariants.{Mark, Unused, Block, Comment, Directive, Plain}
 use Rattle.ly_lexread.specs.declared.statement.Extent.{Extent}
@@ -85,12 +90,14 @@ escape_left text rest b (letter c _ x y z) = (c ∷ [], refl)
 
 inside_left : (text rest : List ℕ) (b : ℕ) → Inside text b rest → IsLeft text rest
 inside_left text rest b (quoted.bare c _ x y) = (c ∷ [], refl)
-inside_left text rest b (quoted.escaped t _ c h) = let p = escape_left t rest c h in (backslash ∷ p.0, ap (λ i. backslash ∷ i) p.1)
+inside_left text rest b (quoted.escaped t _ c h) = let p = escape_left t rest c h
+    in (backslash ∷ p.0, ap (λ i. backslash ∷ i) p.1)
 inside_left text rest b (quoted.line _) = (backslash ∷ newline ∷ [], refl)
 
 literal_left : (text rest : List ℕ) (b : ℕ) → Literal text b rest → IsLeft text rest
 literal_left text rest b h = left_of_left text h.0 rest (single_quote ∷ [], h.1)
-    (left_of_left h.0 (single_quote ∷ rest) rest (inside_left h.0 (single_quote ∷ rest) b h.2) (single_quote ∷ [], refl))
+    (left_of_left h.0 (single_quote ∷ rest) rest (inside_left h.0 (single_quote ∷ rest) b h.2)
+    (single_quote ∷ [], refl))
 
 begins_left : (x : Word) (text rest : List ℕ) → Begins text x rest → IsLeft text rest
 begins_left (mark b) text rest h = (b ∷ [], h.1)
@@ -184,43 +191,97 @@ rules_stand bytes cs names text rs ss ls p (ruling.rule _ u q s ps qs ns b d) ze
 rules_stand bytes cs names text rs ss ls p (ruling.rule _ u q s ps qs ns b d) (suc i) n r e f
     = rules_stand bytes cs names u ps qs ns (left_of_left bytes text u p (rule_left cs names text u q s b)) d i n r e f
 
--- a line of the definitions, and what it defines
+-- of a condition: it is declared nowhere, or what stands from there on begins with its name
+abbrev IsPlaced : List ℕ → Condition → Type 0
+IsPlaced bytes c = (c.1.1 ≡ 0) ⊎ BeginsWith (drop (length bytes - c.1.1) bytes) c.0
+
+module _ (bytes text line end : List ℕ) (whole : IsLeft bytes text) (parted : text ≡ line ++ end) where
+  abbrev left : List ℕ → ℕ
+  left = left_in text line
+
+  -- a name on the line
+  name_placed : (x : Bool) (here n rest : List ℕ) → IsLeft line here → here ≡ n ++ rest
+      → IsPlaced bytes (n, (x, left here))
+  name_placed x here n rest p e =
+      let there : text ≡ p.0 ++ (here ++ end)
+      = parted ∙ ap (λ i. i ++ end) p.1 ∙ append_assoc p.0 here end in
+      let count : left here ≡ length (here ++ end) = omega (
+        arith,
+        ap length parted,
+        length-append line end,
+        ap length p.1,
+        length-append p.0 here,
+        length-append here end,
+      ) in
+      let behind : drop (length bytes - left here) bytes ≡ here ++ end
+      = ap (λ k. drop (length bytes - k) bytes) count
+      ∙ drop_left bytes (here ++ end) (left_of_left bytes text (here ++ end) whole (p.0, there)) in
+      inr (rest ++ end, behind ∙ ap (λ i. i ++ end) e ∙ append_assoc n rest end)
+
+  declares_placed : (x : Bool) (cs all : List Condition) (t : List ℕ) → IsLeft line t → DeclaresAll x left cs t all
+      → All (IsPlaced bytes) cs → All (IsPlaced bytes) all
+  declares_placed x cs all t p (defining.end _ _ a) placed = placed
+  declares_placed x cs all t p (defining.more _ _ _ here n rest b h new d) placed =
+      let q = left_of_left line t here p (b.0, b.4) in
+      declares_placed x (cs ++ (n, (x, left here)) ∷ []) all rest (left_of_left line here rest q (n, h.2)) d
+      (All-push (IsPlaced bytes) cs (n, (x, left here)) placed (name_placed x here n rest q h.2))
+
+  directs_placed : (d : Directed) (cs all : List Condition) (t : List ℕ) → IsLeft line t → Directs d left cs t all
+      → All (IsPlaced bytes) cs → All (IsPlaced bytes) all
+  directs_placed Inclusive cs all t p h placed = declares_placed false cs all t p h.1 placed
+  directs_placed Exclusive cs all t p h placed = declares_placed true cs all t p h.1 placed
+  directs_placed Size cs all t p h placed = subst (All (IsPlaced bytes)) (sym h.0) placed
+  directs_placed TextKind cs all t p h placed = subst (All (IsPlaced bytes)) (sym h.0) placed
+  directs_placed Unknown cs all t p h placed = subst (All (IsPlaced bytes)) (sym h.0) placed
+
+  directive_placed : (cs all : List Condition) → DirectiveLine left cs line all → All (IsPlaced bytes) cs
+      → All (IsPlaced bytes) all
+  directive_placed cs all d placed = directs_placed (directive_of d.word) cs all d.rest
+      (left_of_left line d.behind d.rest (codes "%", d.is_directive) (name_left d.behind d.word d.rest d.named))
+      d.directs placed
+
+-- the lines of the definitions, and what they say
 module _ (bytes : List ℕ) where
   abbrev Stand : List DefinedLine → Type 0
   Stand ds = All (λ d. DefinitionStands (drop (length bytes - d.1.1) bytes) d) ds
 
+  abbrev Stands : Preamble → Type 0
+  Stands p = Stand p.definitions × All (IsPlaced bytes) p.conditions
+
   says_stand : (k : LineKind) (p q : Preamble) (text line behind rest : List ℕ) → IsLeft bytes text
-      → LineBefore text line behind → LineSays k p text line behind q rest → Stand p.definitions
-      → IsLeft text rest × Stand q.definitions
+      → LineBefore text line behind → LineSays k p text line behind q rest → Stands p → IsLeft text rest × Stands q
   says_stand Mark p q text line behind rest l b h all = absurd h
   says_stand Unused p q text line behind rest l b h all = (
     subst (IsLeft text) (sym h.1) (line_left text line behind b),
-    subst (λ i. Stand i.definitions) (sym h.0) all,
+    subst Stands (sym h.0) all,
   )
   says_stand Block p q text line behind rest l b h all = (
     left_of_left text behind rest (line_left text line behind b) (block_left behind rest h.1),
-    subst (λ i. Stand i.definitions) (sym h.0) all,
+    subst Stands (sym h.0) all,
   )
-  says_stand Comment p q text line behind rest l b h all = (
-    comment_left text rest h.1,
-    subst (λ i. Stand i.definitions) (sym h.0) all,
-  )
+  says_stand Comment p q text line behind rest l b h all = (comment_left text rest h.1, subst Stands (sym h.0) all)
   says_stand Directive p q text line behind rest l b h all = (
     subst (IsLeft text) (sym h.0) (line_left text line behind b),
-    subst Stand (sym h.1) all,
+    (
+      subst Stand (sym h.1) all.0,
+      directive_placed bytes text line b.1 l b.2.2 p.conditions q.conditions h.2 all.1,
+    ),
   )
   says_stand Plain p q text line behind rest l b h all =
       let here : DefinitionStands (drop (length bytes - length text) bytes) (h.2.name, (h.2.text, length text))
       = subst (λ t. DefinitionStands t (h.2.name, (h.2.text, length text))) (sym (drop_left bytes text l))
       (line, b.1, b.2, h.2.defines) in (
         subst (IsLeft text) (sym h.0) (line_left text line behind b),
-        subst Stand (sym h.2.one_more) (All-push
-            (λ (d : DefinedLine). DefinitionStands (drop (length bytes - d.1.1) bytes) d) p.definitions
-            (h.2.name, (h.2.text, length text)) all here),
+        (
+          subst Stand (sym h.2.one_more) (All-push
+              (λ (d : DefinedLine). DefinitionStands (drop (length bytes - d.1.1) bytes) d) p.definitions
+              (h.2.name, (h.2.text, length text)) all.0 here),
+          subst (All (IsPlaced bytes)) (sym h.1) all.1,
+        ),
       )
 
   pub definitions_stand : (p q : Preamble) (text rest : List ℕ) → IsLeft bytes text → Definitions p text q rest
-      → Stand p.definitions → IsLeft bytes rest × Stand q.definitions
+      → Stands p → IsLeft bytes rest × Stands q
   definitions_stand p q text rest l (defining.mark _ _ line _ b k) all
       = (left_of_left bytes text rest l (line_left text line rest b), all)
   definitions_stand p q text rest l (defining.more _ s _ _ u _ h d) all =
@@ -234,14 +295,18 @@ from_map f (Some x) n e = (x, refl, cc)
 
 -- what stands behind the definitions is left, and each of these begins where it is said
 stands_behind : (bytes : List ℕ) (file : LexFile) (text : LexText bytes file)
-    → IsLeft bytes text.behind × Stand bytes text.all.definitions
-stands_behind bytes file text = definitions_stand bytes at_first text.all bytes text.behind ([], refl) text.definitions
-    (λ k d less. absurd (omega (arith, less)))
+    → IsLeft bytes text.behind × Stands bytes text.all
+stands_behind bytes file text = definitions_stand bytes at_first text.all bytes text.behind ([], refl)
+    text.definitions (
+      λ k d less. absurd (omega (arith, less)),
+      All-push (IsPlaced bytes) [] initial (λ k d less. absurd (omega (arith, less))) (inl refl),
+    )
 
 pub rules_begin_there : RulesBegin
 rules_begin_there bytes file text i n r e f =
     let starts : option_map (λ k. length bytes - k) (slice_get text.lefts i) ≡ Some n
-    = sym (slice_get-map (λ k. length bytes - k) text.lefts i) ∙ (ap (λ xs. slice_get xs i) (sym text.rule_starts) ∙ e) in
+    = sym (slice_get-map (λ k. length bytes - k) text.lefts i)
+    ∙ (ap (λ xs. slice_get xs i) (sym text.rule_starts) ∙ e) in
     let k = from_map (λ k. length bytes - k) (slice_get text.lefts i) n starts in
     subst (λ m. RuleStands text.all.conditions file.names (drop m bytes) r) k.2
     (rules_stand bytes text.all.conditions file.names text.behind file.rules.items text.sayings text.lefts
@@ -253,7 +318,45 @@ definitions_begin_there bytes file text i n d e f =
     let starts : option_map at (slice_get text.all.definitions i) ≡ Some n
     = sym (slice_get-map at text.all.definitions i) ∙ (ap (λ xs. slice_get xs i) (sym text.definition_starts) ∙ e) in
     let here : at d ≡ n = some_one (ap (option_map at) (sym f) ∙ starts) in
-    let one = (stands_behind bytes file text).1 i d (slice_get_within text.all.definitions i d f) in
+    let one = (stands_behind bytes file text).1.0 i d (slice_get_within text.all.definitions i d f) in
     subst (λ m. DefinitionStands (drop m bytes) d) here
     (subst (λ x. DefinitionStands (drop (length bytes - x.1.1) bytes) x)
     (get_or_from_slice_get text.all.definitions i d d f) one)
+
+-- where a condition is declared
+declared_there : (bytes : List ℕ) (c : Condition) (n : ℕ) → IsPlaced bytes c
+    → declared_at (length bytes) c.1.1 ≡ Some n → BeginsWith (drop n bytes) c.0
+declared_there bytes c n (inl none) e = absurd (nowhere (ap (declared_at (length bytes)) (sym none) ∙ e))
+  where
+    nowhere : None ≡ Some n → ⊥
+    nowhere f = cc
+declared_there bytes c n (inr there) e = by (nat_eq c.1.1 0) e
+  where
+    by : (t : Bool) → (if t then None else Some (length bytes - c.1.1)) ≡ Some n → BeginsWith (drop n bytes) c.0
+    by true f = absurd (cc)
+    by false f = subst (λ k. BeginsWith (drop k bytes) c.0) (some_one f) there
+
+-- a condition by its name and where it is declared
+abbrev named_at : ℕ → Condition → List ℕ × Option ℕ
+named_at whole c = (c.0, declared_at whole c.1.1)
+
+pub conditions_begin_there : ConditionsBegin
+conditions_begin_there bytes file text i c n f e =
+    let cs = text.all.conditions in
+    let at = named_at (length bytes) in
+    let said : option_map at (slice_get cs i) ≡ Some (said_of c)
+    = sym (slice_get-map at cs i) ∙ (ap (λ xs. slice_get xs i) (sym text.start_conditions)
+    ∙ (slice_get-map said_of file.start_conditions.items i ∙ ap (option_map said_of) f)) in
+    by (slice_get cs i) refl said
+  where
+    by : (o : Option Condition) → slice_get text.all.conditions i ≡ o
+        → option_map (named_at (length bytes)) o ≡ Some (said_of c)
+        → BeginsWith (drop n bytes) c.name.items
+    by None is g = absurd (cc)
+    by (Some d) is g =
+        let same : named_at (length bytes) d ≡ said_of c = some_one g in
+        let one = (stands_behind bytes file text).1.1 i d (slice_get_within text.all.conditions i d is) in
+        let placed : IsPlaced bytes d
+        = subst (IsPlaced bytes) (get_or_from_slice_get text.all.conditions i d d is) one in
+        subst (BeginsWith (drop n bytes)) (ap (λ p. p.0) same)
+        (declared_there bytes d n placed (ap (λ p. p.1) same ∙ e))

@@ -14,7 +14,7 @@ use Rattle.ly_lexread.specs.Conditions.{Condition}
 use Rattle.ly_lexread.specs.Definitions.{at_first, DefinedLine, DefinesName, Definitions, Preamble}
 use Rattle.ly_lexread.specs.Faults.{IsTooHeavy}
 use Rattle.ly_lexread.specs.Names.{AreDefinitions, HasHeavyDefinition}
-use Rattle.ly_lexread.specs.Lines.{LineOf}
+use Rattle.ly_lexread.specs.Lines.{BeginsWith, LineOf}
 use Rattle.ly_lexread.specs.Rules.{AreLight, HasHeavyRule, RuleBefore, Rules}
 
 -- the name of a condition, and which byte is its first, where it is declared
@@ -119,3 +119,8 @@ abbrev pub DefinitionsBegin : Type 0
 DefinitionsBegin = (bytes : List ℕ) (file : LexFile) (text : LexText bytes file) (i n : ℕ) (d : DefinedLine)
     → slice_get file.definition_starts.items i ≡ Some n → slice_get text.all.definitions i ≡ Some d
     → DefinitionStands (drop n bytes) d
+
+-- behind so many bytes as the file says the name of a condition begins, where it is declared
+abbrev pub ConditionsBegin : Type 0
+ConditionsBegin = (bytes : List ℕ) (file : LexFile) → LexText bytes file → (i : ℕ) (c : StartCondition) (n : ℕ)
+    → slice_get file.start_conditions.items i ≡ Some c → c.offset ≡ Some n → BeginsWith (drop n bytes) c.name.items

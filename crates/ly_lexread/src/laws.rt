@@ -1,5 +1,5 @@
 ghost use Rattle.ly_lexread.specs.Laws.{LexingGoesOn, LexingIsOne};
-ghost use Rattle.ly_lexread.specs.LexText.{DefinitionsBegin, LexTextIsOne, RulesBegin};
+ghost use Rattle.ly_lexread.specs.LexText.{ConditionsBegin, DefinitionsBegin, LexTextIsOne, RulesBegin};
 
 /// A text has one lexing, where each cut tells the truth.
 pub fn lexing_is_one()
@@ -16,8 +16,10 @@ pub fn lex_text_is_one()
     ensures { LexTextIsOne }
 {}
 
-/// What stands behind as many bytes of a file as it says of a rule, or of a line that defines a name, begins with that.
+/// What stands behind as many bytes of a file as it says of a rule, of a line that defines a name, or of the name of a
+/// condition that is declared, begins with that.
 pub fn lex_text_begins_there()
     ensures rules { RulesBegin }
     ensures definitions { DefinitionsBegin }
+    ensures conditions { ConditionsBegin }
 {}

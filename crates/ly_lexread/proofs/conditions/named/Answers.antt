@@ -1,4 +1,4 @@
-use Rattle.std.proofs.Common.{◌≡◌, ◌∙◌, ap, ap₂, arith, map, refl, sym}
+use Rattle.std.proofs.Common.{◌∙◌, ap, ap₂, arith, map, refl, sym}
 use Rattle.std.specs.Prelude.{zip}
 use Rattle.std.specs.Option.{option_copied}
 use Rattle.std.proofs.lemmas.List.{take_all}
