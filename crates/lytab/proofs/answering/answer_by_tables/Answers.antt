@@ -11,10 +11,12 @@ pub returns-in-Err-Tables-clause-needed : goal.returns-in-Err-Tables-clause-need
 returns-in-Err-Tables-clause-needed g c = λ s driven not. c.in-Err-Tables.ensures.needed s driven (search rules)
 
 pub returns-in-Err-Text-FaultyTables-clause-needed : goal.returns-in-Err-Text-FaultyTables-clause-needed
-returns-in-Err-Text-FaultyTables-clause-needed g c = λ s driven not. c.in-Err-Text-FaultyTables.ensures.needed s driven (search rules)
+returns-in-Err-Text-FaultyTables-clause-needed g c = λ s driven not.
+    c.in-Err-Text-FaultyTables.ensures.needed s driven (search rules)
 
 pub returns-in-Err-Text-TooLong-clause-needed : goal.returns-in-Err-Text-TooLong-clause-needed
-returns-in-Err-Text-TooLong-clause-needed g c = λ s driven not. c.in-Err-Text-TooLong.ensures.needed s driven (search rules)
+returns-in-Err-Text-TooLong-clause-needed g c = λ s driven not.
+    c.in-Err-Text-TooLong.ensures.needed s driven (search rules)
 
 pub returns-in-Err-Text-Write-clause-needed : goal.returns-in-Err-Text-Write-clause-needed
 returns-in-Err-Text-Write-clause-needed g c = λ s driven not. c.in-Err-Text-Write.ensures.needed s driven (search rules)
