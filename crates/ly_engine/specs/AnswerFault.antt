@@ -1,15 +1,27 @@
--- The faults of generating as faults of answering, and what these say of the devices.
-use Rattle.std.specs.Prelude.{◌≡◌, ◌≢◌, ◌⊎◌}
+-- The faults of answering: which of them tell those of generating, their numbers and names, and what they say of the
+-- devices.
+use Rattle.std.specs.Prelude.{◌≡◌, ◌≢◌, ◌⊎◌, ℕ, List, Option}
 use Rattle.ly_engine.specs.declared.answer_fault.AnswerFault.{AnswerFault}
 use Rattle.ly_engine.specs.declared.answer_fault.AnswerFault.TheVariants.{Gen, Text}
 use Rattle.ly_feed.specs.TextFault as text
 use Rattle.ly_feed.specs.declared.text_fault.TextFault.TheVariants.{OutOfMemory}
+use Rattle.ly_generate.specs.GenFault.{gen_name, gen_number}
 use Rattle.ly_generate.specs.declared.gen_fault.GenFault.{GenFault}
 use Rattle.ly_generate.specs.declared.gen_fault.GenFault.TheVariants as gen
 
 -- want of memory stays so, and any other fault refuses the files
 abbrev pub Becomes : GenFault → AnswerFault → Type 0
 Becomes fault e = ((fault ≡ gen.OutOfMemory) × (e ≡ Text OutOfMemory)) ⊎ ((fault ≢ gen.OutOfMemory) × (e ≡ Gen fault))
+
+-- a fault's number: its part's; a device that fails and want of memory have none
+abbrev pub answer_number : AnswerFault → Option ℕ
+answer_number (Gen fault) = gen_number fault
+answer_number (Text fault) = text.text_fault_number fault
+
+-- a fault's name: its part's
+abbrev pub answer_name : AnswerFault → List ℕ
+answer_name (Gen fault) = gen_name fault
+answer_name (Text fault) = text.text_fault_name fault
 
 -- nothing was read: the files are refused
 abbrev pub IsBeforeReading : AnswerFault → Type 0

@@ -1,5 +1,5 @@
 ghost use Rattle.std.specs.Prelude.{◌≡◌};
-ghost use Rattle.ly_engine.specs.AnswerFault.{Becomes};
+ghost use Rattle.ly_engine.specs.AnswerFault.{answer_name, answer_number, Becomes};
 ghost use Rattle.ly_engine.specs.declared.answer_fault.AnswerFault.TheVariants.{Text};
 
 use ly_drive::TextFault;
@@ -16,6 +16,28 @@ pub enum AnswerFault {
     /// was read then. The tables are never at fault.
     #[error("{0}")]
     Text(TextFault),
+}
+
+impl AnswerFault {
+    /// The number that the fault is printed with; a device that fails and want of memory have none.
+    pub fn number(&self) -> Option<u8>
+        ensures { result ≡ answer_number self.now }
+    {
+        match self {
+            AnswerFault::Gen(fault) => fault.number(),
+            AnswerFault::Text(fault) => fault.number(),
+        }
+    }
+
+    /// The name that the fault is printed with.
+    pub fn name(&self) -> &'static str
+        ensures { result.now ≡ answer_name self.now }
+    {
+        match self {
+            AnswerFault::Gen(fault) => fault.name(),
+            AnswerFault::Text(fault) => fault.name(),
+        }
+    }
 }
 
 impl From<GenFault> for AnswerFault {

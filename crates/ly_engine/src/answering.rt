@@ -20,8 +20,8 @@ use std::alloc::Global;
 
 /// Answers the text that a reader gives by a lex file and a yacc file (POSIX, XCU lex and yacc), and writes the answer.
 /// Nothing is read before the tables are made, and at most 4,096 bytes at a time; nothing is written before the outcome
-/// is known, and nothing is asked of the reader after it is, so only at a tree the reader is known to be at its end, and
-/// a read that fails was one that had to be made.
+/// is known, and nothing is asked of the reader after it is, so only at a tree the reader is known to be at its end,
+/// and a read that fails was one that had to be made.
 ///
 /// Its faults are those of `AnswerFault`.
 pub fn answer<R: Source, W: Sink>(

@@ -139,7 +139,8 @@ impl<A: Rows<TableAction> + Drop, G: Rows<StateNo> + Drop> Listed<'_, A, G> {
         Ok(true)
     }
 
-    /// The first rule, behind those that are passed, by which the runs of an edge come to one that has to be known first.
+    /// The first rule, behind those that are passed, by which the runs of an edge come to one that has to be known
+    /// first.
     fn first_wanted(
         &self,
         rules: &[RuleNo],

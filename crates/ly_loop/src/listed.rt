@@ -1,6 +1,3 @@
-ghost use Rattle.std.specs.Prelude.{◌≡◌};
-ghost use Rattle.ly_loop.specs.Private.Listed.{IsListed};
-
 use ly_base::{RuleNo, StateNo};
 use ly_pack::{Cell, MachineView, Rows, TableAction};
 use std::marker::Model;

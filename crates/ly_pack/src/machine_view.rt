@@ -96,8 +96,8 @@ impl<'a, A: Rows<TableAction> + Drop, G: Rows<StateNo> + Drop> MachineView<'a, A
         self.defaults.len()
     }
 
-    /// What is done in a state before a terminal, where it isn't the default: the rows of the states, for as long as the
-    /// tables are borrowed.
+    /// What is done in a state before a terminal, where it isn't the default: the rows of the states, for as long as
+    /// the tables are borrowed.
     pub fn actions(&self) -> &'a A
         ensures entries { self.now.actions
             ≡ grid_of (states_of self.now) self.now.terminals (actions_from (A.entries result.now)) }

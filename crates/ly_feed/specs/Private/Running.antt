@@ -24,7 +24,7 @@ use Rattle.ly_parse.specs.declared.answer.Answer.{Answer}
 use Rattle.ly_parse.specs.declared.answer.Answer.TheVariants.{Accepts, Over, Reads, Refuses}
 use Rattle.ly_parse.specs.declared.answer.Answer.TheVariants as answers
 use Rattle.ly_parse.specs.Expected.{AreExpected}
-use Rattle.ly_parse.specs.Feeding.{Feeds, done, pushed, states_on}
+use Rattle.ly_parse.specs.Feeding.{Feeds, done, states_on}
 use Rattle.ly_parse.specs.Feeding as fed
 use Rattle.ly_parse.specs.Parse.{IsTellable, Parse}
 use Rattle.ly_scan.specs.Pieces.{IsUndecided}

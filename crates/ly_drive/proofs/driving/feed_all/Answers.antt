@@ -3,7 +3,8 @@ use Rattle.std.specs.Io.KnownBytes.{Appends}
 use Rattle.std.specs.Prelude.{IfOk}
 use Rattle.ly_print.specs.TextWriter.{IsCutShort}
 use Rattle.ly_drive.proofs.FaultLemmas.{cut_short, other_fault}
-use Rattle.ly_drive.proofs.SoFarLemmas.{answered, as_needed, asked_for, at_fault, begins, ended_as_needed, ended_so, ends}
+use Rattle.ly_drive.proofs.SoFarLemmas.{answered, as_needed, asked_for, at_fault, begins, ended_as_needed, ended_so}
+use Rattle.ly_drive.proofs.SoFarLemmas.{ends}
 use Rattle.ly_drive.proofs.SoFarLemmas.{given_by, goes_on, settles}
 use Rattle.ly_drive.specs.Private.Reading.{IsReadInto}
 use Rattle.ly_drive.proofs.driving.feed_all.Goals as goal

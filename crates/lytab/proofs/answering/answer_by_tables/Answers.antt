@@ -10,15 +10,17 @@ returns-in-Ok-clause-needed g c = λ s driven not. c.in-Ok.ensures.needed s driv
 pub returns-in-Err-Tables-clause-needed : goal.returns-in-Err-Tables-clause-needed
 returns-in-Err-Tables-clause-needed g c = λ s driven not. c.in-Err-Tables.ensures.needed s driven (search rules)
 
-pub returns-in-Err-TableFault-clause-needed : goal.returns-in-Err-TableFault-clause-needed
-returns-in-Err-TableFault-clause-needed g c = λ s driven not. c.in-Err-TableFault.ensures.needed s driven (search rules)
+pub returns-in-Err-Text-FaultyTables-clause-needed : goal.returns-in-Err-Text-FaultyTables-clause-needed
+returns-in-Err-Text-FaultyTables-clause-needed g c = λ s driven not.
+    c.in-Err-Text-FaultyTables.ensures.needed s driven (search rules)
 
-pub returns-in-Err-TooLong-clause-needed : goal.returns-in-Err-TooLong-clause-needed
-returns-in-Err-TooLong-clause-needed g c = λ s driven not. c.in-Err-TooLong.ensures.needed s driven (search rules)
+pub returns-in-Err-Text-TooLong-clause-needed : goal.returns-in-Err-Text-TooLong-clause-needed
+returns-in-Err-Text-TooLong-clause-needed g c = λ s driven not.
+    c.in-Err-Text-TooLong.ensures.needed s driven (search rules)
 
-pub returns-in-Err-Write-clause-needed : goal.returns-in-Err-Write-clause-needed
-returns-in-Err-Write-clause-needed g c = λ s driven not. c.in-Err-Write.ensures.needed s driven (search rules)
+pub returns-in-Err-Text-Write-clause-needed : goal.returns-in-Err-Text-Write-clause-needed
+returns-in-Err-Text-Write-clause-needed g c = λ s driven not. c.in-Err-Text-Write.ensures.needed s driven (search rules)
 
-pub returns-in-Err-OutOfMemory-clause-needed : goal.returns-in-Err-OutOfMemory-clause-needed
-returns-in-Err-OutOfMemory-clause-needed g c = λ s driven not.
-    c.in-Err-OutOfMemory.ensures.needed s driven (search rules)
+pub returns-in-Err-Text-OutOfMemory-clause-needed : goal.returns-in-Err-Text-OutOfMemory-clause-needed
+returns-in-Err-Text-OutOfMemory-clause-needed g c = λ s driven not.
+    c.in-Err-Text-OutOfMemory.ensures.needed s driven (search rules)

@@ -34,5 +34,6 @@ loop-number-preserved g c =
 
 pub returns-clause-ok : goal.returns-clause-ok
 returns-clause-ok g c below top t known edge =
-    let lt = edge_below c.args.self.now below top (subst AreEntriesWithin c.self.view_is c.self.invariant.countable.within) edge in
+    let within = subst AreEntriesWithin c.self.view_is c.self.invariant.countable.within in
+    let lt = edge_below c.args.self.now below top within edge in
     c.loop-number.invariant.ended below top (omega (arith, lt, ap states_of c.self.view_is)) edge t known

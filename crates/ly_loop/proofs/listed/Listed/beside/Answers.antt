@@ -20,8 +20,8 @@ returns-in-Some g c =
     let within : IsWithinStates m edge = (c.requires.below, goes) in
     longer_is m (IsSummary m under next) (IsGone m under [] c.args.left.0) 1 c.look_up.result c.longer.result
     (beside_is m under c.args.left.0 next led)
-    (kept_is m c.self.inside.reductions.now c.args.summaries.now edge c.look_up.result listed.reductions_are c.requires.known
-    within c.look_up.ensures) c.longer.ensures
+    (kept_is m c.self.inside.reductions.now c.args.summaries.now edge c.look_up.result listed.reductions_are
+    c.requires.known within c.look_up.ensures) c.longer.ensures
 
 pub returns-in-None : goal.returns-in-None
 returns-in-None g c = missing_is c.args.self.now c.args.below.0 [] c.args.left.0

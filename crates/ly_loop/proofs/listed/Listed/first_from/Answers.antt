@@ -10,9 +10,10 @@ first_above-requires-clause-targets g c =
     let listed = subst (λ k. IsListed k c.self.inside.entries.now c.self.inside.gotos.now c.self.inside.reductions.now)
     c.self.view_is c.self.invariant in
     subst (AreTargets c.args.self.now c.args.below.0) (sym c.deref-3.ensures.value)
-    (targets_at c.args.self.now c.self.inside.entries.now c.self.inside.gotos.now c.args.below.0 c.index-self-number.result
-    c.index-self-number-2.result c.deref.result.now c.deref-2.result.now c.targets.new.targets.items listed.entries_are
-    listed.gotos_are c.requires.below c.index-self-number.is c.index-self-number-2.is (c.deref.ensures.value ∙ ap (λ v. v.items) (sym c.index-self-number.is))
+    (targets_at c.args.self.now c.self.inside.entries.now c.self.inside.gotos.now c.args.below.0
+    c.index-self-number.result c.index-self-number-2.result c.deref.result.now c.deref-2.result.now
+    c.targets.new.targets.items listed.entries_are listed.gotos_are c.requires.below c.index-self-number.is
+    c.index-self-number-2.is (c.deref.ensures.value ∙ ap (λ v. v.items) (sym c.index-self-number.is))
     (c.deref-2.ensures.value ∙ ap (λ v. v.items) (sym c.index-self-number-2.is)) c.in_ok-targets.ensures)
 
 pub returns-clause-first : goal.returns-clause-first
@@ -23,9 +24,10 @@ returns-clause-first g c =
     let n = c.args.below.0 in
     let targets = c.deref-3.result.now in
     let are = subst (AreTargets m n) (sym c.deref-3.ensures.value)
-    (targets_at m c.self.inside.entries.now c.self.inside.gotos.now n c.index-self-number.result c.index-self-number-2.result
-    c.deref.result.now c.deref-2.result.now c.targets.new.targets.items listed.entries_are listed.gotos_are
-    c.requires.below c.index-self-number.is c.index-self-number-2.is (c.deref.ensures.value ∙ ap (λ v. v.items) (sym c.index-self-number.is)) (c.deref-2.ensures.value ∙ ap (λ v. v.items) (sym c.index-self-number-2.is))
-    c.in_ok-targets.ensures) in
+    (targets_at m c.self.inside.entries.now c.self.inside.gotos.now n c.index-self-number.result
+    c.index-self-number-2.result c.deref.result.now c.deref-2.result.now c.targets.new.targets.items listed.entries_are
+    listed.gotos_are c.requires.below c.index-self-number.is c.index-self-number-2.is
+    (c.deref.ensures.value ∙ ap (λ v. v.items) (sym c.index-self-number.is))
+    (c.deref-2.ensures.value ∙ ap (λ v. v.items) (sym c.index-self-number-2.is)) c.in_ok-targets.ensures) in
     IfOk-weaker c.first_above.result (IsFirstAbove m n targets) (IsFirstFrom m n) (λ found first. (targets, are, first))
     c.first_above.ensures.first

@@ -11,5 +11,5 @@ returns-in_ok-seek-in-Wanted-clause-summary g c =
     let listed = subst (λ k. IsListed k c.self.inside.entries.now c.self.inside.gotos.now c.self.inside.reductions.now)
     c.self.view_is c.self.invariant in
     summary_is m (IsSummary m c.args.edge.below.0 c.args.edge.top.0) c.look_up.result c.summary.result
-    (kept_is m c.self.inside.reductions.now c.seek.new.known.summaries c.args.edge c.look_up.result listed.reductions_are
-    c.in_ok-seek-in-Wanted.ensures c.requires.edge c.look_up.ensures) c.summary.ensures
+    (kept_is m c.self.inside.reductions.now c.seek.new.known.summaries c.args.edge c.look_up.result
+    listed.reductions_are c.in_ok-seek-in-Wanted.ensures c.requires.edge c.look_up.ensures) c.summary.ensures
