@@ -1,5 +1,5 @@
 -- What a command did is said of its request, whose paths are the bytes of those that the command has.
-use Rattle.std.proofs.Common.{◌≡◌, absurd, ap, Err, IfErr, IfOk, inl, inr, ◌∷◌, [], List, None, Ok, OnOk, Option, refl, Result, Some, subst, sym}
+use Rattle.std.proofs.Common.{◌≡◌, ap, Err, IfErr, IfOk, inl, inr, ◌∷◌, [], List, None, Ok, OnOk, Option, refl, Result, Some, subst, sym}
 use Rattle.std.proofs.Common.{option_map, ℕ}
 use Rattle.std.specs.Prelude.{IsSome}
 use Rattle.std.specs.Result.{IsErrAnd}
@@ -56,6 +56,12 @@ fails_device (CannotRead path) = tt
 fails_device (CannotWrite path) = tt
 fails_device OutOfMemory = tt
 
+untouched : {A R : Type 0} (text : Option A) (r : Result Completion Failure) (e : Ends R) (read : Type 0)
+    → e.input_after ≡ e.input_before → IfErr r (λ f. IsOfRules f → e.input_after ≡ e.input_before) → read
+    → IsInputTold text r e read
+untouched None r e read same unread done = (unread, done)
+untouched (Some path) r e read same unread done = same
+
 -- so a command failed before it did anything, and standard input is as it was
 pub failed_first : {R D : Type 0} (contents : D → Option (List ℕ)) (request : Request) (fault : FileFault) (e : Ends R)
     → e.input_after ≡ e.input_before → IsCarriedOut contents request (Err (failure_of_file fault)) e
@@ -63,20 +69,20 @@ failed_first contents (tokens lex text) fault e same = (
   [],
   tt,
   fails_lex [] fault,
-  record { elsewhere = λ _. same; refused = λ _. same; as_needed = λ _. tt },
+  untouched text (Err (failure_of_file fault)) e _ same (λ _. same) tt,
 )
 failed_first contents (run table_file text) fault e same = (
   [],
   tt,
   fails_tables [] (text_from text e.given) fault,
-  record { elsewhere = λ _. same; refused = λ _. same; as_needed = λ _. inl same },
+  untouched text (Err (failure_of_file fault)) e _ same (λ _. same) (inl same),
 )
 failed_first contents (try lex yacc text) fault e same = (
   [],
   [],
   tt,
   fails_files [] [] (text_from text e.given) fault,
-  record { elsewhere = λ _. same; refused = λ _. same; as_needed = λ _ _. inl same },
+  untouched text (Err (failure_of_file fault)) e _ same (λ _. same) (λ _. inl same),
 )
 failed_first contents (build lex yacc table_file report version) fault e same = (tt, fails_build version fault, same)
 failed_first contents (check table_file) fault e same = (tt, fails_check fault, same)
@@ -99,18 +105,8 @@ input_mapped : {A B R : Type 0} (f : A → B) (text : Option A) (r : Result Comp
     (read : Type 0) → (IsSome text → e.input_after ≡ e.input_before)
     → (text ≡ None → IfErr r (λ g. IsOfRules g → e.input_after ≡ e.input_before)) → (text ≡ None → read)
     → IsInputTold (option_map f text) r e read
-input_mapped f None r e read elsewhere refused needed =
-    record { elsewhere = λ some. absurd some; refused = refused refl; as_needed = λ _. needed refl }
-input_mapped f (Some path) r e read elsewhere refused needed = record {
-  elsewhere = λ _. elsewhere tt;
-  refused = untouched r (elsewhere tt);
-  as_needed = λ no. absurd (let off : Some (f path) ≡ None → ⊥ = λ k. cc in off no);
-}
-  where
-    untouched : (r : Result Completion Failure) → e.input_after ≡ e.input_before
-        → IfErr r (λ g. IsOfRules g → e.input_after ≡ e.input_before)
-    untouched (Ok c) same = tt
-    untouched (Err g) same = λ _. same
+input_mapped f None r e read elsewhere refused needed = (refused refl, needed refl)
+input_mapped f (Some path) r e read elsewhere refused needed = elsewhere refl
 
 -- a command that answers a text, by the bytes of its files
 pub carried_tokens : {A R D : Type 0} (contents : D → Option (List ℕ)) (f : A → List ℕ) (path lex : List ℕ)

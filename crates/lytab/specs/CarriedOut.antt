@@ -1,6 +1,6 @@
 -- What a command has written, or why it failed, and what it read of standard input. Of what the files of its words hold
 -- nothing is known, so it is said for some bytes.
-use Rattle.std.specs.Prelude.{◌≡◌, ◌⊎◌, ◌++◌, ℕ, IfErr, IfOk, IsSome, List, MatchBool, MatchResult}
+use Rattle.std.specs.Prelude.{◌≡◌, ◌⊎◌, ◌++◌, ℕ, IfErr, IfOk, List, MatchBool, MatchResult}
 use Rattle.std.specs.Prelude.{None, OnOk, Option, Result, Some, codes, length}
 use Rattle.std.specs.Fmt.{decimal}
 use Rattle.std.specs.Io.KnownBytes.{Appends, IsAtEnd}
@@ -116,13 +116,11 @@ pub record Ends (R : Type 0) : Type 0 where
   pub before : Option (List ℕ)
   pub after : Option (List ℕ)
 
--- Standard input is as it was where the text is a file's, and where the files are refused that the text is answered by.
--- Where it is the text, this holds of what was read.
-pub record IsInputTold {A R : Type 0} (text : Option A) (result : Result Completion Failure) (e : Ends R)
-    (read : Type 0) : Type 0 where
-  pub elsewhere : IsSome text → e.input_after ≡ e.input_before
-  pub refused : IfErr result (λ f. IsOfRules f → e.input_after ≡ e.input_before)
-  pub as_needed : text ≡ None → read
+-- Standard input is as it was where the text is a file's. Where it is the text, it is as it was where the files are
+-- refused that answer it, and this holds of what was read.
+abbrev pub IsInputTold : {A R : Type 0} → Option A → Result Completion Failure → Ends R → Type 0 → Type 0
+IsInputTold (Some path) result e read = e.input_after ≡ e.input_before
+IsInputTold None result e read = IfErr result (λ f. IsOfRules f → e.input_after ≡ e.input_before) × read
 
 -- The set of a table file answers the text, and no more is read than that takes; or nothing is.
 abbrev pub IsReadForTables : {R : Type 0} → List ℕ → Result Completion Failure → Ends R → Type 0

@@ -74,5 +74,6 @@ fn write_files<'a, F: Files>(
     ensures report { OnOk result (IsWrittenIf ⟦<Counted<F::File> as Sink>⟧.contents paths.entry.report built.now.report) }
 {
     write_file(files, paths.tables, &built.tables)?;
-    write_if_named(files, paths.report, &built.report)
+    write_if_named(files, paths.report, &built.report)?;
+    Ok(())
 }

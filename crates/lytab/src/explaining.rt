@@ -60,7 +60,8 @@ fn write_files<'a, F: Files>(
     ensures picture { OnOk result (IsWrittenIf ⟦<Counted<F::File> as Sink>⟧.contents paths.entry.graph explanation.now.picture) }
 {
     write_if_named(files, paths.states, &explanation.states)?;
-    write_if_named(files, paths.graph, &explanation.picture)
+    write_if_named(files, paths.graph, &explanation.picture)?;
+    Ok(())
 }
 
 /// Reads a file whole. A failure has the system's reason, where a second look at the file finds one.

@@ -55,7 +55,11 @@ pub fn write_file<'a, F: Files>(files: &F, path: &'a str, bytes: &[u8]) -> Resul
     ensures failed { IfErr result (λ fault. fault ≡ FileFault.CannotWrite path.entry) }
 {
     match fs::create(files, path) {
-        Ok(file) => write_to(&mut Counted::new(file), path, bytes),
+        Ok(file) => {
+            let mut device = Counted::new(file);
+            write_to(&mut device, path, bytes)?;
+            Ok(())
+        }
         Err(_) => Err(FileFault::CannotWrite(path)),
     }
 }
@@ -68,13 +72,10 @@ pub fn write_if_named<'a, F: Files>(
 ) -> Result<(), FileFault<'a>>
     ensures { OnOk result (IsWrittenIf ⟦<Counted<F::File> as Sink>⟧.contents path.entry bytes.now) }
 {
-    match path {
-        Some(path) => match bytes {
-            Some(bytes) => write_file(files, path, bytes),
-            None => Ok(()),
-        },
-        None => Ok(()),
+    if let (Some(path), Some(bytes)) = (path, bytes) {
+        write_file(files, path, bytes)?;
     }
+    Ok(())
 }
 
 /// Writes the bytes to a device of this name.

@@ -8,7 +8,7 @@ use Rattle.lytab.proofs.building.build_tables.Goals as goal
 
 pub returns-clause-built : goal.returns-clause-built
 returns-clause-built g c =
-    let built = c.in_ok-built.ensures.built in
+    let built = c.in-Ok.ensures.built in
     let before = g.W.Sink.contents c.args.output.now in
     let after = g.W.Sink.contents c.said.new.output in
     let is_said : IfOk c.said.result (λ done. (done ≡ Done) × Appends before after c.in_ok-line.line.items) =
@@ -24,10 +24,10 @@ returns-clause-built g c =
       tables = _;
       spelled = built.2;
       tables_written = c.in_ok-write_files.ensures.tables;
-      report = c.in_ok-built.built.report;
-      is_report = subst (λ wish. IsReportIf wish built.1.spec c.in_ok-built.built.report) c.wanted.ensures built.4;
+      report = c.in-Ok.built.report;
+      is_report = subst (λ wish. IsReportIf wish built.1.spec c.in-Ok.built.report) c.wanted.ensures built.4;
       report_written = c.in_ok-write_files.ensures.report;
-      counts = c.in_ok-built.built.conflicts;
+      counts = c.in-Ok.built.conflicts;
       are_counts = built.3;
       line = rw (sym c.in_ok-line.ensures) said.1;
       done = said.0;

@@ -1,10 +1,43 @@
 use Rattle.std.proofs.Common.{refl}
+use Rattle.ly_print.specs.declared.counted.Counted.{Counted}
 use Rattle.lytab.proofs.CarriedLemmas.{carried_build, carried_explain, carried_run, carried_tokens, carried_try}
-use Rattle.lytab.proofs.CarriedLemmas.{failed_with}
 use Rattle.lytab.proofs.perform.carry_out.Goals as goal
 
 pub returns-in_ok-lex-in-Tokens-clause-carried_out : goal.returns-in_ok-lex-in-Tokens-clause-carried_out
 returns-in_ok-lex-in-Tokens-clause-carried_out g c =
     let r = c.answer_text.ensures in
-    rw c.in-Tokens.is (carried_tokens _ _ _ _ _ c.answer_text.result _ r.answered r.refused r.unread
+    rw c.in-Tokens.is (carried_tokens
+    (λ (d : Counted g.row.F-File.Denot). g.F.File.Write.contents d.inner) (λ s. s.now)
+    c.in-Tokens.lex.now _ c.in-Tokens.text c.answer_text.result _ r.answered r.refused r.unread
     (λ no. (r.needed no).unread) (λ no. (r.needed no).needed))
+
+pub returns-in_ok-tables-in-Run-clause-carried_out : goal.returns-in_ok-tables-in-Run-clause-carried_out
+returns-in_ok-tables-in-Run-clause-carried_out g c =
+    let r = c.answer_text-in-Run.ensures in
+    rw c.in-Run.is (carried_run
+    (λ (d : Counted g.row.F-File.Denot). g.F.File.Write.contents d.inner) (λ s. s.now)
+    c.in-Run.tables.now _ c.in-Run.text c.answer_text-in-Run.result _ r.answered r.refused r.unread
+    (λ no. (r.needed no).unread) (λ no. (r.needed no).needed))
+
+pub returns-in_ok-yacc-in-Try-clause-carried_out : goal.returns-in_ok-yacc-in-Try-clause-carried_out
+returns-in_ok-yacc-in-Try-clause-carried_out g c =
+    let r = c.answer_text-in-Try.ensures in
+    rw c.in-Try.is (carried_try
+    (λ (d : Counted g.row.F-File.Denot). g.F.File.Write.contents d.inner) (λ s. s.now)
+    c.in-Try.lex.now c.in-Try.yacc.now _ _ c.in-Try.text c.answer_text-in-Try.result _ r.answered r.refused r.unread
+    (λ no. (r.needed no).unread) (λ no. (r.needed no).needed))
+
+pub returns-in-Build-clause-carried_out : goal.returns-in-Build-clause-carried_out
+returns-in-Build-clause-carried_out g c =
+    rw c.in-Build.is (carried_build
+    (λ (d : Counted g.row.F-File.Denot). g.F.File.Write.contents d.inner) (λ s. s.now)
+    c.in-Build.paths.lex.now c.in-Build.paths.yacc.now c.in-Build.paths.tables.now c.in-Build.paths.report
+    c.in-Build.version c.build_tables.result _ c.build_tables.ensures.built c.build_tables.ensures.refused refl)
+
+pub returns-in-Explain-clause-carried_out : goal.returns-in-Explain-clause-carried_out
+returns-in-Explain-clause-carried_out g c =
+    let paths = c.in-Explain.field-0 in
+    rw c.in-Explain.is (carried_explain
+    (λ (d : Counted g.row.F-File.Denot). g.F.File.Write.contents d.inner) (λ s. s.now)
+    paths.lex.now paths.yacc.now paths.states paths.graph c.explain_files.result _
+    c.explain_files.ensures.said c.explain_files.ensures.failed refl)

@@ -1,39 +1,59 @@
-use Rattle.std.proofs.Common.{◌≡◌, inl, inr, refl}
+use Rattle.std.proofs.Common.{◌≡◌, Err, inl, inr, Ok, refl, subst}
+use Rattle.ly_print.specs.declared.counted.Counted.{Counted}
+use Rattle.ly_words.specs.Request.{Request}
 use Rattle.ly_words.specs.declared.command.CommandFault.TheVariants.{Bad, Help, OutOfMemory as NoMemory}
+use Rattle.ly_words.proofs.RequestLemmas.{asked}
+use Rattle.lytab.specs.CarriedOut.{IsCarriedOut}
 use Rattle.lytab.specs.declared.failure.Failure.TheVariants.{OutOfMemory}
+use Rattle.lytab.specs.declared.files.FileFault.TheVariants.{OutOfMemory as no_memory}
+use Rattle.lytab.proofs.CarriedLemmas.{failed_first, told_of_known}
 use Rattle.lytab.proofs.perform.perform.Goals as goal
 
 pub returns-in-Ok-carry_out-clause-performed : goal.returns-in-Ok-carry_out-clause-performed
-returns-in-Ok-carry_out-clause-performed g c = λ request ask. inl (record {
-  command = c.in-Ok.command;
-  says = c.in-Ok.ensures.taken request ask;
-  completion = c.in-Ok-carry_out.completion;
-  carried_out = c.in-Ok-carry_out.ensures.completed;
+returns-in-Ok-carry_out-clause-performed g c = λ request mean. record {
+  result = Ok c.in-Ok-carry_out.completion;
+  carried_out = subst (λ (q : Request). IsCarriedOut
+      (λ (d : Counted g.row.F-File.Denot). g.F.File.Write.contents d.inner) q (Ok c.in-Ok-carry_out.completion) _)
+      (c.in-Ok.ensures.taken request mean) c.in-Ok-carry_out.ensures.carried_out;
   is_status = c.status.ensures;
-  held = c.in-Ok-carry_out.ensures.devices.held;
-})
+  output = told_of_known g.W.Sink.contents (Ok c.in-Ok-carry_out.completion) _ _ _ _
+      c.in-Ok-carry_out.ensures.devices;
+}
+
+pub returns-in-Err-told-clause-performed : goal.returns-in-Err-told-clause-performed
+returns-in-Err-told-clause-performed g c = λ request mean. record {
+  result = Err c.in-Err-carry_out.failure;
+  carried_out = subst (λ (q : Request). IsCarriedOut
+      (λ (d : Counted g.row.F-File.Denot). g.F.File.Write.contents d.inner) q (Err c.in-Err-carry_out.failure) _)
+      (c.in-Ok.ensures.taken request mean) c.in-Err-carry_out.ensures.carried_out;
+  is_status = c.told.ensures.status;
+  output = told_of_known g.W.Sink.contents (Err c.in-Err-carry_out.failure) _ _ _ _
+      c.in-Err-carry_out.ensures.devices;
+}
 
 pub returns-in-Ok-said-clause-performed : goal.returns-in-Ok-said-clause-performed
-returns-in-Ok-said-clause-performed g c = λ request ask.
-    let memory : c.in-Err-Help.field-0 ≡ NoMemory = c.in-Err-Help.ensures.taken request ask in
+returns-in-Ok-said-clause-performed g c = λ request mean.
+    let memory : c.in-Err-Help.field-0 ≡ NoMemory = c.in-Err-Help.ensures.taken request mean in
     let help : c.in-Err-Help.field-0 ≡ Help c.in-Err-Help.text = c.in-Err-Help.field-0-is in
     absurd cc
 
 pub returns-in-Err-Bad-clause-taken : goal.returns-in-Err-Bad-clause-taken
 returns-in-Err-Bad-clause-taken g c = λ request ask.
-    let memory : c.in-Err-Bad.field-0 ≡ NoMemory = c.in-Err-Bad.ensures.taken request ask in
+    let memory : c.in-Err-Bad.field-0 ≡ NoMemory = c.in-Err-Bad.ensures.taken request (asked _ request ask) in
     let bad : c.in-Err-Bad.field-0 ≡ Bad c.in-Err-Bad.text = c.in-Err-Bad.field-0-is in
     absurd cc
 
 pub returns-in-Err-Bad-clause-performed : goal.returns-in-Err-Bad-clause-performed
-returns-in-Err-Bad-clause-performed g c = λ request ask.
-    let memory : c.in-Err-Bad.field-0 ≡ NoMemory = c.in-Err-Bad.ensures.taken request ask in
+returns-in-Err-Bad-clause-performed g c = λ request mean.
+    let memory : c.in-Err-Bad.field-0 ≡ NoMemory = c.in-Err-Bad.ensures.taken request mean in
     let bad : c.in-Err-Bad.field-0 ≡ Bad c.in-Err-Bad.text = c.in-Err-Bad.field-0-is in
     absurd cc
 
 pub returns-clause-performed : goal.returns-clause-performed
-returns-clause-performed g c = λ request ask. inr (record {
-  failure = OutOfMemory;
+returns-clause-performed g c = λ request mean. record {
+  result = Err OutOfMemory;
+  carried_out = failed_first
+      (λ (d : Counted g.row.F-File.Denot). g.F.File.Write.contents d.inner) request no_memory _ refl;
   is_status = c.told-in-Err-OutOfMemory.ensures.status;
-  output = inl (refl, refl);
-})
+  output = record { failed = inl (refl, refl); held = tt };
+}
