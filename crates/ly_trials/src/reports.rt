@@ -1,7 +1,7 @@
 //! Reports of two files: what is written, what is answered, which part refuses them, and limits that are met exactly.
 
 use ly_base::Limits;
-use ly_engine::{GenFault, generate_report};
+use ly_engine::{GenFault, ReportingFault, generate_report};
 use ly_print::MemSink;
 use std::alloc::Global;
 
@@ -15,7 +15,7 @@ fn report_into(
     yacc: &[u8],
     limits: &Limits,
     sink: &mut MemSink,
-) -> Result<bool, GenFault> {
+) -> Result<bool, ReportingFault> {
     generate_report(alloc, lex, yacc, limits, sink)
 }
 
