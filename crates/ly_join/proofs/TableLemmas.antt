@@ -126,7 +126,8 @@ module _ {K : Type 0} (name_of : K → List ℕ) (ts : List TerminalName) (by_na
         (found_last ts (byte b) s next ∙ ap (λ n. Some (byte n)) (sym same))
     by d less (inr other) =
         subst (IsFoundAs (ts ++ byte b ∷ []) (byte d)) (sym (get_or-set_other by_byte b d (Some s) None other))
-        (found_later ts (byte b) (byte d) (slice_index_or by_byte d None) (λ e. other (cc)) (tables.literals.numbers d less))
+        (found_later ts (byte b) (byte d) (slice_index_or by_byte d None) (λ e. other (cc))
+        (tables.literals.numbers d less))
 
 -- the tables of no token and no literal
 pub no_tables : {K : Type 0} (name_of : K → List ℕ) (by_byte : List (Option Sym)) → by_byte ≡ replicate 256 None

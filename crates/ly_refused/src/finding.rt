@@ -1,6 +1,5 @@
 use crate::advice::Advice;
-use crate::location::Location;
-use ly_base::OutOfMemory;
+use ly_base::{Location, OutOfMemory};
 use ly_generate::GenFault;
 use std::alloc::Global;
 

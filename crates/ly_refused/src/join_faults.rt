@@ -2,11 +2,11 @@ use crate::advice::Advice;
 use crate::finding::{Finding, Findings, MOST};
 use crate::join_mending::mend;
 use crate::lex_faults::MendedLex;
-use crate::location::{Location, from_place, line_start};
+use crate::location::{from_place, line_start};
 use crate::nearest::nearest;
 use crate::yacc_faults::MendedYacc;
 use crate::yacc_places::symbol_location;
-use ly_base::{Language, Limits, OutOfMemory};
+use ly_base::{Language, Limits, Location, OutOfMemory, locate};
 use ly_generate::GenFault;
 use ly_join::{JoinFault, join};
 use ly_lexread::Returned;
@@ -141,7 +141,7 @@ fn returned_location(lex: &MendedLex, name: &[u8]) -> Option<Location> {
     let rule = lex.file.actions.iter().position(returns)?;
     let start = *lex.file.rule_starts.get(rule)?;
     let before = word_place(from_place(&lex.text, start), name)?;
-    Some(Location::of(&lex.text, start.saturating_add(before)))
+    Some(locate(&lex.text, start.saturating_add(before)))
 }
 
 /// Where a name stands first in a text by itself.

@@ -2,9 +2,9 @@
 use crate::advice::Advice;
 use crate::lex_names::{defined_names, known_conditions};
 use crate::lex_units::{Kind, Unit, action_start, first_line};
-use crate::location::{Location, from_place, line_start};
+use crate::location::{bytes_before, from_place, line_start};
 use crate::nearest::nearest;
-use ly_base::{Language, OutOfMemory, is_blank, leading_name};
+use ly_base::{Language, Location, OutOfMemory, is_blank, leading_name};
 use ly_ere::EreFaultKind;
 use ly_lexread::LexFaultKind;
 use std::alloc::Global;
@@ -24,7 +24,7 @@ pub(crate) fn lex_advice(
     if unit.open && at.line > unit.last {
         return Ok(Advice::Words("close the braces of the action before this line with `}`"));
     }
-    let rest = from_place(line, at.before());
+    let rest = from_place(line, bytes_before(at));
     let near = match kind {
         LexFaultKind::Pattern(EreFaultKind::UnknownName) => near_name(alloc, text, rest)?,
         LexFaultKind::UnknownCondition => near_condition(alloc, text, rest)?,
@@ -32,7 +32,7 @@ pub(crate) fn lex_advice(
     };
     Ok(match near {
         Some(near) => near,
-        None => Advice::Words(words_for(unit, kind, line, at.before())),
+        None => Advice::Words(words_for(unit, kind, line, bytes_before(at))),
     })
 }
 

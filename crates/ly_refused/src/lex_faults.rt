@@ -4,9 +4,9 @@ use crate::finding::{Finding, Findings, MOST};
 use crate::lex_advice::lex_advice;
 use crate::lex_mending::mended;
 use crate::lex_units::unit_at;
-use crate::location::{Location, is_newline};
+use crate::location::is_newline;
 use crate::text_marks::{has_byte_order_mark, without_marks};
-use ly_base::{Limits, OutOfMemory};
+use ly_base::{Limits, OutOfMemory, locate};
 use ly_generate::GenFault;
 use ly_lexread::{LexFault, LexFaultKind, LexFile, read_lex};
 use std::alloc::Global;
@@ -65,7 +65,7 @@ fn mend_fault(
     kind: LexFaultKind,
     offset: usize,
 ) -> Result<Option<Vec<u8>>, OutOfMemory> {
-    let at = Location::of(text, offset);
+    let at = locate(text, offset);
     let unit = unit_at(text, at.line);
     let has_rules = has_rules(text);
     let advice = if has_rules {
@@ -100,10 +100,10 @@ fn find_mark_fault(
     let Some((kind, offset)) = refusal(alloc, bytes, limits)? else {
         return Ok(());
     };
-    let at = Location::of(bytes, offset);
+    let at = locate(bytes, offset);
     if let Some((same, other)) = refusal(alloc, plain, limits)?
         && same == kind
-        && Location::of(plain, other).line == at.line
+        && locate(plain, other).line == at.line
     {
         return Ok(());
     }

@@ -1,46 +1,8 @@
-use ly_base::is_blank;
+use ly_base::{Location, is_blank};
 
-/// Where something stands in a file. Lines and columns are counted from 1, columns by bytes.
-#[derive(Clone, Copy)]
-pub(crate) struct Location {
-    /// The line.
-    pub(crate) line: u64,
-    /// The column.
-    pub(crate) column: u64,
-}
-
-impl Location {
-    /// That of a byte of a text, by its place.
-    pub(crate) fn of(text: &[u8], place: usize) -> Location {
-        let mut at = Location { line: 1, column: 1 };
-        for byte in text.iter().take(place) {
-            if *byte == b'\n' {
-                at.line = at.line.saturating_add(1);
-                at.column = 1;
-            } else {
-                at.column = at.column.saturating_add(1);
-            }
-        }
-        at
-    }
-
-    /// That of a byte of a line, by how many bytes stand before it.
-    pub(crate) fn on_line(line: u64, before: usize) -> Location {
-        Location {
-            line,
-            column: (before as u64).saturating_add(1),
-        }
-    }
-
-    /// How many bytes of its line stand before it.
-    pub(crate) fn before(self) -> usize {
-        usize::try_from(self.column.saturating_sub(1)).unwrap_or(usize::MAX)
-    }
-
-    /// The place of the byte of a text that stands here.
-    pub(crate) fn place(self, text: &[u8]) -> usize {
-        line_start(text, self.line).saturating_add(self.before())
-    }
+/// How many bytes of its line stand before a location.
+pub(crate) fn bytes_before(at: Location) -> usize {
+    usize::try_from(at.column.saturating_sub(1)).unwrap_or(usize::MAX)
 }
 
 /// The place where a line of a text begins; the end of the text, or behind it, where there is no such line.

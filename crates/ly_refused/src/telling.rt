@@ -1,7 +1,7 @@
 use crate::advice::Advice;
 use crate::finding::Findings;
-use crate::location::Location;
-use ly_base::OutOfMemory;
+use crate::location::bytes_before;
+use ly_base::{Location, OutOfMemory};
 use ly_generate::GenFault;
 use ly_join::{JoinFault, Limit};
 use ly_page::{Named, Page};
@@ -33,14 +33,13 @@ pub(crate) fn say_fault(
     advice: &Advice,
 ) {
     let file = if is_of_lex(fault) { lex } else { yacc };
-    page.say(file.name.as_bytes());
-    if let Some(at) = at {
-        page.say(b":");
-        page.say_number(at.line);
-        page.say(b":");
-        page.say_number(at.column);
+    match at {
+        Some(at) => page.say_location_in(file, at),
+        None => {
+            page.say(file.name.as_bytes());
+            page.say(b": ");
+        }
     }
-    page.say(b": ");
     say_heading(page, fault);
     page.say(b"\n");
     if let Some(at) = at {
@@ -126,7 +125,7 @@ fn say_line(page: &mut Page, file: Named<'_>, at: Location) {
         return;
     }
     let start = if line.len() > WIDEST {
-        at.before().saturating_sub(WIDEST / 2).min(line.len())
+        bytes_before(at).saturating_sub(WIDEST / 2).min(line.len())
     } else {
         0
     };
@@ -139,7 +138,7 @@ fn say_line(page: &mut Page, file: Named<'_>, at: Location) {
     page.say(if cut { b"...\n" } else { b"\n" });
     page.say(MARGIN);
     page.say(if start > 0 { b"   " } else { b"" });
-    say_distance(page, shown, at.before().saturating_sub(start));
+    say_distance(page, shown, bytes_before(at).saturating_sub(start));
     page.say(b"^\n");
 }
 

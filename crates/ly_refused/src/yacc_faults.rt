@@ -1,12 +1,12 @@
 use crate::advice::Advice;
 use crate::edit::if_changed;
 use crate::finding::{Finding, Findings, MOST};
-use crate::location::{Location, from_place};
+use crate::location::from_place;
 use crate::text_marks::{has_byte_order_mark, without_marks};
 use crate::yacc_advice::yacc_advice;
 use crate::yacc_before::Before;
 use crate::yacc_mending::mending;
-use ly_base::OutOfMemory;
+use ly_base::{OutOfMemory, locate};
 use ly_generate::GenFault;
 use ly_yaccread::{YaccFault, YaccFaultKind, YaccFile, read_yacc};
 use std::alloc::Global;
@@ -67,7 +67,7 @@ fn mend_fault(
     let before = Before::of(alloc, text, offset)?;
     findings.add(Finding {
         fault: GenFault::Yacc(YaccFault::Refused { kind, offset }),
-        at: Location::of(text, offset),
+        at: locate(text, offset),
         advice: yacc_advice(&before, kind, from_place(text, offset)),
     })?;
     let Some(edit) = mending(text, &before, kind, offset, mended) else {
@@ -91,7 +91,7 @@ fn find_mark_fault(
     }
     findings.add(Finding {
         fault: GenFault::Yacc(YaccFault::Refused { kind, offset }),
-        at: Location::of(bytes, offset),
+        at: locate(bytes, offset),
         advice: Advice::of_marks(has_byte_order_mark(bytes)),
     })
 }

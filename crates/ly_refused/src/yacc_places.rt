@@ -1,7 +1,6 @@
 //! Where what a fault of both files names stands in a yacc file.
 use crate::join_mending::{is_name, is_terminal};
-use crate::location::Location;
-use ly_base::OutOfMemory;
+use ly_base::{Location, OutOfMemory, locate};
 use ly_join::{JoinFault, TerminalName};
 use ly_yaccread::{DeclarationKind, SymbolName, YaccFault, YaccFile, read_yacc, word_spans};
 use std::alloc::Global;
@@ -31,7 +30,7 @@ pub(crate) fn symbol_location(
         JoinFault::ReturnUndeclared(_) | JoinFault::LimitPassed { .. } | JoinFault::OutOfMemory =>
             None,
     };
-    Ok(offset.map(|offset| Location::of(text, offset)))
+    Ok(offset.map(|offset| locate(text, offset)))
 }
 
 /// Where the first rule of the start symbol stands in a yacc file.
@@ -43,7 +42,7 @@ pub(crate) fn start_location(alloc: Global, text: &[u8]) -> Result<Option<Locati
         Some(name) => left_side_offset(&file, name),
         None => file.rule_offsets.first().map(|rule| rule.left as usize),
     };
-    Ok(offset.map(|offset| Location::of(text, offset)))
+    Ok(offset.map(|offset| locate(text, offset)))
 }
 
 /// What a yacc file says; nothing where it is refused.

@@ -3,7 +3,8 @@ ghost use Rattle.std.specs.Prelude.{IfOk, MatchResult};
 ghost use Rattle.std.specs.Rc.{rc_slice_items};
 ghost use Rattle.ly_yaccread.specs.File.{ruling_of};
 ghost use Rattle.ly_yaccread.specs.Private.Read.{last_of, left as words_left, left_side};
-ghost use Rattle.ly_yaccread.specs.Rules.{AreRulesOver, BodyFollows, LeftSide, Ruling, YaccRules};
+ghost use Rattle.ly_yaccread.specs.Rules as rules;
+ghost use Rattle.ly_yaccread.specs.Rules.{AreRulesOver, BodyFollows, Ruling, YaccRules};
 ghost use Rattle.ly_yaccread.specs.Words.{Word, mark as mark_word};
 ghost use Rattle.ly_yaccread.specs.declared.refusal.Refusal.TheVariants.{OutOfMemory};
 ghost use Rattle.ly_yaccread.specs.declared.standing.Standing as spec;
@@ -21,7 +22,7 @@ use std::rc::RcSlice;
 
 /// A left side, where it stands in the text.
 #[derive(Clone, Copy)]
-pub(crate) struct Left<'t> {
+pub(crate) struct LeftSide<'t> {
     /// Its name.
     pub(crate) name: &'t [u8],
     /// How many words are left from the name on.
@@ -49,18 +50,18 @@ pub(crate) fn read_rules(
             rest = behind;
             continue;
         }
-        let Some((left, inside)) = body_follows(rest, last) else {
+        let Some((side, inside)) = body_follows(rest, last) else {
             return Err(rest.refusal(expected));
         };
-        let shared = shared_left(alloc, left.name, &rules)?;
+        let shared = shared_left(alloc, side.name, &rules)?;
         let (rule, behind) = read_rule(alloc, shared, inside)?;
         expected = Expected::behind(&rule);
         rules.push(rule)?;
         standings.push(Standing {
-            left: left.left,
+            left: side.left,
             body: inside.left.len(),
         })?;
-        last = Some(left);
+        last = Some(side);
         rest = behind;
     }
     Ok((rules, standings))
@@ -95,8 +96,8 @@ fn is_over(words: Cursor<'_>) -> bool
 }
 
 /// What is left behind the `;` that comes first, where a rule stood before it.
-fn after_semicolon<'t>(words: Cursor<'t>, last: Option<Left<'_>>) -> Option<Cursor<'t>>
-    ensures { MatchOption result ((l : LeftSide) (rest : List Word) → last_of last.entry ≡ Some l
+fn after_semicolon<'t>(words: Cursor<'t>, last: Option<LeftSide<'_>>) -> Option<Cursor<'t>>
+    ensures { MatchOption result ((l : rules.LeftSide) (rest : List Word) → last_of last.entry ≡ Some l
         → words_left words.entry ≢ mark_word Semicolon ∷ rest)
         (λ rest. (last_of last.entry ≢ None) × (words_left words.entry ≡ mark_word Semicolon ∷ words_left rest)) }
 {
@@ -105,15 +106,18 @@ fn after_semicolon<'t>(words: Cursor<'t>, last: Option<Left<'_>>) -> Option<Curs
 }
 
 /// The left side of the body that follows, and what is left where the body begins.
-fn body_follows<'t>(words: Cursor<'t>, last: Option<Left<'t>>) -> Option<(Left<'t>, Cursor<'t>)>
-    ensures { MatchOption result ((l : LeftSide) (rest : List Word)
+fn body_follows<'t>(
+    words: Cursor<'t>,
+    last: Option<LeftSide<'t>>,
+) -> Option<(LeftSide<'t>, Cursor<'t>)>
+    ensures { MatchOption result ((l : rules.LeftSide) (rest : List Word)
         → BodyFollows (last_of last.entry) (words_left words.entry) l rest → ⊥)
         (λ found. BodyFollows (last_of last.entry) (words_left words.entry) (left_side found.0)
         (words_left found.1)) }
 {
     if let Some((name, behind)) = words.name() {
         let left = words.left.len();
-        return Some((Left { name, left }, behind.after(Mark::Colon)?));
+        return Some((LeftSide { name, left }, behind.after(Mark::Colon)?));
     }
     Some((last?, words.after(Mark::Bar)?))
 }

@@ -13,7 +13,7 @@ use Rattle.ly_yaccread.specs.declared.declaration.Said.TheVariants.{Tokens, Star
 use Rattle.ly_yaccread.specs.declared.declarations.Preamble.{Preamble}
 use Rattle.ly_yaccread.specs.declared.refusal.Refusal.{Refusal}
 use Rattle.ly_yaccread.specs.declared.refusal.Refusal.TheVariants.{OutOfMemory}
-use Rattle.ly_yaccread.specs.declared.rules.Left.{Left}
+use Rattle.ly_yaccread.specs.declared.rules.LeftSide as read
 use Rattle.ly_yaccread.specs.declared.standing.Standing.{Standing}
 use Rattle.ly_yaccread.specs.declared.symbols.NextSymbol.{NextSymbol}
 use Rattle.ly_yaccread.specs.declared.symbols.NextSymbol.TheVariants.{Name, Literal}
@@ -44,11 +44,11 @@ declaring_of p = record {
 }
 
 -- a left side
-abbrev pub left_side : Left → LeftSide
+abbrev pub left_side : read.LeftSide → LeftSide
 left_side l = record { symbol = l.name.now; left = l.left }
 
 -- the last left side, where there is one
-abbrev pub last_of : Option Left → Option LeftSide
+abbrev pub last_of : Option read.LeftSide → Option LeftSide
 last_of last = option_map left_side last
 
 -- Is says which values and rests the words have: an answer is one of them, and a refusal says that there is none.

@@ -26,7 +26,7 @@ returns-in_err-rule c =
     let p = err_from_is_err_and c.from_residual-in_err-rule.result c.from_residual-in_err-rule.ensures.1 in
     let inside = left c.in-Some-body_follows.inside in
     rw (p.1, p.2) (λ n all every h. bad_body (left c.args.words) c.loop-last.rules.items c.loop-last.standings.items
-    (last_of c.loop-last.last) (left c.loop-last.rest) c.loop-last.invariant (left_side c.in-Some-body_follows.left)
+    (last_of c.loop-last.last) (left c.loop-last.rest) c.loop-last.invariant (left_side c.in-Some-body_follows.side)
     inside c.in-Some-body_follows.ensures
     (subst (λ name. (r : Ruling) (rest : List Word) → Body name inside r rest → ⊥) c.in_ok-shared.ensures
     (c.in_err-rule.ensures n)) all every h)
@@ -34,7 +34,7 @@ returns-in_err-rule c =
 pub loop-last-smaller : goal.loop-last-smaller
 loop-last-smaller c =
     let inside = left c.in-Some-body_follows.inside in
-    rule_shorter (last_of c.loop-last.last) (left c.loop-last.rest) (left_side c.in-Some-body_follows.left) inside
+    rule_shorter (last_of c.loop-last.last) (left c.loop-last.rest) (left_side c.in-Some-body_follows.side) inside
     (ruling_of c.in_ok-rule.rule) (left c.in_ok-rule.behind) c.in-Some-body_follows.ensures
     (subst (λ name. Body name inside (ruling_of c.in_ok-rule.rule) (left c.in_ok-rule.behind)) c.in_ok-shared.ensures
     c.in_ok-rule.ensures)
@@ -42,7 +42,7 @@ loop-last-smaller c =
 pub loop-last-preserved : goal.loop-last-preserved
 loop-last-preserved c =
     let inside = left c.in-Some-body_follows.inside in
-    let side = left_side c.in-Some-body_follows.left in
+    let side = left_side c.in-Some-body_follows.side in
     let words = c.in-Some-body_follows.inside.left.now in
     let count : length words ≡ length inside = sym (length-map words (λ w. word_of w.word)) in
     let standing : ℕ → Standing = λ n. record { left = side.left; body = n } in
