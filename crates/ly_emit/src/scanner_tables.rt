@@ -11,8 +11,9 @@ ghost use Rattle.ly_tables.specs.Values.{scan_rule_from, starts_from};
 use ly_base::{OutOfMemory, RuleNo, ScanAction, StateNo};
 use ly_ere::Rule;
 use ly_pack::{Comb, Dense, comb};
+use ly_scan::Starts;
 use ly_subset::Dfa;
-use ly_tables::{ScanRule, Starts};
+use ly_tables::ScanRule;
 use std::alloc::{AllocError, Global};
 
 /// The tables of a scanner.

@@ -15,7 +15,7 @@ use Rattle.ly_base.specs.declared.numbers.StateNo.{StateNo}
 use Rattle.ly_base.specs.declared.scan_action.Emitted.{Emitted}
 use Rattle.ly_base.specs.declared.scan_action.Emitted.TheVariants.{FirstByte, Nothing, Terminal}
 use Rattle.ly_feed.specs.Private.Passing.{ArePassedOver, IsPassedOver}
-use Rattle.ly_feed.specs.Private.ScannerOf.{IsScannerOf, is_no_effect, is_passed, start_from}
+use Rattle.ly_feed.specs.Private.ScannerOf.{IsScannerOf, is_no_effect, is_passed}
 use Rattle.ly_feed.specs.ScanPart.{cut_in, next_in, scan_part_of, scanner_in, start_in, states_from, states_in}
 use Rattle.ly_feed.specs.ScanPart as part
 use Rattle.ly_pack.proofs.GridLemmas.{cell-grid_of, cell-grid_of_past}
@@ -23,13 +23,12 @@ use Rattle.ly_pack.specs.Rows.{Comb, Used, cell, comb_entry}
 use Rattle.ly_scan.proofs.StateTableLemmas.{next_as, numbered, same_scanner, targets_within}
 use Rattle.ly_scan.specs.Lexers.{scanner_of}
 use Rattle.ly_scan.specs.StateTable.{LeadsWithin, StateTable, start_at, start_by}
-use Rattle.ly_scan.specs.declared.scanner_parts.ConditionStart.{ConditionStart}
 use Rattle.ly_tables.proofs.EntryLemmas.{comb_entry_used}
 use Rattle.ly_tables.specs.Ranges.{AreStartsWithin, IsWithinVersion}
 use Rattle.ly_tables.specs.TableSet.{ScanRule, Starts, TableSet}
 use Rattle.ly_tables.specs.Values.{scan_rule_from, starts_from}
 use Rattle.ly_tables.specs.declared.scan_rule.ScanRule as scan
-use Rattle.ly_tables.specs.declared.starts.Starts as starts
+use Rattle.ly_scan.specs.declared.starts.Starts as starts
 
 -- no entry leads past a bound that no slot passes
 pub leads_within : (c : Comb StateNo) (row column : ℕ) (next : Option ℕ) (bound : ℕ)
@@ -78,20 +77,23 @@ some_within None n h = tt
 some_within (Some s) n h = h s refl
 
 -- where a condition begins
-starts_same : (s : TableSet) (conditions : List starts.Starts) (begin : List ConditionStart)
-    → map starts_from conditions ≡ s.conditions → begin ≡ map start_from conditions → (c : ℕ) (line : Bool)
+starts_same : (s : TableSet) (conditions begin : List starts.Starts) → map starts_from conditions ≡ s.conditions
+    → begin ≡ conditions → (c : ℕ) (line : Bool)
     → option_and_then (start_by line) (slice_get begin c) ≡ start_in (scan_part_of s) c line
 starts_same s conditions begin all made c line =
     ap (λ xs. option_and_then (start_by line) (slice_get xs c)) made
-    ∙ ap (option_and_then (start_by line)) (slice_get-map start_from conditions c)
     ∙ by_start (slice_get conditions c)
     ∙ ap (option_and_then (part.start_by line)) (sym (slice_get-map starts_from conditions c))
     ∙ ap (λ xs. option_and_then (part.start_by line) (slice_get xs c)) all
   where
-    by_start : (o : Option starts.Starts) → option_and_then (start_by line) (option_map start_from o)
-        ≡ option_and_then (part.start_by line) (option_map starts_from o)
+    by_line : (line : Bool) (x : starts.Starts) → start_by line x ≡ part.start_by line (starts_from x)
+    by_line true x = refl
+    by_line false x = refl
+
+    by_start : (o : Option starts.Starts)
+        → option_and_then (start_by line) o ≡ option_and_then (part.start_by line) (option_map starts_from o)
     by_start None = refl
-    by_start (Some x) = refl
+    by_start (Some x) = by_line line x
 
 -- what is cut off a rule's matches
 cuts_same : (s : TableSet) (rules : List scan.ScanRule) (cuts : List Cut) → map scan_rule_from rules ≡ s.scan_rules

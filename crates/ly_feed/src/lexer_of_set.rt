@@ -6,7 +6,7 @@ ghost use Rattle.ly_base.specs.declared.numbers.StateNo as number;
 ghost use Rattle.ly_base.specs.declared.version.Version.TheVariants.{V2};
 ghost use Rattle.ly_feed.specs.ScanPart.{scan_part_of, scanner_in, states_from};
 ghost use Rattle.ly_feed.specs.Private.LexerOf.{IsLexerOf};
-ghost use Rattle.ly_feed.specs.Private.ScannerOf.{is_passed, start_from, IsScannerOf};
+ghost use Rattle.ly_feed.specs.Private.ScannerOf.{is_passed, IsScannerOf};
 ghost use Rattle.ly_pack.specs.Rows.{comb_entry, Used};
 ghost use Rattle.ly_scan.specs.Lexers.{scanner_of};
 ghost use Rattle.ly_scan.specs.StateRows.{row_entry};
@@ -15,8 +15,8 @@ ghost use Rattle.ly_tables.specs.Ranges.{IsWithinVersion};
 
 use ly_base::{Cut, Emitted, OutOfMemory, RuleNo, StateNo};
 use ly_pack::{Comb, Rows};
-use ly_scan::{ConditionStart, Lexer, Scanner, ScannerParts, StateRows};
-use ly_tables::{ScanRule, Starts, TableSet};
+use ly_scan::{Lexer, Scanner, ScannerParts, Starts, StateRows};
+use ly_tables::{ScanRule, TableSet};
 use std::alloc::Global;
 
 /// The lexer of a table set. It fails where memory runs out.
@@ -59,20 +59,10 @@ fn rules_of(alloc: Global, accepted: &[Option<RuleNo>]) -> Result<Vec<Option<Rul
 }
 
 /// Where conditions begin.
-fn starts_of(alloc: Global, conditions: &[Starts]) -> Result<Vec<ConditionStart>, OutOfMemory>
-    ensures { IfOk result (λ starts. starts.items ≡ map start_from conditions.now) }
+fn starts_of(alloc: Global, conditions: &[Starts]) -> Result<Vec<Starts>, OutOfMemory>
+    ensures { IfOk result (λ starts. starts.items ≡ conditions.now) }
 {
-    Ok(conditions.iter().map(start_of).collect(alloc)?)
-}
-
-/// Where a condition begins.
-fn start_of(condition: &Starts) -> ConditionStart
-    ensures { result ≡ start_from condition.now }
-{
-    ConditionStart {
-        at_line: condition.at_line.map(|state| state.0),
-        elsewhere: condition.elsewhere.map(|state| state.0),
-    }
+    Ok(conditions.iter().copied().collect(alloc)?)
 }
 
 /// What is cut off the matches of rules.

@@ -5,23 +5,23 @@ use Rattle.std.specs.Prelude.{option_and_then, slice_get, slice_index_or, unwrap
 use Rattle.ly_base.specs.declared.cut.Cut.{Cut}
 use Rattle.ly_base.specs.declared.cut.Cut.TheVariants.{Whole}
 use Rattle.ly_base.specs.declared.numbers.RuleNo.{RuleNo}
+use Rattle.ly_scan.specs.declared.starts.Starts.{Starts}
 use Rattle.ly_scan.specs.StateRows.{row_entry, state_at, Begins}
 use Rattle.ly_scan.specs.StateWalk.{States, ahead_of}
 use Rattle.ly_scan.specs.Walk.{Walk}
-use Rattle.ly_scan.specs.declared.scanner_parts.ConditionStart.{ConditionStart}
 use Rattle.ly_scan.specs.declared.scanner_parts.ScannerParts.{ScannerParts}
 use Rattle.ly_scan.specs.declared.state_rows.RowStart.{RowStart}
 
 -- Where each condition begins; where states lead, row after row of 256 entries, one for each byte; the rule of each
 -- state, if it has one; and what is cut off the matches of each rule.
 pub record StateTable : Type 0 where
-  pub starts : List ConditionStart
+  pub starts : List Starts
   pub rows : List (Option ℕ)
   pub rules : List (Option RuleNo)
   pub cuts : List Cut
 
-abbrev pub start_by : Bool → ConditionStart → Option ℕ
-start_by line c = if line then c.at_line else c.elsewhere
+abbrev pub start_by : Bool → Starts → Option ℕ
+start_by line c = option_map (λ s. s.0) (if line then c.at_line else c.elsewhere)
 
 -- where a condition begins, at the start of a line or not, if it does
 abbrev pub start_at : StateTable → ℕ → Bool → Option ℕ

@@ -2,8 +2,8 @@
 //!
 //! A walk is a type with `Steps`. `next_lexeme` takes the longest match of one or more bytes that has a rule, and what
 //! the rule's cut leaves of it (`IsLexemeAt`), or says how the run ends there (`ScanEndsAt`): whatever comes behind the
-//! bytes that are known, or not yet. `next_match` does so at the front of any text that has ended, and a `Matcher`
-//! where its bytes come in pieces. `LoneBytes` tells some lexemes that are passed over by two bytes, without a walk.
+//! bytes that are known, or not yet. A `Matcher` does so where the bytes of a match come in pieces. `LoneBytes` tells
+//! some lexemes that are passed over by two bytes, without a walk.
 //! The program's one walk is that of a `Scanner`, which is plain rows (`StateTable`), and a `Lexer` runs it.
 //!
 //! What walks over a text have shown is kept where they went far (`KnownWalks`), so that a text takes no more time than
@@ -20,6 +20,7 @@ mod matcher;
 mod matching;
 mod scanner;
 mod scanner_parts;
+mod starts;
 mod state_rows;
 mod steps;
 
@@ -28,8 +29,8 @@ pub use lexeme::next_lexeme;
 pub use lexer::Lexer;
 pub use lone_bytes::LoneBytes;
 pub use matcher::Matcher;
-pub use matching::{Match, next_match};
 pub use scanner::Scanner;
-pub use scanner_parts::{ConditionStart, ScannerParts};
+pub use scanner_parts::ScannerParts;
+pub use starts::Starts;
 pub use state_rows::{RowStart, StateRows};
 pub use steps::Steps;

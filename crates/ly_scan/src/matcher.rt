@@ -1,6 +1,5 @@
 ghost use Rattle.std.specs.Prelude.{◌≡◌, ◌<◌, ◌+◌, ◌^◌, ℕ, List, [], ◌++◌, Bool, length, IfSome, MatchOption};
 ghost use Rattle.ly_scan.specs.Matcher.{IsDecided, IsUnderway};
-ghost use Rattle.ly_scan.specs.Matching.{IsMatch};
 
 use crate::matching::{Match, better, match_of};
 use crate::steps::Steps;
@@ -28,7 +27,11 @@ impl<P> Model for Matcher<P> {
 
 impl<P: Copy> Matcher<P> {
     /// A match of which no byte has come, which begins at a condition, at the start of a line or not.
-    pub fn new<S: Steps<At = P>>(steps: &S, condition: u32, at_line_start: bool) -> Matcher<P>
+    pub(crate) fn new<S: Steps<At = P>>(
+        steps: &S,
+        condition: u32,
+        at_line_start: bool,
+    ) -> Matcher<P>
         ensures { IsUnderway (S.walk steps.now condition at_line_start) (S.ahead steps.now) (S.stands steps.now) []
             result }
     {
@@ -41,7 +44,7 @@ impl<P: Copy> Matcher<P> {
 
     /// Takes the next bytes. None where they don't decide the match; else it is what it is however the text goes on,
     /// and the matcher has done its work.
-    pub fn piece<S: Steps<At = P>>(&mut self, steps: &S, bytes: &[u8]) -> Option<Match>
+    pub(crate) fn piece<S: Steps<At = P>>(&mut self, steps: &S, bytes: &[u8]) -> Option<Match>
         requires countable { self.old.passed + length bytes.now < 2 ^ 64 }
         requires stands { IfSome self.old.at (S.stands steps.now) }
         ensures { (condition : ℕ) (line : Bool) (seen : List ℕ)
@@ -70,14 +73,5 @@ impl<P: Copy> Matcher<P> {
         self.passed += bytes.len();
         self.best = best;
         None
-    }
-
-    /// The match of the bytes that have come, behind which none do.
-    pub fn finish<S: Steps<At = P>>(&self, steps: &S) -> Match
-        ensures { (condition : ℕ) (line : Bool) (seen : List ℕ)
-            → IsUnderway (S.walk steps.now condition line) (S.ahead steps.now) (S.stands steps.now) seen self.now
-            → IsMatch (S.walk steps.now condition line) (S.cut_of steps.now) seen result }
-    {
-        match_of(steps, self.best)
     }
 }

@@ -15,8 +15,8 @@ use ly_base::{Cut, RuleNo};
 const FAR: usize = 64;
 
 /// What was found at the front of a text.
-#[derive(Clone, Copy, Debug, PartialEq, Eq)]
-pub enum Match {
+#[derive(Clone, Copy)]
+pub(crate) enum Match {
     /// A rule matches.
     Win {
         /// The rule of the longest match.
@@ -30,18 +30,6 @@ pub enum Match {
     BadCut,
     /// No rule matches one or more bytes.
     Stuck,
-}
-
-/// The longest match of one or more bytes at the front of `rest`, which begins at a condition, at
-/// the start of a line or not (POSIX, lex: "the longest possible match"). The walk says which rule
-/// it is, where several match the same bytes.
-pub fn next_match<S: Steps>(steps: &S, condition: u32, at_line_start: bool, rest: &[u8]) -> Match
-    ensures { IsMatch (S.walk steps.now condition at_line_start) (S.cut_of steps.now) rest.now result }
-{
-    match steps.start(condition, at_line_start) {
-        Some(start) => match_of(steps, best_of_all(steps, start, rest)),
-        None => Match::Stuck,
-    }
 }
 
 /// The match at the front of some bytes, whatever comes behind them; `ended` says that nothing does. None where it

@@ -6,7 +6,7 @@ ghost use Rattle.ly_scan.specs.StateTable.{ahead_at, ahead_in, cut_at, start_at,
 ghost use Rattle.ly_scan.specs.StateTable.{LeadsWithin, StandsIn};
 ghost use Rattle.ly_scan.specs.StateWalk.{ahead_of-ended, state_walk, MindsNoLine};
 
-use crate::scanner_parts::{ConditionStart, ScannerParts};
+use crate::scanner_parts::ScannerParts;
 use crate::state_rows::RowStart;
 use crate::steps::Steps;
 use ly_base::{Cut, RuleNo};
@@ -129,7 +129,7 @@ fn start_of(parts: &ScannerParts, condition: u32, at_line_start: bool) -> Option
     } else {
         start.elsewhere
     };
-    state.map(RowStart::of)
+    state.map(|state| RowStart::of(state.0))
 }
 
 /// Whether a condition begins in another state at the start of a line than elsewhere.

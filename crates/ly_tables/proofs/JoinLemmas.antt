@@ -14,7 +14,7 @@ use Rattle.ly_tables.specs.Spelling.{check_of, comb, counted_from_one, next_of, 
 use Rattle.ly_tables.specs.Spelling.{starts}
 use Rattle.ly_tables.specs.Values.{scan_rule_from, starts_from}
 use Rattle.ly_tables.specs.declared.scan_rule.ScanRule as scan
-use Rattle.ly_tables.specs.declared.starts.Starts as start
+use Rattle.ly_scan.specs.declared.starts.Starts as start
 
 pub four_joined : (o : List ℕ) {o1 o2 o3 o4 : List ℕ} (a b c d : List ℕ) → o1 ≡ o ++ a → o2 ≡ o1 ++ b → o3 ≡ o2 ++ c
     → o4 ≡ o3 ++ d → o4 ≡ o ++ (((a ++ b) ++ c) ++ d)

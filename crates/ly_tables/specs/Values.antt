@@ -7,7 +7,7 @@ use Rattle.ly_pack.specs.Values.{rule_from}
 use Rattle.ly_tables.specs.Ranges.{IsWithinVersion}
 use Rattle.ly_tables.specs.TableSet.{ScanRule, Starts, TableSet, machine_of}
 use Rattle.ly_tables.specs.declared.scan_rule.ScanRule as scan
-use Rattle.ly_tables.specs.declared.starts.Starts as start
+use Rattle.ly_scan.specs.declared.starts.Starts as start
 use Rattle.ly_tables.specs.declared.table_parts.TableParts as parts
 
 abbrev pub scan_rule_from : scan.ScanRule → ScanRule

@@ -13,9 +13,9 @@ use crate::row_meaning::comb;
 use crate::rule_meaning::table_rules;
 use crate::scan_rule::ScanRule;
 use crate::scanner_meaning::{accepted, conditions, defaults, literals, scan_rules};
-use crate::starts::Starts;
 use crate::table_parts::TableParts;
 use ly_base::{OutOfMemory, RuleNo, Sym, Version};
+use ly_scan::Starts;
 use std::alloc::{AllocError, Global};
 
 /// The parts that numbers mean which are within their ranges. It fails where memory runs out.

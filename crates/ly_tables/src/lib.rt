@@ -45,7 +45,6 @@ mod scanner_sections;
 mod section;
 mod sections;
 mod set_counts;
-mod starts;
 mod steadiness;
 mod symbol_part;
 mod symbol_ranges;
@@ -63,7 +62,6 @@ pub use laws::{
 pub use reading::read_tables;
 pub use scan_rule::ScanRule;
 pub use set_counts::{SetCounts, counts};
-pub use starts::Starts;
 pub use table_parts::TableParts;
 pub use table_set::TableSet;
 pub use writing::write_tables;

@@ -10,8 +10,8 @@ ghost use Rattle.ly_tables.specs.Values.{scan_rule_from, starts_from};
 use crate::numbers::none;
 use crate::raw_tables::{RawScanRule, RawStarts};
 use crate::scan_rule::ScanRule;
-use crate::starts::Starts;
 use ly_base::{Cut, Emitted, RuleNo, ScanAction, StateNo, Sym, Version};
+use ly_scan::Starts;
 use std::alloc::{AllocError, Global};
 
 /// The terminals of these numbers.

@@ -11,9 +11,9 @@ ghost use Rattle.ly_tables.specs.Values.{scan_rule_from, starts_from};
 use crate::combs::push_comb;
 use crate::numbers::{push_count, push_number, push_or_none};
 use crate::scan_rule::ScanRule;
-use crate::starts::Starts;
 use crate::table_set::TableSet;
 use ly_base::{Cut, Emitted, RuleNo, Version};
+use ly_scan::Starts;
 use std::alloc::AllocError;
 
 /// The sections of the scanner: its rules, its conditions, the classes of bytes, its states and its rows.

@@ -5,9 +5,9 @@ ghost use Rattle.ly_tables.specs.TableSet.{machine_of};
 ghost use Rattle.ly_tables.specs.Values.{set_of};
 
 use crate::scan_rule::ScanRule;
-use crate::starts::Starts;
 use ly_base::{RuleNo, StateNo, Sym};
 use ly_pack::{Comb, MachineView, TableAction, TableRule};
+use ly_scan::Starts;
 
 /// What a set of tables is made of.
 #[derive(Drop)]

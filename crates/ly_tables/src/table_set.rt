@@ -7,10 +7,10 @@ ghost use Rattle.ly_tables.specs.TableSet.{machine_of};
 ghost use Rattle.ly_tables.specs.Values.{scan_rule_from, set_of, starts_from};
 
 use crate::scan_rule::ScanRule;
-use crate::starts::Starts;
 use crate::table_parts::TableParts;
 use ly_base::{RuleNo, StateNo, Sym};
 use ly_pack::{Comb, MachineView, TableAction, TableRule};
+use ly_scan::Starts;
 use std::marker::Model;
 
 /// What a driver needs to know of a lex file and a yacc file. Its numbers are within the ranges of version 2 of the

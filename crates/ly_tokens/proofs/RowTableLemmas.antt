@@ -12,6 +12,7 @@ use Rattle.std.proofs.Math.Nat.{mul-le-mul_right}
 use Rattle.ly_base.proofs.ListLemmas.{slice_get-range}
 use Rattle.ly_base.specs.declared.cut.Cut.TheVariants.{Whole}
 use Rattle.ly_base.specs.declared.numbers.RuleNo.{RuleNo}
+use Rattle.ly_base.specs.declared.numbers.StateNo.{StateNo}
 use Rattle.ly_ere.specs.declared.pattern.Rule.{Rule}
 use Rattle.ly_scan.proofs.StateTableLemmas.{next_as, numbered, same_scanner, targets_within}
 use Rattle.ly_scan.specs.Lexer.{Scanner}
@@ -19,8 +20,13 @@ use Rattle.ly_scan.specs.Lexers.{scanner_of}
 use Rattle.ly_scan.specs.StateRows.{row_entry}
 use Rattle.ly_scan.specs.StateTable.{LeadsWithin, StateTable, start_at, start_by}
 use Rattle.ly_subset.specs.Automaton.{Automaton, entry_at, next_by_class, next_of, start_of, start_place}
-use Rattle.ly_tokens.specs.Private.RowTable.{IsTableOf, begin_of}
+use Rattle.ly_tokens.specs.Private.RowTable.{IsTableOf, begin_of, state_of}
 use Rattle.ly_tokens.specs.RowWalk.{cut_in, row_walk, rows_of}
+
+-- a state's number as a state, and back
+there_and_back : (o : Option ℕ) → option_map (λ (s : StateNo). s.0) (option_map state_of o) ≡ o
+there_and_back None = refl
+there_and_back (Some n) = refl
 
 module _ (A : Automaton) (rules : List Rule) (t : StateTable) (is : IsTableOf A rules t) where
   count : length t.rules ≡ length A.rules
@@ -53,8 +59,8 @@ module _ (A : Automaton) (rules : List Rule) (t : StateTable) (is : IsTableOf A 
       ]
     where
       by_line : (line : Bool) → start_by line (begin_of A c) ≡ start_of A c line
-      by_line true = refl
-      by_line false = refl
+      by_line true = there_and_back (start_of A c true)
+      by_line false = there_and_back (start_of A c false)
 
   -- no byte leads on from a state that there isn't
   no_state : (state byte : ℕ) → length t.rules ≤ state → next_of A (Some state) byte ≡ None

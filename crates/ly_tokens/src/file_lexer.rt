@@ -15,10 +15,10 @@ ghost use Rattle.ly_tokens.specs.Private.TokenLines.{is_passed};
 
 use crate::scanner::smallest_automaton;
 use crate::scanner_fault::ScannerFault;
-use ly_base::{Cut, Limits, OutOfMemory, RuleNo};
+use ly_base::{Cut, Limits, OutOfMemory, RuleNo, StateNo};
 use ly_ere::Rule;
 use ly_lexread::{LexAction, LexFile, Returned};
-use ly_scan::{ConditionStart, Lexer, Scanner, ScannerParts, StateRows};
+use ly_scan::{Lexer, Scanner, ScannerParts, Starts, StateRows};
 use ly_subset::Dfa;
 use std::alloc::Global;
 
@@ -79,7 +79,7 @@ fn count_of(count: usize) -> Result<u32, OutOfMemory>
 }
 
 /// Where so many conditions begin.
-fn starts_of(alloc: Global, dfa: &Dfa, count: u32) -> Result<Vec<ConditionStart>, OutOfMemory>
+fn starts_of(alloc: Global, dfa: &Dfa, count: u32) -> Result<Vec<Starts>, OutOfMemory>
     ensures { IfOk result (λ starts. starts.items ≡ map (begin_of dfa.now) (range_with_len 0 count)) }
 {
     Ok(
@@ -90,12 +90,12 @@ fn starts_of(alloc: Global, dfa: &Dfa, count: u32) -> Result<Vec<ConditionStart>
 }
 
 /// Where a condition begins.
-fn start_of(dfa: &Dfa, condition: u32) -> ConditionStart
+fn start_of(dfa: &Dfa, condition: u32) -> Starts
     ensures { result ≡ begin_of dfa.now condition }
 {
-    ConditionStart {
-        at_line: dfa.start(condition, true),
-        elsewhere: dfa.start(condition, false),
+    Starts {
+        elsewhere: dfa.start(condition, false).map(StateNo),
+        at_line: dfa.start(condition, true).map(StateNo),
     }
 }
 

@@ -1,8 +1,8 @@
-//! The longest match over rows that were made by hand.
+//! The lexeme at the front of a text, over rows that were made by hand.
 
 use crate::row_walk::{Row, RowWalk};
-use ly_base::{Cut, RuleNo};
-use ly_scan::{Match, next_match};
+use ly_base::{Cut, End, Lexeme, Place, RuleNo};
+use ly_scan::{KnownWalks, next_lexeme};
 use std::alloc::{AllocError, Global};
 use std::test::Fail;
 
@@ -16,105 +16,113 @@ const STATES: [(&[(u8, u16)], Option<u32>); 5] = [
     (&[], Some(1)),
 ];
 
-/// A text, whether a line starts there, the cut of rule 1, and the match.
-const MATCHES: [(&[u8], bool, Cut, Match); 16] = [
+/// What is found at the front of a text: a lexeme, or how a run over the text ends.
+type Found = Result<Option<Lexeme>, End>;
+
+/// No rule matches at the front of a text.
+const STUCK: Found = Err(End::Stuck { byte: 0 });
+
+/// A rule matches there, and its cut leaves no byte or more than the match.
+const BAD_CUT: Found = Err(End::BadCut { byte: 0 });
+
+/// A text, whether a line starts there, the cut of rule 1, and what is found.
+const LEXEMES: [(&[u8], bool, Cut, Found); 15] = [
     (
         b"ab",
         false,
         Cut::Whole,
-        Match::Win {
+        Ok(Some(Lexeme {
             rule: RuleNo(0),
             matched: 2,
-            token_len: 2,
-        },
+            taken: 2,
+        })),
     ),
     (
         b"abab",
         false,
         Cut::Whole,
-        Match::Win {
+        Ok(Some(Lexeme {
             rule: RuleNo(0),
             matched: 2,
-            token_len: 2,
-        },
+            taken: 2,
+        })),
     ),
     (
         b"abcc",
         false,
         Cut::Whole,
-        Match::Win {
+        Ok(Some(Lexeme {
             rule: RuleNo(0),
             matched: 2,
-            token_len: 2,
-        },
+            taken: 2,
+        })),
     ),
     (
         b"abccx",
         false,
         Cut::Whole,
-        Match::Win {
+        Ok(Some(Lexeme {
             rule: RuleNo(0),
             matched: 2,
-            token_len: 2,
-        },
+            taken: 2,
+        })),
     ),
     (
         b"abcd",
         false,
         Cut::Whole,
-        Match::Win {
+        Ok(Some(Lexeme {
             rule: RuleNo(1),
             matched: 4,
-            token_len: 4,
-        },
+            taken: 4,
+        })),
     ),
     (
         b"abcccdd",
         false,
         Cut::Whole,
-        Match::Win {
+        Ok(Some(Lexeme {
             rule: RuleNo(1),
             matched: 6,
-            token_len: 6,
-        },
+            taken: 6,
+        })),
     ),
     (
         b"abcccdd",
         false,
         Cut::Head(2),
-        Match::Win {
+        Ok(Some(Lexeme {
             rule: RuleNo(1),
             matched: 6,
-            token_len: 2,
-        },
+            taken: 2,
+        })),
     ),
     (
         b"abcccdd",
         false,
         Cut::Head(6),
-        Match::Win {
+        Ok(Some(Lexeme {
             rule: RuleNo(1),
             matched: 6,
-            token_len: 6,
-        },
+            taken: 6,
+        })),
     ),
-    (b"abcccdd", false, Cut::Head(7), Match::BadCut),
-    (b"abcccdd", false, Cut::Head(0), Match::BadCut),
+    (b"abcccdd", false, Cut::Head(7), BAD_CUT),
+    (b"abcccdd", false, Cut::Head(0), BAD_CUT),
     (
         b"abcccdd",
         false,
         Cut::Tail(1),
-        Match::Win {
+        Ok(Some(Lexeme {
             rule: RuleNo(1),
             matched: 6,
-            token_len: 5,
-        },
+            taken: 5,
+        })),
     ),
-    (b"abcccdd", false, Cut::Tail(6), Match::BadCut),
-    (b"a", false, Cut::Whole, Match::Stuck),
-    (b"", false, Cut::Whole, Match::Stuck),
-    (b"bab", false, Cut::Whole, Match::Stuck),
-    (b"ab", true, Cut::Whole, Match::Stuck),
+    (b"abcccdd", false, Cut::Tail(6), BAD_CUT),
+    (b"a", false, Cut::Whole, STUCK),
+    (b"bab", false, Cut::Whole, STUCK),
+    (b"ab", true, Cut::Whole, STUCK),
 ];
 
 /// A state by the bytes that lead on from it.
@@ -138,21 +146,35 @@ fn rows(alloc: Global) -> Result<Vec<Row>, AllocError> {
     Ok(rows)
 }
 
-/// Whether the match at the front of a text is so over rows, and none is found from a condition that there isn't.
-fn is_matched_so(rows: &[Row], text: &[u8], line: bool, cut: Cut, wanted: Match) -> bool {
+/// What is found at the front of a text that ends behind these bytes, from a condition of a walk.
+fn found_over(alloc: Global, walk: &RowWalk<'_>, text: &[u8], line: bool, condition: u32) -> Found {
+    let place = Place::behind(text, 0, line, condition);
+    next_lexeme(walk, &place, &mut KnownWalks::new(alloc), true)
+}
+
+/// Whether this is found at the front of a text over rows, and nothing from a condition that there isn't.
+fn is_found_so(
+    alloc: Global,
+    rows: &[Row],
+    text: &[u8],
+    line: bool,
+    cut: Cut,
+    wanted: Found,
+) -> bool {
     let walk = RowWalk {
         rows,
         starts: &[[1, 0]],
         cuts: &[Cut::Whole, cut],
     };
-    next_match(&walk, 0, line, text) == wanted && next_match(&walk, 1, line, text) == Match::Stuck
+    found_over(alloc, &walk, text, line, 0) == wanted
+        && found_over(alloc, &walk, text, line, 1) == STUCK
 }
 
-/// The number of the first of `MATCHES` that isn't so.
-fn matched_otherwise(alloc: Global) -> Result<Option<usize>, AllocError> {
+/// The number of the first of `LEXEMES` that isn't so.
+fn found_otherwise(alloc: Global) -> Result<Option<usize>, AllocError> {
     let rows = rows(alloc)?;
-    for (number, (text, line, cut, wanted)) in MATCHES.iter().enumerate() {
-        if !is_matched_so(&rows, text, *line, *cut, *wanted) {
+    for (number, (text, line, cut, wanted)) in LEXEMES.iter().enumerate() {
+        if !is_found_so(alloc, &rows, text, *line, *cut, *wanted) {
             return Ok(Some(number));
         }
     }
@@ -161,6 +183,6 @@ fn matched_otherwise(alloc: Global) -> Result<Option<usize>, AllocError> {
 
 #[test]
 fn longest_matches_and_their_cuts(rt: HostRuntime) -> Result<(), Fail> {
-    assert_eq!(rt; matched_otherwise(rt.alloc())?, None);
+    assert_eq!(rt; found_otherwise(rt.alloc())?, None);
     Ok(())
 }

@@ -8,15 +8,10 @@ use Rattle.ly_feed.specs.ScanPart.{states_from}
 use Rattle.ly_pack.specs.Rows.{comb_entry}
 use Rattle.ly_scan.specs.StateRows.{row_entry}
 use Rattle.ly_scan.specs.StateTable.{StateTable}
-use Rattle.ly_scan.specs.declared.scanner_parts.ConditionStart.{ConditionStart}
 use Rattle.ly_tables.specs.TableSet.{TableSet}
 use Rattle.ly_tables.specs.Values.{scan_rule_from, starts_from}
 use Rattle.ly_tables.specs.declared.scan_rule.ScanRule as scan
-use Rattle.ly_tables.specs.declared.starts.Starts as starts
-
--- where a condition begins, by the numbers of its states
-abbrev pub start_from : starts.Starts → ConditionStart
-start_from c = record { at_line = option_map (λ s. s.0) c.at_line; elsewhere = option_map (λ s. s.0) c.elsewhere }
+use Rattle.ly_scan.specs.declared.starts.Starts as starts
 
 -- no condition is set, and no terminal is returned
 abbrev pub is_no_effect : Option ℕ → Emitted → Bool
@@ -31,7 +26,7 @@ is_passed r = is_no_effect r.action.begin r.action.emits
 pub record IsScannerOf (s : TableSet) (t : StateTable) : Type 0 where
   pub conditions : List starts.Starts
   pub all_conditions : map starts_from conditions ≡ s.conditions
-  pub starts : t.starts ≡ map start_from conditions
+  pub starts : t.starts ≡ conditions
   pub accepted : map (option_map (λ (r : RuleNo). r.0)) t.rules ≡ s.accepted
   pub rules : List scan.ScanRule
   pub all_rules : map scan_rule_from rules ≡ s.scan_rules

@@ -2,15 +2,23 @@
 use Rattle.std.specs.List.{range_with_len}
 use Rattle.std.specs.Prelude.{◌≡◌, ◌<◌, ◌*◌, ℕ, List, Option, Some, IfSome, false, length, map, option_map, true}
 use Rattle.ly_base.specs.declared.numbers.RuleNo.{RuleNo}
+use Rattle.ly_base.specs.declared.numbers.StateNo.{StateNo}
+use Rattle.ly_scan.specs.declared.starts.Starts.{Starts}
 use Rattle.ly_ere.specs.declared.pattern.Rule.{Rule}
 use Rattle.ly_scan.specs.StateRows.{row_entry}
 use Rattle.ly_scan.specs.StateTable.{StateTable}
-use Rattle.ly_scan.specs.declared.scanner_parts.ConditionStart.{ConditionStart}
 use Rattle.ly_subset.specs.Automaton.{Automaton, IsAutomaton, next_of, start_of}
 
+-- the state of a number
+abbrev pub state_of : ℕ → StateNo
+state_of n = record { 0 = n }
+
 -- where a condition begins
-abbrev pub begin_of : Automaton → ℕ → ConditionStart
-begin_of A condition = record { at_line = start_of A condition true; elsewhere = start_of A condition false }
+abbrev pub begin_of : Automaton → ℕ → Starts
+begin_of A condition = record {
+  elsewhere = option_map state_of (start_of A condition false);
+  at_line = option_map state_of (start_of A condition true);
+}
 
 -- the rules are those of the states, one by one
 abbrev pub AreRulesOf : Automaton → List (Option RuleNo) → Type 0

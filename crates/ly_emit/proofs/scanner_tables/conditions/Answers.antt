@@ -2,7 +2,7 @@ use Rattle.std.proofs.Common.{rules, subst, sym}
 use Rattle.ly_emit.specs.Private.Listing.{IsStartOf}
 use Rattle.ly_emit.proofs.ListingLemmas.{each_more}
 use Rattle.ly_tables.specs.Values.{starts_from}
-use Rattle.ly_tables.specs.declared.starts.Starts as start
+use Rattle.ly_scan.specs.declared.starts.Starts as start
 use Rattle.ly_emit.proofs.scanner_tables.conditions.Goals as goal
 
 pub loop-condition-preserved : goal.loop-condition-preserved
