@@ -109,7 +109,8 @@ with_named h i (tokens k xs ns) e named said =
       preamble = record { declarations = more; start = h.preamble.start };
       tokens = h.tokens ++ ns;
     } ≡ i = cc in
-    subst HasNamed same (declared_append h.preamble.declarations (record { kind = k; symbols = xs } ∷ []) named (said, tt))
+    subst HasNamed same
+    (declared_append h.preamble.declarations (record { kind = k; symbols = xs } ∷ []) named (said, tt))
 with_named h i (start n) e named said = by h.preamble.start e
   where
     by : (o : Option (List ℕ)) → option_map (λ p. record { preamble = p; tokens = h.tokens })

@@ -8,7 +8,8 @@ use Rattle.ly_base.specs.Gap.{Gap}
 use Rattle.ly_base.specs.declared.language.Language.TheVariants.{Yacc}
 use Rattle.ly_base.proofs.WordBeforeLemmas.{word_none}
 use Rattle.ly_yaccread.specs.Private.Words.{IsPartWord, offsets_of, word_of, words_of}
-use Rattle.ly_yaccread.specs.Words.{Word, other, BeginsAt, GapPassed, Takes, Wording, AreWordsOf, free, end, stuck, more}
+use Rattle.ly_yaccread.specs.Words.{Word, other, BeginsAt, GapPassed, Takes, Wording, AreWordsOf, free, end, stuck}
+use Rattle.ly_yaccread.specs.Words.{more}
 use Rattle.ly_yaccread.specs.Words.{part_behind}
 use Rattle.ly_yaccread.specs.declared.part.Part.{Part}
 use Rattle.ly_yaccread.specs.declared.part.Part.TheVariants.{Programs}

@@ -47,7 +47,8 @@ yacc_name OutOfMemory = codes "OutOfMemory"
 
 -- A word of the file begins at this offset.
 abbrev pub IsWordOffset : List ℕ → ℕ → Type 0
-IsWordOffset bytes offset = (ws : List Word) × (offsets : List ℕ) × AreWordsOf bytes ws offsets × Contains offsets offset
+IsWordOffset bytes offset = (ws : List Word) × (offsets : List ℕ) × AreWordsOf bytes ws offsets
+    × Contains offsets offset
 
 -- The fault stands at a word of the file, or at its last byte, so at offset 0 of an empty one.
 abbrev pub StandsAt : List ℕ → YaccFault → Type 0

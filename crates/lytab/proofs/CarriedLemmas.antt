@@ -1,6 +1,6 @@
 -- What a command did is said of its request, whose paths are the bytes of those that the command has.
-use Rattle.std.proofs.Common.{◌≡◌, ap, Err, IfErr, IfOk, inl, inr, ◌∷◌, [], List, None, Ok, OnOk, Option, refl, Result, Some, subst, sym}
-use Rattle.std.proofs.Common.{option_map, ℕ}
+use Rattle.std.proofs.Common.{◌≡◌, ap, Err, IfErr, IfOk, inl, inr, ◌∷◌, [], List, None, Ok, OnOk, Option}
+use Rattle.std.proofs.Common.{option_map, refl, Result, Some, subst, sym, ℕ}
 use Rattle.std.specs.Prelude.{IsSome}
 use Rattle.std.specs.Result.{IsErrAnd}
 use Rattle.std.specs.Io.KnownBytes.{IsAtEnd}

@@ -71,7 +71,8 @@ fn write_files<'a, F: Files>(
     built: &Built,
 ) -> Result<(), FileFault<'a>>
     ensures tables { OnOk result (HasTaken ⟦<Counted<F::File> as Sink>⟧.contents built.now.tables.items) }
-    ensures report { OnOk result (IsWrittenIf ⟦<Counted<F::File> as Sink>⟧.contents paths.entry.report built.now.report) }
+    ensures report { OnOk result
+        (IsWrittenIf ⟦<Counted<F::File> as Sink>⟧.contents paths.entry.report built.now.report) }
 {
     write_file(files, paths.tables, &built.tables)?;
     write_if_named(files, paths.report, &built.report)?;

@@ -56,8 +56,10 @@ fn write_files<'a, F: Files>(
     paths: ExplainPaths<'a>,
     explanation: &Explanation,
 ) -> Result<(), FileFault<'a>>
-    ensures states { OnOk result (IsWrittenIf ⟦<Counted<F::File> as Sink>⟧.contents paths.entry.states explanation.now.states) }
-    ensures picture { OnOk result (IsWrittenIf ⟦<Counted<F::File> as Sink>⟧.contents paths.entry.graph explanation.now.picture) }
+    ensures states { OnOk result
+        (IsWrittenIf ⟦<Counted<F::File> as Sink>⟧.contents paths.entry.states explanation.now.states) }
+    ensures picture { OnOk result
+        (IsWrittenIf ⟦<Counted<F::File> as Sink>⟧.contents paths.entry.graph explanation.now.picture) }
 {
     write_if_named(files, paths.states, &explanation.states)?;
     write_if_named(files, paths.graph, &explanation.picture)?;

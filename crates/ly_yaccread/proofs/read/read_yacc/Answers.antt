@@ -19,6 +19,7 @@ returns-clause-refused c =
 pub returns-clause-within : goal.returns-clause-within
 returns-clause-within c =
     let read = c.in_ok-words.words.items in
-    fault_within c.args.bytes.now (words_of read) (offsets_of read) c.in_ok-words.ensures c.in-Err.refusal c.fault.result
+    fault_within c.args.bytes.now (words_of read) (offsets_of read) c.in_ok-words.ensures c.in-Err.refusal
+    c.fault.result
     (subst (λ (ws : List FileWord). IsFaultOf c.in-Err.refusal (length c.args.bytes.now) (offsets_of ws) c.fault.result)
     c.deref-in-Err.ensures.value c.fault.ensures)

@@ -22,7 +22,8 @@ overflow_sub-text c =
 pub returns-then-is_other : goal.returns-then-is_other
 returns-then-is_other c = one_last c.args.text.now c.loop-rest.rest.now c.word-front.result.behind.now
     c.loop-rest.words.items c.push.new.self.items c.loop-rest.part _ c.loop-rest.invariant.goes_on
-    c.loop-rest-test.ensures c.in_ok-push.ensures.items c.word-front.ensures.word (begins c.args.text.now c.loop-rest.rest.now c.word-front.result.from.now c.word-front.ensures.from
+    c.loop-rest-test.ensures c.in_ok-push.ensures.items c.word-front.ensures.word
+    (begins c.args.text.now c.loop-rest.rest.now c.word-front.result.from.now c.word-front.ensures.from
     c.loop-rest.invariant.within) c.if-is_other.ensures
 
 pub loop-rest-smaller : goal.loop-rest-smaller
@@ -44,7 +45,8 @@ loop-rest-preserved c =
           (sym c.behind-part.ensures)
           (one_more c.args.text.now c.loop-rest.rest.now front.behind.now c.loop-rest.words.items
           c.push.new.self.items c.loop-rest.part _ c.loop-rest.invariant.goes_on c.loop-rest-test.ensures
-          c.in_ok-push.ensures.items c.word-front.ensures.word (begins c.args.text.now c.loop-rest.rest.now c.word-front.result.from.now c.word-front.ensures.from
+          c.in_ok-push.ensures.items c.word-front.ensures.word
+          (begins c.args.text.now c.loop-rest.rest.now c.word-front.result.from.now c.word-front.ensures.from
           c.loop-rest.invariant.within) c.if-is_end.ensures c.if-is_other.ensures);
       within = omega arith;
     }
