@@ -72,10 +72,13 @@ pub fn write_if_named<'a, F: Files>(
 ) -> Result<(), FileFault<'a>>
     ensures { OnOk result (IsWrittenIf ⟦<Counted<F::File> as Sink>⟧.contents path.entry bytes.now) }
 {
-    if let (Some(path), Some(bytes)) = (path, bytes) {
-        write_file(files, path, bytes)?;
+    match path {
+        Some(path) => match bytes {
+            Some(bytes) => write_file(files, path, bytes),
+            None => Ok(()),
+        },
+        None => Ok(()),
     }
-    Ok(())
 }
 
 /// Writes the bytes to a device of this name.

@@ -1,5 +1,6 @@
 use Rattle.std.proofs.Common.{◌≡◌, IfOk, rules, subst, sym}
 use Rattle.std.specs.Io.KnownBytes.{Appends}
+use Rattle.ly_print.specs.declared.counted.Counted.{Counted}
 use Rattle.ly_generate.specs.Parser.{IsReportIf}
 use Rattle.ly_generate.proofs.GenFaultLemmas.{ok_weaker}
 use Rattle.lytab.specs.CarriedOut.{IsBuildTold}
@@ -13,7 +14,9 @@ returns-clause-built g c =
     let after = g.W.Sink.contents c.said.new.output in
     let is_said : IfOk c.said.result (λ done. (done ≡ Done) × Appends before after c.in_ok-line.line.items) =
     search rules in
-    subst (λ limits. IfOk c.said.result (IsBuildTold _ limits c.args.version c.args.paths.report before after))
+    subst (λ limits. IfOk c.said.result (IsBuildTold
+    (λ (d : Counted g.row.F-File.Denot). g.F.File.Write.contents d.inner)
+    limits c.args.version c.args.paths.report before after))
     c.version_2-limits.ensures
     (ok_weaker c.said.result _ _
     (λ done said. record {

@@ -32,12 +32,27 @@ returns-in-Build-clause-carried_out g c =
     rw c.in-Build.is (carried_build
     (λ (d : Counted g.row.F-File.Denot). g.F.File.Write.contents d.inner) (λ s. s.now)
     c.in-Build.paths.lex.now c.in-Build.paths.yacc.now c.in-Build.paths.tables.now c.in-Build.paths.report
-    c.in-Build.version c.build_tables.result _ c.build_tables.ensures.built c.build_tables.ensures.refused refl)
+    c.in-Build.version c.build_tables.result (record {
+      input_before = c.args.input.now;
+      input_after = c.args.input.now;
+      given = g.R.Source.remaining c.args.input.now;
+      left = g.R.Source.remaining c.args.input.now;
+      before = g.W.Sink.contents c.args.output.now;
+      after = g.W.Sink.contents c.build_tables.new.output;
+    })
+    c.build_tables.ensures.built c.build_tables.ensures.refused refl)
 
 pub returns-in-Explain-clause-carried_out : goal.returns-in-Explain-clause-carried_out
 returns-in-Explain-clause-carried_out g c =
-    let paths = c.in-Explain.field-0 in
+    let paths = c.in-Explain.paths in
     rw c.in-Explain.is (carried_explain
     (λ (d : Counted g.row.F-File.Denot). g.F.File.Write.contents d.inner) (λ s. s.now)
-    paths.lex.now paths.yacc.now paths.states paths.graph c.explain_files.result _
+    paths.lex.now paths.yacc.now paths.states paths.graph c.explain_files.result (record {
+      input_before = c.args.input.now;
+      input_after = c.args.input.now;
+      given = g.R.Source.remaining c.args.input.now;
+      left = g.R.Source.remaining c.args.input.now;
+      before = g.W.Sink.contents c.args.output.now;
+      after = g.W.Sink.contents c.explain_files.new.output;
+    })
     c.explain_files.ensures.said c.explain_files.ensures.failed refl)

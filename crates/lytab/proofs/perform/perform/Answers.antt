@@ -13,22 +13,19 @@ pub returns-in-Ok-carry_out-clause-performed : goal.returns-in-Ok-carry_out-clau
 returns-in-Ok-carry_out-clause-performed g c = λ request mean. record {
   result = Ok c.in-Ok-carry_out.completion;
   carried_out = subst (λ (q : Request). IsCarriedOut
-      (λ (d : Counted g.row.F-File.Denot). g.F.File.Write.contents d.inner) q (Ok c.in-Ok-carry_out.completion) _)
+      (λ (d : Counted g.row.F-File.Denot). g.F.File.Write.contents d.inner) q (Ok c.in-Ok-carry_out.completion)
+      (record {
+        input_before = c.args.input.now;
+        input_after = c.carry_out.new.input;
+        given = g.R.Source.remaining c.args.input.now;
+        left = g.R.Source.remaining c.carry_out.new.input;
+        before = g.W.Sink.contents c.args.output.now;
+        after = g.W.Sink.contents c.carry_out.new.output;
+      }))
       (c.in-Ok.ensures.taken request mean) c.in-Ok-carry_out.ensures.carried_out;
   is_status = c.status.ensures;
   output = told_of_known g.W.Sink.contents (Ok c.in-Ok-carry_out.completion) _ _ _ _
       c.in-Ok-carry_out.ensures.devices;
-}
-
-pub returns-in-Err-told-clause-performed : goal.returns-in-Err-told-clause-performed
-returns-in-Err-told-clause-performed g c = λ request mean. record {
-  result = Err c.in-Err-carry_out.failure;
-  carried_out = subst (λ (q : Request). IsCarriedOut
-      (λ (d : Counted g.row.F-File.Denot). g.F.File.Write.contents d.inner) q (Err c.in-Err-carry_out.failure) _)
-      (c.in-Ok.ensures.taken request mean) c.in-Err-carry_out.ensures.carried_out;
-  is_status = c.told.ensures.status;
-  output = told_of_known g.W.Sink.contents (Err c.in-Err-carry_out.failure) _ _ _ _
-      c.in-Err-carry_out.ensures.devices;
 }
 
 pub returns-in-Ok-said-clause-performed : goal.returns-in-Ok-said-clause-performed
