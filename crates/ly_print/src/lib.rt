@@ -7,6 +7,7 @@
 //! Left out: what a real file or terminal does. That is the word of its reads and writes.
 #![tactic(auto)]
 
+mod answer_form;
 mod counted;
 mod device;
 mod front;
@@ -19,6 +20,7 @@ mod text_writer;
 mod texts;
 mod whole;
 
+pub use answer_form::AnswerForm;
 pub use counted::Counted;
 pub use device::{DeviceFailed, Sink, Source};
 pub use front::Front;
