@@ -1,7 +1,7 @@
 -- The words that ask for something are taken, and ask for just that.
 use Rattle.std.proofs.Common.{◌≡◌, ◌∙◌, ◌++◌, ◌∷◌, [], List, ℕ, zero, suc, Some, None, true, refl, sym, ap}
-use Rattle.std.proofs.Common.{Err, IsErrAnd, MatchResult, Ok, Option, Result, ap₂, arith, codes, drop, false, find, inr}
-use Rattle.std.proofs.Common.{map, option_and_then, option_map, slice_index, subst, take, unwrap_or}
+use Rattle.std.proofs.Common.{Bool, Err, IsErrAnd, MatchResult, Ok, Option, Result, ap₂, arith, codes, drop, false, find, inr}
+use Rattle.std.proofs.Common.{map, option_and_then, option_map, slice_index, subst, take, true≢false, unwrap_or}
 use Rattle.std.specs.List.{flat_map, insert}
 use Rattle.clap.specs.Walk.{Text, answers_to, finished, nothing_held, walk_from}
 use Rattle.clap.specs.Simple.{Shape, built, help_shape, label_of}
@@ -9,8 +9,10 @@ use Rattle.clap.proofs.OnLiterals.{clap_on_literals}
 use Rattle.ly_base.specs.declared.version.Version.{Version}
 use Rattle.ly_base.specs.declared.version.Version.TheVariants.{V1, V2}
 use Rattle.ly_words.specs.CommandLine.{line_app, line_takes, request_by, request_of, subcommand_in, version_by}
-use Rattle.ly_words.specs.Paths.{ArePathWords, AskFor, IsMeant, IsPathWord, as_list, name_of, number_of, operands_of}
-use Rattle.ly_words.specs.Paths.{words_at, written_of}
+use Rattle.ly_print.specs.declared.answer_form.AnswerForm.{AnswerForm}
+use Rattle.ly_print.specs.declared.answer_form.AnswerForm.TheVariants.{Json, Plain}
+use Rattle.ly_words.specs.Paths.{ArePathWords, AskFor, IsMeant, IsPathWord, as_list, flags_of, form_words, name_of}
+use Rattle.ly_words.specs.Paths.{number_of, operands_of, pointing_words, words_at, written_of}
 use Rattle.ly_words.specs.Request.{Request, build, check, explain, run, tokens, try}
 use Rattle.ly_words.proofs.PathLemmas.{AreWords, IsLongName, Word, all_taken, held_after, level_taken, long, path}
 use Rattle.ly_words.proofs.PathLemmas.{rest_passes, rows_are, text_of}
@@ -32,15 +34,15 @@ record Asks (request : Request) (words : List Word) : Type 0 where
 
 enters : (request : Request) → Enters line_app (name_of request) (shape_at (name_of request))
 unfolding clap_on_literals
-enters (tokens lex text) =
+enters (tokens lex text points) =
     record { simple = refl; has_name = refl; met = refl; passes = refl; found = refl; rest = refl }
-enters (build lex yacc table_file report version) =
+enters (build lex yacc table_file report version points) =
     record { simple = refl; has_name = refl; met = refl; passes = refl; found = refl; rest = refl }
-enters (run table_file text) =
+enters (run table_file text by) =
     record { simple = refl; has_name = refl; met = refl; passes = refl; found = refl; rest = refl }
-enters (try lex yacc text) =
+enters (try lex yacc text by) =
     record { simple = refl; has_name = refl; met = refl; passes = refl; found = refl; rest = refl }
-enters (check table_file) =
+enters (check table_file by) =
     record { simple = refl; has_name = refl; met = refl; passes = refl; found = refl; rest = refl }
 enters (explain lex yacc states graph) =
     record { simple = refl; has_name = refl; met = refl; passes = refl; found = refl; rest = refl }
@@ -185,11 +187,11 @@ module _ (lex yacc table_file : Text) (paths : IsPathWord lex × IsPathWord yacc
     format_are : (j : ℕ) → AreWords (format_words j)
     format_are j = formatted_are j operand_words operands_are
 
-    format_asks : option_map (build lex yacc table_file None) (version_by (Some number))
-        ≡ Some (build lex yacc table_file None version)
-    format_asks = ap (option_map (build lex yacc table_file None)) is
+    format_asks : option_map (λ v. build lex yacc table_file None v false) (version_by (Some number))
+        ≡ Some (build lex yacc table_file None version false)
+    format_asks = ap (option_map (λ v. build lex yacc table_file None v false)) is
 
-    format_met : (j : ℕ) → Met (build lex yacc table_file None version)
+    format_met : (j : ℕ) → Met (build lex yacc table_file None version false)
         (flat_map (λ group. group) (insert operands (within_three j) (codes "--format" ∷ number ∷ [])))
     format_met zero = met (format_words 0) (format_are 0) refl refl refl format_asks
     format_met (suc zero) = met (format_words 1) (format_are 1) refl refl refl format_asks
@@ -207,11 +209,11 @@ module _ (lex yacc table_file : Text) (paths : IsPathWord lex × IsPathWord yacc
       both_are : (i j : ℕ) → AreWords (both i j)
       both_are i j = formatted_are j (reported i) (are_inserted operand_words i _ operands_are (report_name, (f, tt)))
 
-      both_ask : option_map (build lex yacc table_file (Some file)) (version_by (Some number))
-          ≡ Some (build lex yacc table_file (Some file) version)
-      both_ask = ap (option_map (build lex yacc table_file (Some file))) is
+      both_ask : option_map (λ v. build lex yacc table_file (Some file) v false) (version_by (Some number))
+          ≡ Some (build lex yacc table_file (Some file) version false)
+      both_ask = ap (option_map (λ v. build lex yacc table_file (Some file) v false)) is
 
-      both_met : (i j : ℕ) → Met (build lex yacc table_file (Some file) version)
+      both_met : (i j : ℕ) → Met (build lex yacc table_file (Some file) version false)
           (flat_map (λ group. group) (insert (insert operands (within_three i) (codes "--report" ∷ file ∷ []))
           (within_four j) (codes "--format" ∷ number ∷ [])))
       both_met zero zero = met (both 0 0) (both_are 0 0) refl refl refl both_ask
@@ -246,11 +248,11 @@ module _ (lex yacc table_file : Text) (paths : IsPathWord lex × IsPathWord yacc
     report_are : (i : ℕ) → AreWords (report_words i)
     report_are i = are_words (report_groups i) (are_inserted operand_words i _ operands_are (report_name, (f, tt)))
 
-    report_asks : option_map (build lex yacc table_file (Some file)) (version_by None)
-        ≡ Some (build lex yacc table_file (Some file) version)
-    report_asks = ap (option_map (build lex yacc table_file (Some file))) is
+    report_asks : option_map (λ v. build lex yacc table_file (Some file) v false) (version_by None)
+        ≡ Some (build lex yacc table_file (Some file) version false)
+    report_asks = ap (option_map (λ v. build lex yacc table_file (Some file) v false)) is
 
-    report_met : (i : ℕ) → Met (build lex yacc table_file (Some file) version)
+    report_met : (i : ℕ) → Met (build lex yacc table_file (Some file) version false)
         (flat_map (λ group. group) (insert operands (within_three i) (codes "--report" ∷ file ∷ [])))
     report_met zero = met (report_words 0) (report_are 0) refl refl refl report_asks
     report_met (suc zero) = met (report_words 1) (report_are 1) refl refl refl report_asks
@@ -273,22 +275,22 @@ number_is_word V2 = no_minus 50 (λ e. absurd (omega arith))
 build_met : (lex yacc table_file : Text) (report : Option Text) (version : Version) (i j : ℕ) (format : Option Version)
     → version ≡ unwrap_or format V2 → IsPathWord lex × IsPathWord yacc × IsPathWord table_file
     → ArePathWords (as_list report)
-    → Met (build lex yacc table_file report version)
-    (words_at i j (build lex yacc table_file report version) format)
+    → Met (build lex yacc table_file report version false)
+    (words_at i j (build lex yacc table_file report version false) format)
 build_met lex yacc table_file None version i j None e paths r =
     met (path lex ∷ path yacc ∷ path table_file ∷ []) (paths.0, (paths.1, (paths.2, tt))) refl refl refl
-    (ap (λ v. Some (build lex yacc table_file None v)) (sym e))
+    (ap (λ v. Some (build lex yacc table_file None v false)) (sym e))
 build_met lex yacc table_file None version i j (Some v) e paths r =
-    subst (λ groups. Met (build lex yacc table_file None version) (flat_map (λ group. group) groups))
+    subst (λ groups. Met (build lex yacc table_file None version false) (flat_map (λ group. group) groups))
     (insert_three (lex ∷ []) (yacc ∷ []) (table_file ∷ []) (codes "--format" ∷ number_of v ∷ []) j)
     (format_met lex yacc table_file paths version (number_of v) (number_is_word v)
     (number_says v ∙ ap (λ w. Some w) (sym e)) j)
 build_met lex yacc table_file (Some file) version i j None e paths r =
-    subst (λ groups. Met (build lex yacc table_file (Some file) version) (flat_map (λ group. group) groups))
+    subst (λ groups. Met (build lex yacc table_file (Some file) version false) (flat_map (λ group. group) groups))
     (insert_three (lex ∷ []) (yacc ∷ []) (table_file ∷ []) (codes "--report" ∷ file ∷ []) i)
     (report_met lex yacc table_file paths version file r.0 (ap (λ w. Some w) (sym e)) i)
 build_met lex yacc table_file (Some file) version i j (Some v) e paths r =
-    subst (λ groups. Met (build lex yacc table_file (Some file) version) (flat_map (λ group. group) groups))
+    subst (λ groups. Met (build lex yacc table_file (Some file) version false) (flat_map (λ group. group) groups))
     (insert_both (lex ∷ []) (yacc ∷ []) (table_file ∷ []) (codes "--report" ∷ file ∷ [])
     (codes "--format" ∷ number_of v ∷ []) i j)
     (both_met lex yacc table_file paths version (number_of v) (number_is_word v)
@@ -389,41 +391,102 @@ explain_met lex yacc (Some file) (Some picture) i j format paths r =
     (insert_both_in_two (lex ∷ []) (yacc ∷ []) (codes "--states" ∷ file ∷ []) (codes "--graph" ∷ picture ∷ []) i j)
     (all_met lex yacc paths picture r.1.0 file r.0 i j)
 
--- other commands have no options
-met_alone : (request : Request) (i j : ℕ) (format : Option Version) (words : List Word) → format ≡ None
-    → map text_of words ≡ words_at i j request None → Asks request words → Met request (words_at i j request format)
-met_alone request i j format words none texts asks = record {
-  words = words;
-  texts_are = texts ∙ ap (words_at i j request) (sym none);
-  asks = asks;
-}
+where_name : IsLongName (codes "where")
+where_name = record { is_read = refl; no_dashes = refl }
+
+json_name : IsLongName (codes "json")
+json_name = record { is_read = refl; no_dashes = refl }
+
+tokens_met : (lex : Text) (text : Option Text) (points : Bool) → ArePathWords (lex ∷ as_list text)
+    → Met (tokens lex text points) (pointing_words points ++ lex ∷ as_list text)
+tokens_met lex None true o = met (long (codes "where") ∷ path lex ∷ []) (where_name, o) refl refl refl refl
+tokens_met lex None false o = met (path lex ∷ []) o refl refl refl refl
+tokens_met lex (Some text) true o =
+    met (long (codes "where") ∷ path lex ∷ path text ∷ []) (where_name, o) refl refl refl refl
+tokens_met lex (Some text) false o = met (path lex ∷ path text ∷ []) o refl refl refl refl
+
+run_met : (table_file : Text) (text : Option Text) (form : AnswerForm) (points : Bool)
+    → ArePathWords (table_file ∷ as_list text)
+    → Met (run table_file text (record { form = form; points = points }))
+    ((form_words form ++ pointing_words points) ++ table_file ∷ as_list text)
+run_met table_file None Plain false o = met (path table_file ∷ []) o refl refl refl refl
+run_met table_file None Plain true o =
+    met (long (codes "where") ∷ path table_file ∷ []) (where_name, o) refl refl refl refl
+run_met table_file None Json false o =
+    met (long (codes "json") ∷ path table_file ∷ []) (json_name, o) refl refl refl refl
+run_met table_file None Json true o =
+    met (long (codes "json") ∷ long (codes "where") ∷ path table_file ∷ []) (json_name, (where_name, o))
+    refl refl refl refl
+run_met table_file (Some text) Plain false o = met (path table_file ∷ path text ∷ []) o refl refl refl refl
+run_met table_file (Some text) Plain true o =
+    met (long (codes "where") ∷ path table_file ∷ path text ∷ []) (where_name, o) refl refl refl refl
+run_met table_file (Some text) Json false o =
+    met (long (codes "json") ∷ path table_file ∷ path text ∷ []) (json_name, o) refl refl refl refl
+run_met table_file (Some text) Json true o =
+    met (long (codes "json") ∷ long (codes "where") ∷ path table_file ∷ path text ∷ [])
+    (json_name, (where_name, o)) refl refl refl refl
+
+try_met : (lex yacc : Text) (text : Option Text) (form : AnswerForm) (points : Bool)
+    → ArePathWords (lex ∷ yacc ∷ as_list text)
+    → Met (try lex yacc text (record { form = form; points = points }))
+    ((form_words form ++ pointing_words points) ++ lex ∷ yacc ∷ as_list text)
+try_met lex yacc None Plain false o = met (path lex ∷ path yacc ∷ []) o refl refl refl refl
+try_met lex yacc None Plain true o =
+    met (long (codes "where") ∷ path lex ∷ path yacc ∷ []) (where_name, o) refl refl refl refl
+try_met lex yacc None Json false o =
+    met (long (codes "json") ∷ path lex ∷ path yacc ∷ []) (json_name, o) refl refl refl refl
+try_met lex yacc None Json true o =
+    met (long (codes "json") ∷ long (codes "where") ∷ path lex ∷ path yacc ∷ []) (json_name, (where_name, o))
+    refl refl refl refl
+try_met lex yacc (Some text) Plain false o =
+    met (path lex ∷ path yacc ∷ path text ∷ []) o refl refl refl refl
+try_met lex yacc (Some text) Plain true o =
+    met (long (codes "where") ∷ path lex ∷ path yacc ∷ path text ∷ []) (where_name, o) refl refl refl refl
+try_met lex yacc (Some text) Json false o =
+    met (long (codes "json") ∷ path lex ∷ path yacc ∷ path text ∷ []) (json_name, o) refl refl refl refl
+try_met lex yacc (Some text) Json true o =
+    met (long (codes "json") ∷ long (codes "where") ∷ path lex ∷ path yacc ∷ path text ∷ [])
+    (json_name, (where_name, o)) refl refl refl refl
+
+check_met : (table_file : Text) (form : AnswerForm) (points : Bool) → ArePathWords (table_file ∷ [])
+    → Met (check table_file (record { form = form; points = points }))
+    ((form_words form ++ pointing_words points) ++ table_file ∷ [])
+check_met table_file Plain false o = met (path table_file ∷ []) o refl refl refl refl
+check_met table_file Plain true o =
+    met (long (codes "where") ∷ path table_file ∷ []) (where_name, o) refl refl refl refl
+check_met table_file Json false o =
+    met (long (codes "json") ∷ path table_file ∷ []) (json_name, o) refl refl refl refl
+check_met table_file Json true o =
+    met (long (codes "json") ∷ long (codes "where") ∷ path table_file ∷ []) (json_name, (where_name, o))
+    refl refl refl refl
+
+-- no version is said with other commands
+unversioned : (request : Request) (i j : ℕ) (format : Option Version) → format ≡ None
+    → Met request (flags_of request ++ words_at i j request None)
+    → Met request (flags_of request ++ words_at i j request format)
+unversioned request i j format none m =
+    subst (λ f. Met request (flags_of request ++ words_at i j request f)) (sym none) m
 
 met_at : (request : Request) (i j : ℕ) (format : Option Version) → IsMeant request format
     → ArePathWords (operands_of request) → ArePathWords (written_of request)
-    → Met request (words_at i j request format)
-met_at (tokens lex None) i j format m o r =
-    met_alone (tokens lex None) i j format (path lex ∷ []) m refl
-    (record { are = o; each = refl; rest = refl; found = refl })
-met_at (tokens lex (Some text)) i j format m o r =
-    met_alone (tokens lex (Some text)) i j format (path lex ∷ path text ∷ []) m refl
-    (record { are = o; each = refl; rest = refl; found = refl })
-met_at (build lex yacc table_file report version) i j format m o r =
-    build_met lex yacc table_file report version i j format m (o.0, o.1.0, o.1.1.0) r
-met_at (run table_file None) i j format m o r =
-    met_alone (run table_file None) i j format (path table_file ∷ []) m refl
-    (record { are = o; each = refl; rest = refl; found = refl })
-met_at (run table_file (Some text)) i j format m o r =
-    met_alone (run table_file (Some text)) i j format (path table_file ∷ path text ∷ []) m refl
-    (record { are = o; each = refl; rest = refl; found = refl })
-met_at (try lex yacc None) i j format m o r =
-    met_alone (try lex yacc None) i j format (path lex ∷ path yacc ∷ []) m refl
-    (record { are = o; each = refl; rest = refl; found = refl })
-met_at (try lex yacc (Some text)) i j format m o r =
-    met_alone (try lex yacc (Some text)) i j format (path lex ∷ path yacc ∷ path text ∷ []) m refl
-    (record { are = o; each = refl; rest = refl; found = refl })
-met_at (check table_file) i j format m o r =
-    met_alone (check table_file) i j format (path table_file ∷ []) m refl
-    (record { are = o; each = refl; rest = refl; found = refl })
+    → Met request (flags_of request ++ words_at i j request format)
+met_at (tokens lex None points) i j format m o r =
+    unversioned (tokens lex None points) i j format m (tokens_met lex None points o)
+met_at (tokens lex (Some text) points) i j format m o r =
+    unversioned (tokens lex (Some text) points) i j format m (tokens_met lex (Some text) points o)
+met_at (build lex yacc table_file report version false) i j format m o r =
+    build_met lex yacc table_file report version i j format m.0 (o.0, o.1.0, o.1.1.0) r
+met_at (build lex yacc table_file report version true) i j format m o r = absurd (true≢false m.1)
+met_at (run table_file None by) i j format m o r =
+    unversioned (run table_file None by) i j format m (run_met table_file None by.form by.points o)
+met_at (run table_file (Some text) by) i j format m o r =
+    unversioned (run table_file (Some text) by) i j format m (run_met table_file (Some text) by.form by.points o)
+met_at (try lex yacc None by) i j format m o r =
+    unversioned (try lex yacc None by) i j format m (try_met lex yacc None by.form by.points o)
+met_at (try lex yacc (Some text) by) i j format m o r =
+    unversioned (try lex yacc (Some text) by) i j format m (try_met lex yacc (Some text) by.form by.points o)
+met_at (check table_file by) i j format m o r =
+    unversioned (check table_file by) i j format m (check_met table_file by.form by.points o)
 met_at (explain lex yacc states graph) i j format m o r =
     explain_met lex yacc states graph i j format (o.0, o.1.0) r
 

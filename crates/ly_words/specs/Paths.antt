@@ -1,10 +1,14 @@
 -- Words that are paths, and the words that ask for something.
-use Rattle.std.specs.Prelude.{◌≡◌, ◌⊎◌, ◌++◌, ◌∷◌, [], ℕ, List, Option, Some, None, codes, map, option_map, unwrap_or}
+use Rattle.std.specs.Prelude.{◌≡◌, ◌⊎◌, ◌++◌, ◌∷◌, [], ℕ, Bool, List, Option, Some, None, codes, false, map, option_map}
+use Rattle.std.specs.Prelude.{true, unwrap_or}
 use Rattle.std.specs.List.{flat_map, insert}
 use Rattle.clap.specs.Words.{Text}
 use Rattle.ly_base.specs.declared.version.Version.{Version}
 use Rattle.ly_base.specs.declared.version.Version.TheVariants.{V1, V2}
+use Rattle.ly_print.specs.declared.answer_form.AnswerForm.{AnswerForm}
+use Rattle.ly_print.specs.declared.answer_form.AnswerForm.TheVariants.{Json, Plain}
 use Rattle.ly_words.specs.Request.{Request, build, check, explain, run, tokens, try}
+use Rattle.ly_words.specs.declared.command.Answering.{Answering}
 
 -- a word that is no option: a minus sign alone, or one that doesn't begin with it
 abbrev pub IsPathWord : Text → Type 0
@@ -19,32 +23,54 @@ as_list None = []
 as_list (Some word) = word ∷ []
 
 abbrev pub name_of : Request → Text
-name_of (tokens lex text) = codes "tokens"
-name_of (build lex yacc table_file report version) = codes "build"
-name_of (run table_file text) = codes "run"
-name_of (try lex yacc text) = codes "try"
-name_of (check table_file) = codes "check"
+name_of (tokens lex text points) = codes "tokens"
+name_of (build lex yacc table_file report version points) = codes "build"
+name_of (run table_file text by) = codes "run"
+name_of (try lex yacc text by) = codes "try"
+name_of (check table_file by) = codes "check"
 name_of (explain lex yacc states graph) = codes "explain"
 
 -- the words that stand behind the command's name in this order
 abbrev pub operands_of : Request → List Text
-operands_of (tokens lex text) = lex ∷ as_list text
-operands_of (build lex yacc table_file report version) = lex ∷ yacc ∷ table_file ∷ []
-operands_of (run table_file text) = table_file ∷ as_list text
-operands_of (try lex yacc text) = lex ∷ yacc ∷ as_list text
-operands_of (check table_file) = table_file ∷ []
+operands_of (tokens lex text points) = lex ∷ as_list text
+operands_of (build lex yacc table_file report version points) = lex ∷ yacc ∷ table_file ∷ []
+operands_of (run table_file text by) = table_file ∷ as_list text
+operands_of (try lex yacc text by) = lex ∷ yacc ∷ as_list text
+operands_of (check table_file by) = table_file ∷ []
 operands_of (explain lex yacc states graph) = lex ∷ yacc ∷ []
 
 -- the files beside these that are written
 abbrev pub written_of : Request → List Text
-written_of (build lex yacc table_file report version) = as_list report
+written_of (build lex yacc table_file report version points) = as_list report
 written_of (explain lex yacc states graph) = as_list states ++ as_list graph
 written_of _ = []
 
--- the version that is said is the one that is meant, which is the second where none is said
+-- the version that is said is the one that is meant, which is the second where none is said; a build points at nothing
 abbrev pub IsMeant : Request → Option Version → Type 0
-IsMeant (build lex yacc table_file report version) format = version ≡ unwrap_or format V2
+IsMeant (build lex yacc table_file report version points) format = (version ≡ unwrap_or format V2) × (points ≡ false)
 IsMeant _ format = format ≡ None
+
+-- the flag that points
+abbrev pub pointing_words : Bool → List Text
+pointing_words true = codes "--where" ∷ []
+pointing_words false = []
+
+-- the flag of a form, which the plain one has not
+abbrev pub form_words : AnswerForm → List Text
+form_words Json = codes "--json" ∷ []
+form_words Plain = []
+
+-- the flags of a command that is answered so
+abbrev pub answering_words : Answering → List Text
+answering_words by = form_words by.form ++ pointing_words by.points
+
+-- the flags that stand in front of the operands
+abbrev pub flags_of : Request → List Text
+flags_of (tokens lex text points) = pointing_words points
+flags_of (run table_file text by) = answering_words by
+flags_of (try lex yacc text by) = answering_words by
+flags_of (check table_file by) = answering_words by
+flags_of _ = []
 
 -- how a version is said
 abbrev pub number_of : Version → Text
@@ -57,13 +83,13 @@ option_words name value = option_map (λ v. name ∷ v ∷ []) value
 
 -- the first option of a command, if it is said
 abbrev pub first_option : Request → Option (List Text)
-first_option (build lex yacc table_file report version) = option_words (codes "--report") report
+first_option (build lex yacc table_file report version points) = option_words (codes "--report") report
 first_option (explain lex yacc states graph) = option_words (codes "--states") states
 first_option _ = None
 
 -- the second option, where this version is said
 abbrev pub second_option : Request → Option Version → Option (List Text)
-second_option (build lex yacc table_file report version) format =
+second_option (build lex yacc table_file report version points) format =
     option_words (codes "--format") (option_map number_of format)
 second_option (explain lex yacc states graph) format = option_words (codes "--graph") graph
 second_option _ format = None
@@ -80,8 +106,9 @@ words_at first_place second_place request format = flat_map (λ group. group)
     (with_option second_place (second_option request format)
     (with_option first_place (first_option request) (map (λ word. word ∷ []) (operands_of request))))
 
--- The words ask for this: they are the program's name, the command's, and the operands, with the options among them
--- wherever; and all its paths are words of paths.
+-- The words ask for this: they are the program's name, the command's, the flags, and the operands, with the options
+-- among these wherever; and all its paths are words of paths. (Words of other forms may mean it too: a flag behind its
+-- operands, or one of a build.)
 pub record AskFor (words : List Text) (request : Request) : Type 0 where
   pub program : Text
   pub first_place : ℕ
@@ -89,6 +116,7 @@ pub record AskFor (words : List Text) (request : Request) : Type 0 where
   -- the version that is said, if one is
   pub format : Option Version
   pub format_is_meant : IsMeant request format
-  pub words_are : words ≡ program ∷ name_of request ∷ words_at first_place second_place request format
+  pub words_are : words
+      ≡ program ∷ name_of request ∷ (flags_of request ++ words_at first_place second_place request format)
   pub operand_paths : ArePathWords (operands_of request)
   pub written_paths : ArePathWords (written_of request)

@@ -1,13 +1,15 @@
 -- What the words of a line ask for.
-use Rattle.std.specs.Prelude.{Option}
+use Rattle.std.specs.Prelude.{Bool, Option}
 use Rattle.clap.specs.Words.{Text}
 use Rattle.ly_base.specs.declared.version.Version.{Version}
+use Rattle.ly_words.specs.declared.command.Answering.{Answering}
 
--- a command, with the paths that it is given, and the version of a table file that is written
+-- A command, with the paths that it is given, the version of a table file that is written, and how it is answered, or
+-- whether it points at what is wrong.
 pub data Request : Type 0 where
-  tokens : (lex : Text) → (text : Option Text) → Request
-  build : (lex yacc tables : Text) → (report : Option Text) → (version : Version) → Request
-  run : (tables : Text) → (text : Option Text) → Request
-  try : (lex yacc : Text) → (text : Option Text) → Request
-  check : (tables : Text) → Request
+  tokens : (lex : Text) → (text : Option Text) → (points : Bool) → Request
+  build : (lex yacc tables : Text) → (report : Option Text) → (version : Version) → (points : Bool) → Request
+  run : (tables : Text) → (text : Option Text) → (by : Answering) → Request
+  try : (lex yacc : Text) → (text : Option Text) → (by : Answering) → Request
+  check : (tables : Text) → (by : Answering) → Request
   explain : (lex yacc : Text) → (states graph : Option Text) → Request

@@ -2,6 +2,7 @@ ghost use Rattle.ly_words.specs.declared.command.CommandFault.TheVariants.{OutOf
 ghost use Rattle.std.specs.Prelude.{◌≡◌};
 
 use ly_base::Version;
+use ly_print::AnswerForm;
 use std::alloc::AllocError;
 
 /// What the words ask for. Each `&str` is a path; standard input is read where there is no `text`.
@@ -13,6 +14,8 @@ pub enum Command<'a> {
         lex: &'a str,
         /// The text.
         text: Option<&'a str>,
+        /// Whether standard error says where something is wrong, and shows it.
+        points: bool,
     },
     /// Write the table file of a lex file and a yacc file.
     Build {
@@ -20,6 +23,8 @@ pub enum Command<'a> {
         paths: Paths<'a>,
         /// The version of the table file.
         version: Version,
+        /// Whether standard error says where something is wrong, and shows it.
+        points: bool,
     },
     /// Answer a text by a table file.
     Run {
@@ -27,6 +32,8 @@ pub enum Command<'a> {
         tables: &'a str,
         /// The text.
         text: Option<&'a str>,
+        /// How it is answered.
+        by: Answering,
     },
     /// Answer a text by a lex file and a yacc file.
     Try {
@@ -36,14 +43,27 @@ pub enum Command<'a> {
         yacc: &'a str,
         /// The text.
         text: Option<&'a str>,
+        /// How it is answered.
+        by: Answering,
     },
     /// Count what a table file is made of.
     Check {
         /// The table file.
         tables: &'a str,
+        /// How this is answered.
+        by: Answering,
     },
     /// Say what is wrong with a lex file and a yacc file, or doubtful in them.
     Explain(ExplainPaths<'a>),
+}
+
+/// How something is answered.
+#[derive(Clone, Copy, Debug, PartialEq, Eq)]
+pub struct Answering {
+    /// How the answer is written.
+    pub form: AnswerForm,
+    /// Whether standard error says where something is wrong, and shows it.
+    pub points: bool,
 }
 
 /// The paths of what is read and written where tables are built.

@@ -1,24 +1,27 @@
 ghost use Rattle.std.specs.Prelude.{◌≡◌, IfErr, IfOk, IsSome, OnOk, Some, [], map, option_and_then, option_map};
 ghost use Rattle.std.specs.Prelude.{MatchResult, string_bytes, true};
 ghost use Rattle.clap.specs.Words.{first_value, found_of, kind_of, subcommand_rows_of};
-ghost use Rattle.ly_words.specs.CommandLine.{build_by, check_by, explain_by, line_faults, line_takes, request_by, Mean};
-ghost use Rattle.ly_words.specs.CommandLine.{request_of, run_by, subcommand_in, tokens_by, try_by, version_by};
+ghost use Rattle.ly_words.specs.CommandLine.{answering_by, build_by, check_by, explain_by, is_said, line_faults};
+ghost use Rattle.ly_words.specs.CommandLine.{line_takes, request_by, request_of, run_by, subcommand_in, tokens_by};
+ghost use Rattle.ly_words.specs.CommandLine.{try_by, version_by, Mean};
 ghost use Rattle.ly_words.specs.Command.{said};
 ghost use Rattle.ly_words.specs.Request.{Request};
 
-use crate::command::{Command, CommandFault, ExplainPaths, Paths};
+use crate::command::{Answering, Command, CommandFault, ExplainPaths, Paths};
 use crate::line::line;
 use clap::ArgMatches;
 use clap::error::ErrorKind;
 use ly_base::Version;
+use ly_print::AnswerForm;
 use std::alloc::{AllocError, Global};
 
 /// Where `clap` takes the words, nothing else can be wrong with them.
 const NO_VERSION: &str = "error: invalid value for '--format <VERSION>': it must be 1 or 2\n";
 
-/// Reads the words of the line, of which the first is the program's name: `tokens LEX [TEXT]`,
-/// `build LEX YACC TABLES [--report FILE] [--format 1|2]`, `run TABLES [TEXT]`, `try LEX YACC [TEXT]`,
-/// `check TABLES` or `explain LEX YACC [--states FILE] [--graph FILE]`.
+/// Reads the words of the line, of which the first is the program's name: `tokens LEX [TEXT] [--where]`,
+/// `build LEX YACC TABLES [--report FILE] [--format 1|2] [--where]`, `run TABLES [TEXT] [--json] [--where]`,
+/// `try LEX YACC [TEXT] [--json] [--where]`, `check TABLES [--json] [--where]` or
+/// `explain LEX YACC [--states FILE] [--graph FILE]`.
 ///
 /// `Help` comes where a help text or the version is asked for, `Bad` where `clap` refuses the words for another reason
 /// or they ask for another version of a table file, `OutOfMemory` where a growth was refused.
@@ -73,7 +76,32 @@ fn tokens_in<'a>(values: &ArgMatches<'a>) -> Option<Command<'a>>
     Some(Command::Tokens {
         lex: values.get_str("LEX")?,
         text: values.get_str("TEXT"),
+        points: is_said(values, "WHERE"),
     })
+}
+
+/// How something is answered, by the flags that are said.
+fn answering_in(values: &ArgMatches<'_>) -> Answering
+    ensures { result ≡ answering_by (first_value (found_of values.now)) }
+{
+    Answering {
+        form: if is_said(values, "JSON") {
+            AnswerForm::Json
+        } else {
+            AnswerForm::Plain
+        },
+        points: is_said(values, "WHERE"),
+    }
+}
+
+/// Whether a flag is said.
+fn is_said(values: &ArgMatches<'_>, id: &str) -> bool
+    ensures { result ≡ is_said (first_value (found_of values.now)) id.now }
+{
+    match values.get_str(id) {
+        Some(word) => word == "true",
+        None => false,
+    }
 }
 
 /// The command `build` with these values.
@@ -89,6 +117,7 @@ fn build_in<'a>(values: &ArgMatches<'a>) -> Option<Command<'a>>
     Some(Command::Build {
         paths,
         version: version_of(values.get_str("VERSION"))?,
+        points: is_said(values, "WHERE"),
     })
 }
 
@@ -113,6 +142,7 @@ fn run_in<'a>(values: &ArgMatches<'a>) -> Option<Command<'a>>
     Some(Command::Run {
         tables: values.get_str("TABLES")?,
         text: values.get_str("TEXT"),
+        by: answering_in(values),
     })
 }
 
@@ -124,6 +154,7 @@ fn try_in<'a>(values: &ArgMatches<'a>) -> Option<Command<'a>>
         lex: values.get_str("LEX")?,
         yacc: values.get_str("YACC")?,
         text: values.get_str("TEXT"),
+        by: answering_in(values),
     })
 }
 
@@ -133,6 +164,7 @@ fn check_in<'a>(values: &ArgMatches<'a>) -> Option<Command<'a>>
 {
     Some(Command::Check {
         tables: values.get_str("TABLES")?,
+        by: answering_in(values),
     })
 }
 

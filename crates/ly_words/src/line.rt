@@ -1,10 +1,10 @@
-ghost use Rattle.std.specs.Prelude.{◌≡◌, IfOk, false};
+ghost use Rattle.std.specs.Prelude.{◌≡◌, IfOk, codes, false};
 ghost use Rattle.clap.specs.Words.{App, app_of, rule_of, with_subcommand};
 ghost use Rattle.ly_words.specs.CommandLine.{IsApp, build_app, build_paths_app, check_app, explain_app};
-ghost use Rattle.ly_words.specs.CommandLine.{files_app, format_rule, graph_rule, line_app, states_rule};
-ghost use Rattle.ly_words.specs.CommandLine.{path_rule, report_rule, run_app, text_rule, tokens_app, top_app, try_app};
+ghost use Rattle.ly_words.specs.CommandLine.{files_app, flag_rule, format_rule, graph_rule, line_app, path_rule};
+ghost use Rattle.ly_words.specs.CommandLine.{report_rule, run_app, states_rule, text_rule, tokens_app, top_app, try_app};
 
-use clap::{Arg, Command};
+use clap::{Arg, ArgAction, Command};
 use std::alloc::{AllocError, Global};
 
 /// The version of the program. Table files have versions of their own.
@@ -50,14 +50,18 @@ fn tokens_line<'a>(alloc: Global) -> Result<Command<'a>, AllocError>
     Command::new(alloc, "tokens")
         .about("Writes the tokens of a text, one a line")
         .arg(path(alloc, "LEX", LEX))?
-        .arg(text(alloc))
+        .arg(text(alloc))?
+        .arg(pointing(alloc))
 }
 
 /// The subcommand `build`.
 fn build_line<'a>(alloc: Global) -> Result<Command<'a>, AllocError>
     ensures { IfOk result (IsApp build_app) }
 {
-    build_paths(alloc)?.arg(report(alloc))?.arg(format(alloc))
+    build_paths(alloc)?
+        .arg(report(alloc))?
+        .arg(format(alloc))?
+        .arg(pointing(alloc))
 }
 
 /// The subcommand `build` with its paths alone.
@@ -78,7 +82,9 @@ fn run_line<'a>(alloc: Global) -> Result<Command<'a>, AllocError>
     Command::new(alloc, "run")
         .about("Writes the tree of a text by a table file")
         .arg(path(alloc, "TABLES", BUILT))?
-        .arg(text(alloc))
+        .arg(text(alloc))?
+        .arg(json(alloc))?
+        .arg(pointing(alloc))
 }
 
 /// The subcommand `try`.
@@ -86,7 +92,10 @@ fn try_line<'a>(alloc: Global) -> Result<Command<'a>, AllocError>
     ensures { IfOk result (IsApp try_app) }
 {
     let about = "Writes the tree of a text by a grammar, at once";
-    files(alloc, "try", about)?.arg(text(alloc))
+    files(alloc, "try", about)?
+        .arg(text(alloc))?
+        .arg(json(alloc))?
+        .arg(pointing(alloc))
 }
 
 /// The subcommand `check`.
@@ -95,7 +104,9 @@ fn check_line<'a>(alloc: Global) -> Result<Command<'a>, AllocError>
 {
     Command::new(alloc, "check")
         .about("Reads a table file, and counts what it is made of")
-        .arg(path(alloc, "TABLES", BUILT))
+        .arg(path(alloc, "TABLES", BUILT))?
+        .arg(json(alloc))?
+        .arg(pointing(alloc))
 }
 
 /// The subcommand `explain`.
@@ -139,6 +150,28 @@ fn text<'a>(alloc: Global) -> Arg<'a>
     ensures local { result.global ≡ false }
 {
     Arg::new(alloc, "TEXT").help("The text; standard input if it is left out")
+}
+
+/// The flag of JSON.
+fn json<'a>(alloc: Global) -> Arg<'a>
+    ensures rule { rule_of result ≡ flag_rule (codes "JSON") (codes "json") }
+    ensures local { result.global ≡ false }
+{
+    Arg::new(alloc, "JSON")
+        .long("json")
+        .action(ArgAction::SetTrue)
+        .help("Writes the answer as one line of JSON")
+}
+
+/// The flag of what points at a fault.
+fn pointing<'a>(alloc: Global) -> Arg<'a>
+    ensures rule { rule_of result ≡ flag_rule (codes "WHERE") (codes "where") }
+    ensures local { result.global ≡ false }
+{
+    Arg::new(alloc, "WHERE")
+        .long("where")
+        .action(ArgAction::SetTrue)
+        .help("Says on standard error where something is wrong, and shows it")
 }
 
 /// The option of a report.
