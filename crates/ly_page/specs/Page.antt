@@ -3,10 +3,11 @@ use Rattle.std.specs.Prelude.{◌≡◌, ℕ, List, [], ◌∷◌, ◌++◌, Opt
 use Rattle.std.specs.Prelude.{option_map, unwrap_or, slice_get, OnSome, IfSome, if◌then◌else◌, codes}
 use Rattle.std.specs.Fmt.{decimal}
 use Rattle.std.specs.Option.{option_and_then}
-use Rattle.ly_base.specs.Bytes.{space}
+use Rattle.ly_base.specs.Bytes.{single_quote, space}
 use Rattle.ly_base.specs.declared.location.Location.{Location}
 use Rattle.ly_join.specs.Grammar.{GrammarRule, Symbol, nonterminal, terminal}
 use Rattle.ly_join.specs.Joined.{Spec}
+use Rattle.ly_print.specs.Text.{escaped}
 use Rattle.ly_report.specs.Report.{behind_spaces, symbol_name}
 
 -- a page with these bytes behind what stands there
@@ -29,6 +30,10 @@ SaysPrinted old printed new = OnSome new
 -- a number, and its singular or its plural
 abbrev pub counted : ℕ → List ℕ → List ℕ → List ℕ
 counted n one many = decimal n ++ space ∷ (if n == 1 then one else many)
+
+-- bytes as they stand between single quotes
+abbrev pub quoted_words : List ℕ → List ℕ
+quoted_words bytes = single_quote ∷ (escaped single_quote bytes ++ single_quote ∷ [])
 
 -- the name of a file, and a line of it
 abbrev pub line_of : List ℕ → ℕ → List ℕ

@@ -4,8 +4,10 @@
 //! Left out: what is said.
 #![tactic(auto)]
 
+mod excerpt;
 mod named;
 mod page;
 
+pub use excerpt::MARGIN;
 pub use named::Named;
 pub use page::Page;

@@ -12,6 +12,14 @@ pub struct Named<'t> {
 }
 
 impl<'t> Named<'t> {
+    /// The file of these bytes, by this name.
+    pub fn new(name: &'t str, bytes: &'t [u8]) -> Named<'t>
+        ensures name { result.name ≡ name.entry }
+        ensures bytes { result.bytes ≡ bytes.entry }
+    {
+        Named { name, bytes }
+    }
+
     /// The bytes of the line of a number, counted from 1, without its end; none where there is no such line.
     pub fn line(&self, number: u64) -> Option<&'t [u8]>
         ensures { option_copied result ≡ line_at self.now.bytes.now number }

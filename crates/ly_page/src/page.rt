@@ -5,13 +5,13 @@ ghost use Rattle.ly_print.specs.Text.{literal, name_of};
 ghost use Rattle.ly_join.specs.Grammar.{symbol_of, terminal as symbol_at};
 ghost use Rattle.ly_join.specs.Terminals.{terminal_from};
 ghost use Rattle.ly_report.specs.Report.{symbol_name, terminal_name};
-ghost use Rattle.ly_page.specs.Page.{body_words, counted, line_of, location_in, numbered_words, Says, SaysPrinted};
-ghost use Rattle.ly_page.specs.Page.{spaced_words, symbol_words};
+ghost use Rattle.ly_page.specs.Page.{body_words, counted, line_of, location_in, numbered_words, quoted_words, Says};
+ghost use Rattle.ly_page.specs.Page.{SaysMore, SaysPrinted, spaced_words, symbol_words};
 
 use crate::named::Named;
 use ly_base::{Location, OutOfMemory, Sym};
 use ly_join::{Spec, Symbol, TerminalName};
-use ly_print::{Terminal, push_name};
+use ly_print::{Terminal, push_escaped, push_name};
 use ly_report::push_terminal;
 use std::alloc::{AllocError, Global};
 use std::fmt::Display;
@@ -85,6 +85,21 @@ impl Page {
         }
     }
 
+    /// What is said on another page.
+    pub fn say_page(&mut self, page: Page)
+        ensures { SaysMore self.old self.new }
+    {
+        match page.finish() {
+            Ok(text) => self.say(&text),
+            Err(OutOfMemory) => self.said = Err(OutOfMemory),
+        }
+    }
+
+    /// Where room is taken from.
+    pub(crate) fn allocator(&self) -> Global {
+        *self.text.allocator()
+    }
+
     /// A number.
     pub fn say_number(&mut self, number: u64)
         ensures { Says self.old (decimal number) self.new }
@@ -98,7 +113,7 @@ impl Page {
     pub fn say_words<T: Display>(&mut self, value: &T)
         ensures { SaysPrinted self.old (T.output value.now) self.new }
     {
-        match value.to_string(*self.text.allocator()) {
+        match value.to_string(self.allocator()) {
             Ok(words) => self.say(words.as_bytes()),
             Err(refused) => self.note(Err(refused)),
         }
@@ -121,6 +136,18 @@ impl Page {
             let said = push_name(&mut self.text, Terminal::Literal(byte));
             self.note(said);
         }
+    }
+
+    /// Bytes as they stand between single quotes.
+    pub fn say_quoted(&mut self, bytes: &[u8])
+        ensures { Says self.old (quoted_words bytes.now) self.new }
+    {
+        self.say(b"'");
+        if self.said.is_ok() {
+            let said = push_escaped(&mut self.text, b'\'', bytes);
+            self.note(said);
+        }
+        self.say(b"'");
     }
 
     /// The name of a file, and a line of it.

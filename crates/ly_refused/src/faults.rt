@@ -32,6 +32,26 @@ pub fn say_faults(
     Ok(())
 }
 
+/// Says the faults of a lex file that is refused for this one: all that can be told apart, or else this one.
+///
+/// `OutOfMemory` comes where a growth was refused that wasn't the page's; the page stays as it was then.
+pub fn say_lex_faults(
+    alloc: Global,
+    page: &mut Page,
+    lex: Named<'_>,
+    limits: &Limits,
+    fault: &GenFault,
+) -> Result<(), OutOfMemory>
+    ensures ok { OnOk result (SaysMore page.old page.new) }
+    ensures refused { OnErr result (page.new ≡ page.old) }
+{
+    let mut findings = Findings::new(alloc);
+    find_lex_faults(alloc, &mut findings, lex.bytes, limits)?;
+    let told = told(alloc, lex, lex, &findings, fault)?;
+    page.say(&told);
+    Ok(())
+}
+
 /// The faults of two files, as they are said.
 fn told_faults(
     alloc: Global,
@@ -41,6 +61,17 @@ fn told_faults(
     fault: &GenFault,
 ) -> Result<Vec<u8>, OutOfMemory> {
     let findings = findings_in(alloc, lex.bytes, yacc.bytes, limits)?;
+    told(alloc, lex, yacc, &findings, fault)
+}
+
+/// The faults that are found in two files, as they are said, or else this one.
+fn told(
+    alloc: Global,
+    lex: Named<'_>,
+    yacc: Named<'_>,
+    findings: &Findings,
+    fault: &GenFault,
+) -> Result<Vec<u8>, OutOfMemory> {
     let mut page = Page::new(alloc);
     if findings.is_empty() {
         let at = match fault {
@@ -49,7 +80,7 @@ fn told_faults(
         };
         say_fault(&mut page, lex, yacc, fault, at, &Advice::of_whole(fault));
     } else {
-        say_findings(&mut page, lex, yacc, &findings);
+        say_findings(&mut page, lex, yacc, findings);
     }
     page.finish()
 }

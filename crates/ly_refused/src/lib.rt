@@ -1,5 +1,5 @@
-//! From two files that are refused to the faults of them that can be told apart, as they are said: `say_faults`. What
-//! is said of accepted files is in `ly_accepted`.
+//! From two files that are refused to the faults of them that can be told apart, as they are said: `say_faults`, and
+//! `say_lex_faults` for a lex file alone. What is said of accepted files is in `ly_accepted`.
 //!
 //! A file is read; where it is refused, what the fault stands in is mended in a copy, and the copy is read, until it
 //! says something or so many faults are found. Then both files are joined, and what is at fault there is mended in
@@ -31,5 +31,5 @@ mod yacc_mending;
 mod yacc_places;
 mod yacc_units;
 
-pub use faults::say_faults;
+pub use faults::{say_faults, say_lex_faults};
 pub use lex_units::indented_lines;

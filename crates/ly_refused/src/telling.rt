@@ -1,16 +1,9 @@
 use crate::advice::Advice;
 use crate::finding::Findings;
-use crate::location::bytes_before;
-use ly_base::{Location, OutOfMemory};
+use ly_base::Location;
 use ly_generate::GenFault;
 use ly_join::{JoinFault, Limit};
-use ly_page::{Named, Page};
-
-/// What stands before each line of a file and what is said under it.
-const MARGIN: &[u8] = b"    ";
-
-/// How many bytes of a line are said.
-const WIDEST: usize = 160;
+use ly_page::{MARGIN, Named, Page};
 
 /// Says the faults that are found.
 pub(crate) fn say_findings(page: &mut Page, lex: Named<'_>, yacc: Named<'_>, findings: &Findings) {
@@ -43,7 +36,7 @@ pub(crate) fn say_fault(
     say_heading(page, fault);
     page.say(b"\n");
     if let Some(at) = at {
-        say_line(page, file, at);
+        page.say_excerpt(file, at);
     }
     say_advice(page, advice)
 }
@@ -112,58 +105,6 @@ fn say_at_fault(page: &mut Page, fault: &JoinFault) {
             page.say(which.name().as_bytes());
         }
         JoinFault::NoRules | JoinFault::OutOfMemory => {}
-    }
-}
-
-/// Says the line of a place, or the part of it round the place where it is long, and under it a caret.
-fn say_line(page: &mut Page, file: Named<'_>, at: Location) {
-    let Some(line) = file.line(at.line) else {
-        return;
-    };
-    let line = line.strip_suffix(b"\r").unwrap_or(line);
-    if line.is_empty() {
-        return;
-    }
-    let start = if line.len() > WIDEST {
-        bytes_before(at).saturating_sub(WIDEST / 2).min(line.len())
-    } else {
-        0
-    };
-    let (shown, cut) = shown_part(line, start);
-    page.say(MARGIN);
-    page.say(if start > 0 { b"..." } else { b"" });
-    for byte in shown {
-        page.say(&[if is_shown(*byte) { *byte } else { b'?' }]);
-    }
-    page.say(if cut { b"...\n" } else { b"\n" });
-    page.say(MARGIN);
-    page.say(if start > 0 { b"   " } else { b"" });
-    say_distance(page, shown, bytes_before(at).saturating_sub(start));
-    page.say(b"^\n");
-}
-
-/// The part of a line that is said, and whether something stands behind it.
-fn shown_part(line: &[u8], start: usize) -> (&[u8], bool) {
-    let behind = line.get(start..).unwrap_or(b"");
-    match behind.get(..WIDEST) {
-        Some(shown) => (shown, behind.len() > WIDEST),
-        None => (behind, false),
-    }
-}
-
-/// Whether a byte is said as it stands.
-fn is_shown(byte: u8) -> bool {
-    byte == b'\t' || byte >= b' ' && byte != 127
-}
-
-/// Says as many blanks as so many bytes are wide: tabs stay, and of a character of several bytes the first counts.
-fn say_distance(page: &mut Page, line: &[u8], bytes: usize) {
-    for byte in line.iter().take(bytes) {
-        match byte {
-            b'\t' => page.say(b"\t"),
-            0x80..=0xBF => {}
-            _ => page.say(b" "),
-        }
     }
 }
 

@@ -10,6 +10,15 @@ use std::alloc::{AllocError, Global};
 /// The version of the program. Table files have versions of their own.
 const VERSION: &str = "1.0";
 
+/// What stands at the end of the program's help.
+const FIRST_STEPS: &str = "\
+Begin with explain, which says what is wrong with both files and how to mend it; then try a text:
+  lytab explain sums.l sums.y
+  lytab try sums.l sums.y sums.txt --where
+
+Exit status: 0 where all is done, 1 where the text is refused, 2 where a lex file, a yacc file or a
+table file is, 3 where a device fails or memory runs out, 4 where the words are wrong";
+
 /// The line as `clap` has it.
 pub fn line<'a>(alloc: Global) -> Result<Command<'a>, AllocError>
     ensures { IfOk result (λ c. app_of c ≡ line_app) }
@@ -30,6 +39,7 @@ fn top<'a>(alloc: Global) -> Command<'a>
         .about("Lexical analysis and parsing by POSIX lex and yacc files, proved correct")
         .version(VERSION)
         .subcommand_required(true)
+        .after_help(FIRST_STEPS)
 }
 
 /// A command with one more subcommand, if memory sufficed for that.

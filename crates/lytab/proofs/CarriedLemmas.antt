@@ -1,5 +1,5 @@
 -- What a command did is said of its request, whose paths are the bytes of those that the command has.
-use Rattle.std.proofs.Common.{◌≡◌, ap, Err, IfErr, IfOk, inl, inr, ◌∷◌, [], List, None, Ok, OnOk, Option}
+use Rattle.std.proofs.Common.{◌≡◌, ap, Bool, Err, IfErr, IfOk, inl, inr, ◌∷◌, [], List, None, Ok, OnOk, Option}
 use Rattle.std.proofs.Common.{option_map, refl, Result, Some, subst, sym, ℕ}
 use Rattle.std.specs.Prelude.{IsSome}
 use Rattle.std.specs.Result.{IsErrAnd}
@@ -10,6 +10,7 @@ use Rattle.ly_base.specs.Limits.{Sizes, version_2}
 use Rattle.ly_base.specs.declared.version.Version.{Version}
 use Rattle.ly_generate.specs.Parser.{IsReportIf}
 use Rattle.ly_words.specs.Request.{Request, build, check, explain, run, tokens, try}
+use Rattle.ly_words.specs.declared.command.Answering.{Answering}
 use Rattle.lytab.specs.Answering.{AreTokensPrinted, IsAnsweredByFiles, IsAnsweredByTables, text_from}
 use Rattle.lytab.specs.CarriedOut.{Ends, IsBuildTold, IsCarriedOut, IsExplanationTold, IsInputTold, wanted_for}
 use Rattle.lytab.specs.Devices.{IsLeftOrFailed, IsOutputTold}
@@ -65,27 +66,27 @@ untouched (Some path) r e read same unread done = same
 -- so a command failed before it did anything, and standard input is as it was
 pub failed_first : {R D : Type 0} (contents : D → Option (List ℕ)) (request : Request) (fault : FileFault) (e : Ends R)
     → e.input_after ≡ e.input_before → IsCarriedOut contents request (Err (failure_of_file fault)) e
-failed_first contents (tokens lex text) fault e same = (
+failed_first contents (tokens lex text points) fault e same = (
   [],
   tt,
   fails_lex [] fault,
   untouched text (Err (failure_of_file fault)) e _ same (λ _. same) tt,
 )
-failed_first contents (run table_file text) fault e same = (
+failed_first contents (run table_file text by) fault e same = (
   [],
   tt,
   fails_tables [] (text_from text e.given) fault,
   untouched text (Err (failure_of_file fault)) e _ same (λ _. same) (inl same),
 )
-failed_first contents (try lex yacc text) fault e same = (
+failed_first contents (try lex yacc text by) fault e same = (
   [],
   [],
   tt,
   fails_files [] [] (text_from text e.given) fault,
   untouched text (Err (failure_of_file fault)) e _ same (λ _. same) (λ _. inl same),
 )
-failed_first contents (build lex yacc table_file report version) fault e same = (tt, fails_build version fault, same)
-failed_first contents (check table_file) fault e same = (tt, fails_check fault, same)
+failed_first contents (build lex yacc table_file report version points) fault e same = (tt, fails_build version fault, same)
+failed_first contents (check table_file by) fault e same = (tt, fails_check fault, same)
 failed_first contents (explain lex yacc states graph) fault e same = (tt, fails_device fault, same)
 
 pub failed_with : {R D : Type 0} (contents : D → Option (List ℕ)) (request : Request) (fault : FileFault) (e : Ends R)
@@ -110,13 +111,13 @@ input_mapped f (Some path) r e read elsewhere refused needed = elsewhere refl
 
 -- a command that answers a text, by the bytes of its files
 pub carried_tokens : {A R D : Type 0} (contents : D → Option (List ℕ)) (f : A → List ℕ) (path lex : List ℕ)
-    (text : Option A) (r : Result Completion Failure) (e : Ends R)
+    (text : Option A) (points : Bool) (r : Result Completion Failure) (e : Ends R)
     → IfOk r (AreTokensPrinted lex (text_from text e.given) e.before e.after) → IfErr r (IsRefusalOfLex lex)
     → (IsSome text → e.input_after ≡ e.input_before)
     → (text ≡ None → IfErr r (λ g. IsOfRules g → e.input_after ≡ e.input_before))
     → (text ≡ None → OnOk r (IsAtEnd e.left))
-    → IsCarriedOut contents (tokens path (option_map f text)) r e
-carried_tokens contents f path lex text r e answered refused elsewhere unread needed = (
+    → IsCarriedOut contents (tokens path (option_map f text) points) r e
+carried_tokens contents f path lex text points r e answered refused elsewhere unread needed = (
   lex,
   subst (λ given. IfOk r (AreTokensPrinted lex given e.before e.after)) (sym (text_mapped f text e.given)) answered,
   refused,
@@ -124,32 +125,33 @@ carried_tokens contents f path lex text r e answered refused elsewhere unread ne
 )
 
 pub carried_run : {A R D : Type 0} (contents : D → Option (List ℕ)) (f : A → List ℕ) (path bytes : List ℕ)
-    (text : Option A) (r : Result Completion Failure) (e : Ends R)
-    → IfOk r (IsAnsweredByTables bytes (text_from text e.given) e.before e.after)
+    (text : Option A) (by : Answering) (r : Result Completion Failure) (e : Ends R)
+    → IfOk r (IsAnsweredByTables by.form bytes (text_from text e.given) e.before e.after)
     → IfErr r (IsRefusalOfTables bytes (text_from text e.given))
     → (IsSome text → e.input_after ≡ e.input_before)
     → (text ≡ None → IfErr r (λ g. IsOfRules g → e.input_after ≡ e.input_before))
     → (text ≡ None → IsReadByTables bytes r e.given e.left)
-    → IsCarriedOut contents (run path (option_map f text)) r e
-carried_run contents f path bytes text r e answered refused elsewhere unread needed = (
+    → IsCarriedOut contents (run path (option_map f text) by) r e
+carried_run contents f path bytes text by r e answered refused elsewhere unread needed = (
   bytes,
-  subst (λ given. IfOk r (IsAnsweredByTables bytes given e.before e.after)) (sym (text_mapped f text e.given)) answered,
+  subst (λ given. IfOk r (IsAnsweredByTables by.form bytes given e.before e.after)) (sym (text_mapped f text e.given))
+      answered,
   subst (λ given. IfErr r (IsRefusalOfTables bytes given)) (sym (text_mapped f text e.given)) refused,
   input_mapped f text r e _ elsewhere unread (λ no. inr (needed no)),
 )
 
 pub carried_try : {A R D : Type 0} (contents : D → Option (List ℕ)) (f : A → List ℕ) (path other lex yacc : List ℕ)
-    (text : Option A) (r : Result Completion Failure) (e : Ends R)
-    → IfOk r (IsAnsweredByFiles lex yacc (text_from text e.given) e.before e.after)
+    (text : Option A) (by : Answering) (r : Result Completion Failure) (e : Ends R)
+    → IfOk r (IsAnsweredByFiles by.form lex yacc (text_from text e.given) e.before e.after)
     → IfErr r (IsRefusalOfFiles lex yacc (text_from text e.given))
     → (IsSome text → e.input_after ≡ e.input_before)
     → (text ≡ None → IfErr r (λ g. IsOfRules g → e.input_after ≡ e.input_before))
     → (text ≡ None → IsReadByFiles lex yacc r e.input_before e.input_after e.given e.left)
-    → IsCarriedOut contents (try path other (option_map f text)) r e
-carried_try contents f path other lex yacc text r e answered refused elsewhere unread needed = (
+    → IsCarriedOut contents (try path other (option_map f text) by) r e
+carried_try contents f path other lex yacc text by r e answered refused elsewhere unread needed = (
   lex,
   yacc,
-  subst (λ given. IfOk r (IsAnsweredByFiles lex yacc given e.before e.after)) (sym (text_mapped f text e.given))
+  subst (λ given. IfOk r (IsAnsweredByFiles by.form lex yacc given e.before e.after)) (sym (text_mapped f text e.given))
       answered,
   subst (λ given. IfErr r (IsRefusalOfFiles lex yacc given)) (sym (text_mapped f text e.given)) refused,
   input_mapped f text r e _ elsewhere unread needed,
@@ -217,11 +219,11 @@ if_explanation_told f contents states graph before after (Ok c) h =
 if_explanation_told f contents states graph before after (Err g) h = h
 
 pub carried_build : {A R D : Type 0} (contents : D → Option (List ℕ)) (f : A → List ℕ) (lex yacc tables : List ℕ)
-    (path : Option A) (version : Version) (r : Result Completion Failure) (e : Ends R)
+    (path : Option A) (version : Version) (points : Bool) (r : Result Completion Failure) (e : Ends R)
     → IfOk r (IsBuildTold contents version_2 version path e.before e.after) → IfErr r (IsRefusalOfBuild version)
     → e.input_after ≡ e.input_before
-    → IsCarriedOut contents (build lex yacc tables (option_map f path) version) r e
-carried_build contents f lex yacc tables path version r e told refused same =
+    → IsCarriedOut contents (build lex yacc tables (option_map f path) version points) r e
+carried_build contents f lex yacc tables path version points r e told refused same =
     (if_build_told f contents version_2 version path e.before e.after r told, refused, same)
 
 pub carried_explain : {A R D : Type 0} (contents : D → Option (List ℕ)) (f : A → List ℕ) (lex yacc : List ℕ)

@@ -5,6 +5,7 @@ use Rattle.ly_drive.specs.Answering.{IsAnsweredBy, IsBegunBy}
 use Rattle.ly_base.specs.Limits.{Sizes}
 use Rattle.ly_base.specs.declared.lexeme.End.{End}
 use Rattle.ly_feed.specs.declared.outcome.Outcome.{Outcome}
+use Rattle.ly_print.specs.declared.answer_form.AnswerForm.{AnswerForm}
 use Rattle.ly_tables.specs.TableSet.{TableSet}
 use Rattle.ly_tokens.specs.Answers.{Answers}
 use Rattle.lytab.specs.Answering.{IsAnswered, IsAnswerBegun}
@@ -27,29 +28,29 @@ answers_of_some a = record {
   is_answer = a.is_answer;
 }
 
-answered_of_some : (s : TableSet) (given before after : Option (List ℕ)) (o : Outcome)
-    → IsAnsweredBy s given before after o → IsAnsweredBy s None before after o
-answered_of_some s given before after o h = (h.0, h.1, tt, h.3, h.4)
+answered_of_some : (form : AnswerForm) (s : TableSet) (given before after : Option (List ℕ)) (o : Outcome)
+    → IsAnsweredBy form s given before after o → IsAnsweredBy form s None before after o
+answered_of_some form s given before after o h = (h.0, h.1, tt, h.3, h.4)
 
-begun_of_some : (s : TableSet) (given before after : Option (List ℕ)) (written : ℕ)
-    → IsBegunBy s given before after written → IsBegunBy s None before after written
-begun_of_some s given before after written h = (h.0, h.1, h.2, tt, h.4, h.5, h.6)
+begun_of_some : (form : AnswerForm) (s : TableSet) (given before after : Option (List ℕ)) (written : ℕ)
+    → IsBegunBy form s given before after written → IsBegunBy form s None before after written
+begun_of_some form s given before after written h = (h.0, h.1, h.2, tt, h.4, h.5, h.6)
 
 some_answered : (r : Rules) (given before after : Option (List ℕ)) (c : Completion)
     → IsAnswered r given before after c → IsAnswered r None before after c
 some_answered (rules.Tokens lex) given before after c h = (h.0, h.1, answers_of_some h.2, h.3, h.4)
-some_answered (rules.Tables tables) given before after c h =
-    (h.0, h.1, h.2, answered_of_some h.1 given before after h.0 h.3, h.4)
-some_answered (rules.Both lex yacc) given before after c h =
-    (h.0, h.1, h.2, answered_of_some h.1 given before after h.0 h.3, h.4)
+some_answered (rules.Tables tables form) given before after c h =
+    (h.0, h.1, h.2, answered_of_some form h.1 given before after h.0 h.3, h.4)
+some_answered (rules.Both lex yacc form) given before after c h =
+    (h.0, h.1, h.2, answered_of_some form h.1 given before after h.0 h.3, h.4)
 
 some_begun : (r : Rules) (given before after : Option (List ℕ)) → IsAnswerBegun r given before after
     → IsAnswerBegun r None before after
 some_begun (rules.Tokens lex) given before after h = (h.0, h.1, h.2, answers_of_some h.3, h.4, h.5)
-some_begun (rules.Tables tables) given before after h =
-    (h.0, h.1, h.2, begun_of_some h.1 given before after h.0 h.3)
-some_begun (rules.Both lex yacc) given before after h =
-    (h.0, h.1, h.2, begun_of_some h.1 given before after h.0 h.3)
+some_begun (rules.Tables tables form) given before after h =
+    (h.0, h.1, h.2, begun_of_some form h.1 given before after h.0 h.3)
+some_begun (rules.Both lex yacc form) given before after h =
+    (h.0, h.1, h.2, begun_of_some form h.1 given before after h.0 h.3)
 
 pub if_answered : (r : Rules) (given before after : Option (List ℕ)) (result : Result Completion Failure)
     → IfOk result (IsAnswered r given before after) → IfOk result (IsAnswered r None before after)

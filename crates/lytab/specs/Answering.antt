@@ -7,6 +7,7 @@ use Rattle.ly_base.specs.declared.version.Version.TheVariants.{V2}
 use Rattle.ly_drive.specs.Answering.{IsAnsweredBy, IsBegunBy, IsDriven}
 use Rattle.ly_feed.specs.declared.outcome.Outcome.{Outcome}
 use Rattle.ly_generate.specs.Generated.{IsGenerated}
+use Rattle.ly_print.specs.declared.answer_form.AnswerForm.{AnswerForm}
 use Rattle.ly_tables.specs.TableSet.{TableSet}
 use Rattle.ly_tokens.specs.Answers.{Answers}
 use Rattle.ly_tokens.specs.Printing.{end_of}
@@ -31,33 +32,36 @@ abbrev pub AreTokensBegun : List ℕ → Option (List ℕ) → Option (List ℕ)
 AreTokensBegun lex given before after = (written : ℕ) × (end : End) × (answer : List ℕ)
     × Answers version_2 lex given end answer × (written < length answer) × Appends before after (take written answer)
 
--- The answer to the text was written that the set of a table file gives.
-abbrev pub IsAnsweredByTables : List ℕ → Option (List ℕ) → Option (List ℕ) → Option (List ℕ) → Completion → Type 0
-IsAnsweredByTables tables given before after c = (o : Outcome) × (s : TableSet) × IsDriven tables s
-    × IsAnsweredBy s given before after o × (c ≡ completion_of_outcome o)
+-- The answer to the text was written in a form that the set of a table file gives.
+abbrev pub IsAnsweredByTables : AnswerForm → List ℕ → Option (List ℕ) → Option (List ℕ) → Option (List ℕ) → Completion → Type 0
+IsAnsweredByTables form tables given before after c = (o : Outcome) × (s : TableSet) × IsDriven tables s
+    × IsAnsweredBy form s given before after o × (c ≡ completion_of_outcome o)
 
-abbrev pub IsBegunByTables : List ℕ → Option (List ℕ) → Option (List ℕ) → Option (List ℕ) → Type 0
-IsBegunByTables tables given before after = (written : ℕ) × (s : TableSet) × IsDriven tables s
-    × IsBegunBy s given before after written
+abbrev pub IsBegunByTables : AnswerForm → List ℕ → Option (List ℕ) → Option (List ℕ) → Option (List ℕ) → Type 0
+IsBegunByTables form tables given before after = (written : ℕ) × (s : TableSet) × IsDriven tables s
+    × IsBegunBy form s given before after written
 
--- The answer to the text was written that a lex file and a yacc file say.
-abbrev pub IsAnsweredByFiles : List ℕ → List ℕ → Option (List ℕ) → Option (List ℕ) → Option (List ℕ) → Completion
+-- The answer to the text was written in a form that a lex file and a yacc file say.
+abbrev pub IsAnsweredByFiles : AnswerForm → List ℕ → List ℕ → Option (List ℕ) → Option (List ℕ) → Option (List ℕ)
+    → Completion → Type 0
+IsAnsweredByFiles form lex yacc given before after c = (o : Outcome) × (s : TableSet)
+    × IsGenerated V2 version_2 lex yacc s × IsAnsweredBy form s given before after o × (c ≡ completion_of_outcome o)
+
+abbrev pub IsBegunByFiles : AnswerForm → List ℕ → List ℕ → Option (List ℕ) → Option (List ℕ) → Option (List ℕ)
     → Type 0
-IsAnsweredByFiles lex yacc given before after c = (o : Outcome) × (s : TableSet)
-    × IsGenerated V2 version_2 lex yacc s × IsAnsweredBy s given before after o × (c ≡ completion_of_outcome o)
-
-abbrev pub IsBegunByFiles : List ℕ → List ℕ → Option (List ℕ) → Option (List ℕ) → Option (List ℕ) → Type 0
-IsBegunByFiles lex yacc given before after = (written : ℕ) × (s : TableSet) × IsGenerated V2 version_2 lex yacc s
-    × IsBegunBy s given before after written
+IsBegunByFiles form lex yacc given before after = (written : ℕ) × (s : TableSet) × IsGenerated V2 version_2 lex yacc s
+    × IsBegunBy form s given before after written
 
 -- The whole answer was written that these rules give to the text, and the command is completed so.
 abbrev pub IsAnswered : Rules → Option (List ℕ) → Option (List ℕ) → Option (List ℕ) → Completion → Type 0
 IsAnswered (rules.Tokens lex) given before after c = AreTokensPrinted lex.now given before after c
-IsAnswered (rules.Tables tables) given before after c = IsAnsweredByTables tables.now given before after c
-IsAnswered (rules.Both lex yacc) given before after c = IsAnsweredByFiles lex.now yacc.now given before after c
+IsAnswered (rules.Tables tables form) given before after c = IsAnsweredByTables form tables.now given before after c
+IsAnswered (rules.Both lex yacc form) given before after c =
+    IsAnsweredByFiles form lex.now yacc.now given before after c
 
 -- so many bytes of it were written, and these are not all
 abbrev pub IsAnswerBegun : Rules → Option (List ℕ) → Option (List ℕ) → Option (List ℕ) → Type 0
 IsAnswerBegun (rules.Tokens lex) given before after = AreTokensBegun lex.now given before after
-IsAnswerBegun (rules.Tables tables) given before after = IsBegunByTables tables.now given before after
-IsAnswerBegun (rules.Both lex yacc) given before after = IsBegunByFiles lex.now yacc.now given before after
+IsAnswerBegun (rules.Tables tables form) given before after = IsBegunByTables form tables.now given before after
+IsAnswerBegun (rules.Both lex yacc form) given before after =
+    IsBegunByFiles form lex.now yacc.now given before after

@@ -14,6 +14,8 @@ use Rattle.ly_generate.specs.Generated.{IsGenerated}
 use Rattle.ly_generate.specs.Parser.{IsReportIf}
 use Rattle.ly_generate.specs.declared.report.Report.{Report}
 use Rattle.ly_generate.specs.declared.report.Report.TheVariants.{Unwanted, Wanted}
+use Rattle.ly_print.specs.declared.answer_form.AnswerForm.{AnswerForm}
+use Rattle.ly_print.specs.declared.answer_form.AnswerForm.TheVariants.{Json, Plain}
 use Rattle.ly_report.specs.Counts.{AreCounts}
 use Rattle.ly_report.specs.Report.{counts_line}
 use Rattle.ly_report.specs.declared.counts.ConflictCounts.{ConflictCounts}
@@ -84,13 +86,31 @@ counts_text counts = codes "tables: " ++ (decimal counts.terminals ++ codes " te
 abbrev pub set_line : SetCounts → Version → List ℕ
 set_line counts version = counts_text counts ++ (decimal (version_number version) ++ codes "\n")
 
+-- how many there are, as JSON, up to the number of the version
+abbrev pub counts_json : SetCounts → List ℕ
+counts_json counts = codes "{\"terminals\":" ++ (decimal counts.terminals ++ codes ",\"nonterminals\":")
+    ++ (decimal counts.nonterminals ++ codes ",\"scanner_rules\":")
+    ++ (decimal counts.scanner_rules ++ codes ",\"scanner_states\":")
+    ++ (decimal counts.scanner_states ++ codes ",\"rules\":")
+    ++ (decimal counts.rules ++ codes ",\"parser_states\":")
+    ++ (decimal counts.parser_states ++ codes ",\"version\":")
+
+-- the same line as JSON
+abbrev pub set_json : SetCounts → Version → List ℕ
+set_json counts version = counts_json counts ++ (decimal (version_number version) ++ codes "}\n")
+
+-- the line in a form
+abbrev pub set_told : AnswerForm → SetCounts → Version → List ℕ
+set_told Plain counts version = set_line counts version
+set_told Json counts version = set_json counts version
+
 -- that line was written
-pub record IsCheckTold (before after : Option (List ℕ)) (c : Completion) : Type 0 where
+pub record IsCheckTold (form : AnswerForm) (before after : Option (List ℕ)) (c : Completion) : Type 0 where
   pub bytes : List ℕ
   pub version : Version
   pub counts : SetCounts
   pub has : HasCounts bytes version counts
-  pub line : Appends before after (set_line counts version)
+  pub line : Appends before after (set_told form counts version)
   pub done : c ≡ Done
 
 -- what there is to say of a lex file and a yacc file, and whether they are accepted; the states of their parser and a
@@ -132,23 +152,23 @@ IsReadForFiles lex yacc result e = IsReadByFiles lex yacc result e.input_before 
 -- what a command did that asks for this, and how it ended, where of a file that it writes this is known
 abbrev pub IsCarriedOut : {R D : Type 0} → (D → Option (List ℕ)) → Request → Result Completion Failure → Ends R
     → Type 0
-IsCarriedOut contents (tokens lex text) result e = (bytes : List ℕ)
+IsCarriedOut contents (tokens lex text points) result e = (bytes : List ℕ)
     × IfOk result (AreTokensPrinted bytes (text_from text e.given) e.before e.after)
     × IfErr result (IsRefusalOfLex bytes) × IsInputTold text result e (OnOk result (IsAtEnd e.left))
-IsCarriedOut contents (run table_file text) result e = (bytes : List ℕ)
-    × IfOk result (IsAnsweredByTables bytes (text_from text e.given) e.before e.after)
+IsCarriedOut contents (run table_file text by) result e = (bytes : List ℕ)
+    × IfOk result (IsAnsweredByTables by.form bytes (text_from text e.given) e.before e.after)
     × IfErr result (IsRefusalOfTables bytes (text_from text e.given))
     × IsInputTold text result e (IsReadForTables bytes result e)
-IsCarriedOut contents (try lex yacc text) result e = (lex_bytes yacc_bytes : List ℕ)
-    × IfOk result (IsAnsweredByFiles lex_bytes yacc_bytes (text_from text e.given) e.before e.after)
+IsCarriedOut contents (try lex yacc text by) result e = (lex_bytes yacc_bytes : List ℕ)
+    × IfOk result (IsAnsweredByFiles by.form lex_bytes yacc_bytes (text_from text e.given) e.before e.after)
     × IfErr result (IsRefusalOfFiles lex_bytes yacc_bytes (text_from text e.given))
     × IsInputTold text result e (IsReadForFiles lex_bytes yacc_bytes result e)
-IsCarriedOut contents (build lex yacc table_file report version) result e =
+IsCarriedOut contents (build lex yacc table_file report version points) result e =
     IfOk result (IsBuildTold contents version_2 version report e.before e.after)
     × IfErr result (IsRefusalOfBuild version)
     × (e.input_after ≡ e.input_before)
-IsCarriedOut contents (check table_file) result e =
-    IfOk result (IsCheckTold e.before e.after) × IfErr result IsRefusalOfCheck × (e.input_after ≡ e.input_before)
+IsCarriedOut contents (check table_file by) result e =
+    IfOk result (IsCheckTold by.form e.before e.after) × IfErr result IsRefusalOfCheck × (e.input_after ≡ e.input_before)
 IsCarriedOut contents (explain lex yacc states graph) result e =
     IfOk result (IsExplanationTold contents states graph e.before e.after) × IfErr result IsOfDevice
     × (e.input_after ≡ e.input_before)

@@ -15,7 +15,7 @@ completion_of_tokens (Stuck byte) = TextRefused
 -- it is done where the text has a tree
 abbrev pub completion_of_outcome : Outcome → Completion
 completion_of_outcome Tree = Done
-completion_of_outcome (Syntax token byte expected) = TextRefused
+completion_of_outcome (Syntax token byte length expected) = TextRefused
 completion_of_outcome (NoRule byte) = TextRefused
 
 -- 0 where what was asked for is done, 1 where the text is refused, 2 where the files that are explained are

@@ -39,8 +39,8 @@ IsReadByFiles lex yacc result old new before after = (HasReadFailed result → �
 abbrev pub IsReadBy : {R : Type 0} → Rules → Result Completion Failure → R → R → Option (List ℕ) → Option (List ℕ)
     → Type 0
 IsReadBy (rules.Tokens lex) result old new before after = OnOk result (IsAtEnd after)
-IsReadBy (rules.Tables tables) result old new before after = IsReadByTables tables.now result before after
-IsReadBy (rules.Both lex yacc) result old new before after = IsReadByFiles lex.now yacc.now result old new before after
+IsReadBy (rules.Tables tables form) result old new before after = IsReadByTables tables.now result before after
+IsReadBy (rules.Both lex yacc form) result old new before after = IsReadByFiles lex.now yacc.now result old new before after
 
 -- A reader is as it was where the files are refused, and else it gave what these rules ask for.
 pub record IsTextRead {R : Type 0} (by : Rules) (result : Result Completion Failure) (old new : R)

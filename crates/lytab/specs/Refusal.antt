@@ -76,5 +76,5 @@ IsRefusalOfCheck f = IsOfDevice f
 -- what a failure says of these rules, and of what a reader gave; that a device fails or memory runs out says nothing
 abbrev pub IsRefusalOf : Rules → Option (List ℕ) → Failure → Type 0
 IsRefusalOf (rules.Tokens lex) given f = IsRefusalOfLex lex.now f
-IsRefusalOf (rules.Tables tables) given f = IsRefusalOfTables tables.now given f
-IsRefusalOf (rules.Both lex yacc) given f = IsRefusalOfFiles lex.now yacc.now given f
+IsRefusalOf (rules.Tables tables form) given f = IsRefusalOfTables tables.now given f
+IsRefusalOf (rules.Both lex yacc form) given f = IsRefusalOfFiles lex.now yacc.now given f

@@ -13,36 +13,46 @@ ghost use Rattle.lytab.specs.declared.completion.Completion.TheVariants as compl
 use crate::completion::Completion;
 use crate::failure::Failure;
 use crate::files::{STANDARD, open};
+use crate::notes::Notes;
+use crate::remembering::{Recall, Remembering};
 use ly_drive::{DriveFault, TextFault, drive};
 use ly_engine::{AnswerFault, GenFault, TokensFault, answer, tokens};
-use ly_print::{Counted, Sink, Source};
+use ly_print::{AnswerForm, Counted, Sink, Source};
 use std::alloc::Global;
 use std::rt::Files;
 
-/// What a text is answered by: the bytes of the files that are asked for.
+/// What a text is answered by: the bytes of the files that are asked for; and how the answer is written.
 #[derive(Clone, Copy)]
 pub enum Rules<'a> {
     /// A lex file, for the tokens.
     Tokens(&'a [u8]),
     /// A table file.
-    Tables(&'a [u8]),
+    Tables {
+        /// The table file.
+        tables: &'a [u8],
+        /// How the answer is written.
+        form: AnswerForm,
+    },
     /// A lex file and a yacc file.
     Both {
         /// The lex file.
         lex: &'a [u8],
         /// The yacc file.
         yacc: &'a [u8],
+        /// How the answer is written.
+        form: AnswerForm,
     },
 }
 
 /// Answers a text, standard input if there is no path. A file is opened before anything is judged.
-pub fn answer_text<'a, F: Files, R: Source, W: Sink>(
+pub fn answer_text<'a, F: Files, R: Source + Recall, W: Sink>(
     files: &F,
     alloc: Global,
     rules: Rules<'_>,
     text: Option<&'a str>,
     input: &mut R,
     output: &mut W,
+    notes: &mut Notes,
 ) -> Result<Completion, Failure<'a>>
     ensures answered { IfOk result (IsAnswered rules.entry (text_from text.entry (R.remaining input.old))
         (W.contents output.old) (W.contents output.new)) }
@@ -60,20 +70,23 @@ pub fn answer_text<'a, F: Files, R: Source, W: Sink>(
 {
     match text {
         Some(path) => {
-            let mut file = Counted::new(open(files, path)?);
-            answer_by(alloc, rules, path, &mut file, output)
+            let mut file = Remembering::new(Counted::new(open(files, path, notes)?));
+            let ended = answer_by(alloc, rules, path, &mut file, output, notes);
+            notes.look_at_text(files, path, &ended);
+            ended
         }
-        None => answer_by(alloc, rules, STANDARD, input, output),
+        None => answer_by(alloc, rules, STANDARD, input, output, notes),
     }
 }
 
 /// Answers all that a reader of this name gives.
-fn answer_by<'a, R: Source, W: Sink>(
+fn answer_by<'a, R: Source + Recall, W: Sink>(
     alloc: Global,
     rules: Rules<'_>,
     path: &'a str,
     reader: &mut R,
     writer: &mut W,
+    notes: &mut Notes,
 ) -> Result<Completion, Failure<'a>>
     ensures answered { IfOk result (IsAnswered rules.entry (R.remaining reader.old) (W.contents writer.old)
         (W.contents writer.new)) }
@@ -87,20 +100,28 @@ fn answer_by<'a, R: Source, W: Sink>(
         (R.remaining reader.new) }
     ensures ended { result ≡ Ok completion.Done → IsAtEnd (R.remaining reader.new) }
 {
+    if notes.are_wanted() {
+        reader.remember(alloc);
+    }
     match rules {
-        Rules::Tokens(lex) => print_tokens(alloc, lex, path, reader, writer),
-        Rules::Tables(tables) => answer_by_tables(alloc, tables, path, reader, writer),
-        Rules::Both { lex, yacc } => answer_by_files(alloc, lex, yacc, path, reader, writer),
+        Rules::Tokens(lex) => print_tokens(alloc, lex, path, reader, writer, notes),
+        Rules::Tables { tables, form } => {
+            answer_by_tables(alloc, tables, form, path, reader, writer, notes)
+        }
+        Rules::Both { lex, yacc, form } => {
+            answer_by_files(alloc, lex, yacc, form, path, reader, writer, notes)
+        }
     }
 }
 
 /// Prints the tokens of all that a reader of this name gives.
-fn print_tokens<'a, R: Source, W: Sink>(
+fn print_tokens<'a, R: Source + Recall, W: Sink>(
     alloc: Global,
     lex: &[u8],
     path: &'a str,
     reader: &mut R,
     writer: &mut W,
+    notes: &mut Notes,
 ) -> Result<Completion, Failure<'a>>
     ensures answered { IfOk result (AreTokensPrinted lex.now (R.remaining reader.old) (W.contents writer.old)
         (W.contents writer.new)) }
@@ -115,7 +136,10 @@ fn print_tokens<'a, R: Source, W: Sink>(
     ensures ended { result ≡ Ok completion.Done → IsAtEnd (R.remaining reader.new) }
 {
     match tokens(alloc, lex, reader, writer) {
-        Ok(end) => Ok(Completion::of_tokens(end)),
+        Ok(end) => {
+            notes.point_at_end(path, reader, end);
+            Ok(Completion::of_tokens(end))
+        }
         Err(TokensFault::Lex(fault)) => Err(Failure::of_files(GenFault::Lex(fault), lex, b"")),
         Err(TokensFault::Positions(fault)) => {
             Err(Failure::Refused(GenFault::Positions(fault), None))
@@ -128,27 +152,32 @@ fn print_tokens<'a, R: Source, W: Sink>(
 }
 
 /// Answers all that a reader of this name gives, by a table file.
-fn answer_by_tables<'a, R: Source, W: Sink>(
+fn answer_by_tables<'a, R: Source + Recall, W: Sink>(
     alloc: Global,
     tables: &[u8],
+    form: AnswerForm,
     path: &'a str,
     reader: &mut R,
     writer: &mut W,
+    notes: &mut Notes,
 ) -> Result<Completion, Failure<'a>>
-    ensures answered { IfOk result (IsAnsweredByTables tables.now (R.remaining reader.old) (W.contents writer.old)
+    ensures answered { IfOk result (IsAnsweredByTables form tables.now (R.remaining reader.old) (W.contents writer.old)
         (W.contents writer.new)) }
     ensures refused { IfErr result (IsRefusalOfTables tables.now (R.remaining reader.old)) }
     ensures told { AreDevicesTold result (R.failures reader.old) (R.failures reader.new) (W.failures writer.old)
         (W.failures writer.new) }
-    ensures beginning { IfErr result (λ f. IsOfWriter f → IsBegunByTables tables.now (R.remaining reader.old)
+    ensures beginning { IfErr result (λ f. IsOfWriter f → IsBegunByTables form tables.now (R.remaining reader.old)
         (W.contents writer.old) (W.contents writer.new)) }
     ensures untouched { IfErr result (λ f. (IsOfWriter f → ⊥) → writer.new ≡ writer.old) }
     ensures unread { IfErr result (λ f. IsOfRules f → reader.new ≡ reader.old) }
     ensures needed { IsReadByTables tables.now result (R.remaining reader.old) (R.remaining reader.new) }
     ensures ended { result ≡ Ok completion.Done → IsAtEnd (R.remaining reader.new) }
 {
-    match drive(alloc, tables, reader, writer) {
-        Ok(outcome) => Ok(Completion::of_outcome(&outcome)),
+    match drive(alloc, tables, form, reader, writer) {
+        Ok(outcome) => {
+            notes.point_at_outcome(path, reader, &outcome);
+            Ok(Completion::of_outcome(&outcome))
+        }
         Err(DriveFault::Tables(fault)) => Err(Failure::Tables(fault)),
         Err(DriveFault::Text(TextFault::FaultyTables)) => Err(Failure::FaultyTables),
         Err(DriveFault::Text(TextFault::TooLong)) => Err(Failure::TooLong),
@@ -159,20 +188,22 @@ fn answer_by_tables<'a, R: Source, W: Sink>(
 }
 
 /// Answers all that a reader of this name gives, by a lex file and a yacc file.
-fn answer_by_files<'a, R: Source, W: Sink>(
+fn answer_by_files<'a, R: Source + Recall, W: Sink>(
     alloc: Global,
     lex: &[u8],
     yacc: &[u8],
+    form: AnswerForm,
     path: &'a str,
     reader: &mut R,
     writer: &mut W,
+    notes: &mut Notes,
 ) -> Result<Completion, Failure<'a>>
-    ensures answered { IfOk result (IsAnsweredByFiles lex.now yacc.now (R.remaining reader.old)
+    ensures answered { IfOk result (IsAnsweredByFiles form lex.now yacc.now (R.remaining reader.old)
         (W.contents writer.old) (W.contents writer.new)) }
     ensures refused { IfErr result (IsRefusalOfFiles lex.now yacc.now (R.remaining reader.old)) }
     ensures told { AreDevicesTold result (R.failures reader.old) (R.failures reader.new) (W.failures writer.old)
         (W.failures writer.new) }
-    ensures beginning { IfErr result (λ f. IsOfWriter f → IsBegunByFiles lex.now yacc.now (R.remaining reader.old)
+    ensures beginning { IfErr result (λ f. IsOfWriter f → IsBegunByFiles form lex.now yacc.now (R.remaining reader.old)
         (W.contents writer.old) (W.contents writer.new)) }
     ensures untouched { IfErr result (λ f. (IsOfWriter f → ⊥) → writer.new ≡ writer.old) }
     ensures unread { IfErr result (λ f. IsOfRules f → reader.new ≡ reader.old) }
@@ -180,8 +211,11 @@ fn answer_by_files<'a, R: Source, W: Sink>(
         (R.remaining reader.new) }
     ensures ended { result ≡ Ok completion.Done → IsAtEnd (R.remaining reader.new) }
 {
-    match answer(alloc, lex, yacc, reader, writer) {
-        Ok(outcome) => Ok(Completion::of_outcome(&outcome)),
+    match answer(alloc, lex, yacc, form, reader, writer) {
+        Ok(outcome) => {
+            notes.point_at_outcome(path, reader, &outcome);
+            Ok(Completion::of_outcome(&outcome))
+        }
         Err(AnswerFault::Gen(fault)) => Err(Failure::of_files(fault, lex, yacc)),
         Err(AnswerFault::Text(TextFault::FaultyTables)) => Err(Failure::FaultyTables),
         Err(AnswerFault::Text(TextFault::TooLong)) => Err(Failure::TooLong),

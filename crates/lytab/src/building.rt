@@ -10,8 +10,10 @@ ghost use Rattle.lytab.specs.Refusal.{IsRefusalOfBuild};
 use crate::completion::Completion;
 use crate::failure::Failure;
 use crate::files::{FileFault, read_file, write_file, write_if_named};
+use crate::notes::Notes;
 use ly_base::{Limits, Version};
 use ly_engine::{Built, ConflictCounts, Report, build};
+use ly_page::Named;
 use ly_print::{Counted, Sink};
 use ly_report::push_counts;
 use ly_words::Paths;
@@ -27,21 +29,28 @@ pub fn build_tables<'a, F: Files, W: Sink>(
     paths: Paths<'a>,
     version: Version,
     output: &mut W,
+    notes: &mut Notes,
 ) -> Result<Completion, Failure<'a>>
     ensures built { IfOk result (IsBuildTold ⟦<Counted<F::File> as Sink>⟧.contents version_2 version
         paths.entry.report (W.contents output.old) (W.contents output.new)) }
     ensures refused { IfErr result (IsRefusalOfBuild version) }
     ensures devices { IsOutputTold result output.old output.new (W.failures output.old) (W.failures output.new) }
 {
-    let lex = read_file(files, alloc, paths.lex)?;
-    let yacc = read_file(files, alloc, paths.yacc)?;
+    let lex = read_file(files, alloc, paths.lex, notes)?;
+    let yacc = read_file(files, alloc, paths.yacc, notes)?;
     let limits = Limits::version_2();
     let built = match build(alloc, &lex, &yacc, &limits, version, wanted(paths.report)) {
         Ok(built) => built,
-        Err(fault) => return Err(Failure::of_files(fault, &lex, &yacc)),
+        Err(fault) => {
+            let refused = Err(Failure::of_files(fault, &lex, &yacc));
+            let lex = Named::new(paths.lex, &lex);
+            let yacc = Named::new(paths.yacc, &yacc);
+            notes.explain(alloc, lex, yacc, &limits.within(version), &refused);
+            return refused;
+        }
     };
     let line = conflicts_line(alloc, &built.conflicts)?;
-    write_files(files, paths, &built)?;
+    write_files(files, paths, &built, notes)?;
     Completion::Done.said(output, &line)
 }
 
@@ -69,12 +78,13 @@ fn write_files<'a, F: Files>(
     files: &F,
     paths: Paths<'a>,
     built: &Built,
+    notes: &mut Notes,
 ) -> Result<(), FileFault<'a>>
     ensures tables { OnOk result (HasTaken ⟦<Counted<F::File> as Sink>⟧.contents built.now.tables.items) }
     ensures report { OnOk result
         (IsWrittenIf ⟦<Counted<F::File> as Sink>⟧.contents paths.entry.report built.now.report) }
 {
-    write_file(files, paths.tables, &built.tables)?;
-    write_if_named(files, paths.report, &built.report)?;
+    write_file(files, paths.tables, &built.tables, notes)?;
+    write_if_named(files, paths.report, &built.report, notes)?;
     Ok(())
 }

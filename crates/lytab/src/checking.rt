@@ -1,7 +1,8 @@
 //! The command `check`.
 ghost use Rattle.std.specs.Prelude.{◌≡◌, ◌++◌, IfErr, IfOk, OnOk, string_bytes};
 ghost use Rattle.std.specs.Fmt.{decimal};
-ghost use Rattle.lytab.specs.CarriedOut.{counts_text, HasCounts, IsCheckTold, set_line, version_number};
+ghost use Rattle.lytab.specs.CarriedOut.{counts_text, HasCounts, IsCheckTold, set_json, set_line};
+ghost use Rattle.lytab.specs.CarriedOut.{set_told, version_number};
 ghost use Rattle.lytab.specs.Devices.{IsOutputTold};
 ghost use Rattle.lytab.specs.Refusal.{IsRefusalOfCheck};
 ghost use Rattle.ly_tables.specs.Refusal.{IsRefusedAs};
@@ -9,8 +10,9 @@ ghost use Rattle.ly_tables.specs.Refusal.{IsRefusedAs};
 use crate::completion::Completion;
 use crate::failure::Failure;
 use crate::files::read_file;
+use crate::notes::Notes;
 use ly_base::Version;
-use ly_print::Sink;
+use ly_print::{AnswerForm, Sink};
 use ly_tables::{SetCounts, TableFault, counts, read_tables};
 use std::alloc::{AllocError, Global};
 use std::fmt::Write;
@@ -22,15 +24,20 @@ pub fn check_tables<'a, F: Files, W: Sink>(
     files: &F,
     alloc: Global,
     path: &'a str,
+    form: AnswerForm,
     output: &mut W,
+    notes: &mut Notes,
 ) -> Result<Completion, Failure<'a>>
-    ensures checked { IfOk result (IsCheckTold (W.contents output.old) (W.contents output.new)) }
+    ensures checked { IfOk result (IsCheckTold form (W.contents output.old) (W.contents output.new)) }
     ensures refused { IfErr result IsRefusalOfCheck }
     ensures devices { IsOutputTold result output.old output.new (W.failures output.old) (W.failures output.new) }
 {
-    let bytes = read_file(files, alloc, path)?;
+    let bytes = read_file(files, alloc, path, notes)?;
     let (counts, version) = counts_of(alloc, &bytes)?;
-    let line = line_of(alloc, &counts, version)?;
+    let line = match form {
+        AnswerForm::Plain => line_of(alloc, &counts, version)?,
+        AnswerForm::Json => json_of(alloc, &counts, version)?,
+    };
     Completion::Done.said(output, line.as_bytes())
 }
 
@@ -65,6 +72,21 @@ fn text_of(alloc: Global, counts: &SetCounts) -> Result<String, AllocError>
     push_count(&mut line, counts.scanner_states, " scanner states, ")?;
     push_count(&mut line, counts.rules, " rules, ")?;
     push_count(&mut line, counts.parser_states, " parser states, version ")?;
+    Ok(line)
+}
+
+/// How many there are, and the version of the file, as JSON.
+fn json_of(alloc: Global, counts: &SetCounts, version: Version) -> Result<String, AllocError>
+    ensures { IfOk result (λ line. string_bytes line ≡ set_json counts.now version) }
+{
+    let mut line = String::from_str(alloc, "{\"terminals\":")?;
+    push_count(&mut line, counts.terminals, ",\"nonterminals\":")?;
+    push_count(&mut line, counts.nonterminals, ",\"scanner_rules\":")?;
+    push_count(&mut line, counts.scanner_rules, ",\"scanner_states\":")?;
+    push_count(&mut line, counts.scanner_states, ",\"rules\":")?;
+    push_count(&mut line, counts.rules, ",\"parser_states\":")?;
+    push_count(&mut line, counts.parser_states, ",\"version\":")?;
+    push_count(&mut line, number_of(version), "}\n")?;
     Ok(line)
 }
 

@@ -8,13 +8,12 @@ ghost use Rattle.lytab.specs.Files.{IsWrittenIf};
 use crate::completion::Completion;
 use crate::failure::Failure;
 use crate::files::{FileFault, read_file, write_if_named};
+use crate::notes::{Notes, reason};
 use ly_base::Limits;
 use ly_explain::{Explanation, Named, Wish, explain};
 use ly_print::{Counted, Sink};
 use ly_words::ExplainPaths;
 use std::alloc::Global;
-use std::fs;
-use std::io::{self, Read};
 use std::rt::Files;
 
 /// Writes to standard output what there is to say of a lex file and a yacc file, and, where they are accepted, the
@@ -24,6 +23,7 @@ pub fn explain_files<'a, F: Files, W: Sink>(
     alloc: Global,
     paths: ExplainPaths<'a>,
     output: &mut W,
+    notes: &mut Notes,
 ) -> Result<Completion, Failure<'a>>
     ensures said { IfOk result (IsExplanationTold ⟦<Counted<F::File> as Sink>⟧.contents
         paths.entry.states paths.entry.graph (W.contents output.old)
@@ -31,8 +31,8 @@ pub fn explain_files<'a, F: Files, W: Sink>(
     ensures failed { IfErr result IsOfDevice }
     ensures devices { IsOutputTold result output.old output.new (W.failures output.old) (W.failures output.new) }
 {
-    let lex = read_or_say_why(files, alloc, paths.lex)?;
-    let yacc = read_or_say_why(files, alloc, paths.yacc)?;
+    let lex = read_or_say_why(files, alloc, paths.lex, notes)?;
+    let yacc = read_or_say_why(files, alloc, paths.yacc, notes)?;
     let wish = Wish {
         states: paths.states.is_some(),
         picture: paths.graph.is_some(),
@@ -46,7 +46,7 @@ pub fn explain_files<'a, F: Files, W: Sink>(
         bytes: &yacc,
     };
     let explanation = explain(alloc, lex, yacc, &Limits::V2, wish)?;
-    write_files(files, paths, &explanation)?;
+    write_files(files, paths, &explanation, notes)?;
     Completion::of_files(explanation.accepted).said(output, &explanation.text)
 }
 
@@ -55,14 +55,15 @@ fn write_files<'a, F: Files>(
     files: &F,
     paths: ExplainPaths<'a>,
     explanation: &Explanation,
+    notes: &mut Notes,
 ) -> Result<(), FileFault<'a>>
     ensures states { OnOk result
         (IsWrittenIf ⟦<Counted<F::File> as Sink>⟧.contents paths.entry.states explanation.now.states) }
     ensures picture { OnOk result
         (IsWrittenIf ⟦<Counted<F::File> as Sink>⟧.contents paths.entry.graph explanation.now.picture) }
 {
-    write_if_named(files, paths.states, &explanation.states)?;
-    write_if_named(files, paths.graph, &explanation.picture)?;
+    write_if_named(files, paths.states, &explanation.states, notes)?;
+    write_if_named(files, paths.graph, &explanation.picture, notes)?;
     Ok(())
 }
 
@@ -71,23 +72,16 @@ fn read_or_say_why<'a, F: Files>(
     files: &F,
     alloc: Global,
     path: &'a str,
+    notes: &mut Notes,
 ) -> Result<Vec<u8>, Failure<'a>>
     ensures { IfErr result IsOfDevice }
 {
-    match read_file(files, alloc, path) {
+    match read_file(files, alloc, path, notes) {
         Ok(bytes) => Ok(bytes),
         Err(FileFault::CannotRead(path)) => Err(match reason(files, path) {
             Some(reason) => Failure::Unreadable(path, reason),
             None => Failure::CannotRead(path),
         }),
         Err(fault) => Err(Failure::from(fault)),
-    }
-}
-
-/// Why a file can't be opened, or its first byte can't be read.
-fn reason<F: Files>(files: &F, path: &str) -> Option<io::Error> {
-    match fs::open(files, path) {
-        Ok(mut file) => file.read(&mut [0]).err(),
-        Err(reason) => Some(reason),
     }
 }

@@ -4,6 +4,7 @@ ghost use Rattle.std.specs.Io.KnownBytes.{Appends};
 ghost use Rattle.ly_print.specs.Device.{next_count};
 ghost use Rattle.lytab.specs.Files.{HasTaken, IsWrittenIf};
 
+use crate::notes::Notes;
 use ly_print::{Counted, ReadFault, Sink, read_whole, write_whole};
 use std::alloc::Global;
 use std::fs;
@@ -24,12 +25,19 @@ pub enum FileFault<'a> {
 }
 
 /// Opens a file to read it.
-pub fn open<'a, F: Files>(files: &F, path: &'a str) -> Result<F::File, FileFault<'a>>
+pub fn open<'a, F: Files>(
+    files: &F,
+    path: &'a str,
+    notes: &mut Notes,
+) -> Result<F::File, FileFault<'a>>
     ensures { IfErr result (λ fault. fault ≡ FileFault.CannotRead path.entry) }
 {
     match fs::open(files, path) {
         Ok(file) => Ok(file),
-        Err(_) => Err(FileFault::CannotRead(path)),
+        Err(reason) => {
+            notes.say_reason(path, &reason);
+            Err(FileFault::CannotRead(path))
+        }
     }
 }
 
@@ -38,19 +46,28 @@ pub fn read_file<'a, F: Files>(
     files: &F,
     alloc: Global,
     path: &'a str,
+    notes: &mut Notes,
 ) -> Result<Vec<u8>, FileFault<'a>>
     ensures { IfErr result (λ fault. (fault ≡ FileFault.CannotRead path.entry) ⊎ (fault ≡ FileFault.OutOfMemory)) }
 {
-    let mut file = Counted::new(open(files, path)?);
+    let mut file = Counted::new(open(files, path, notes)?);
     match read_whole(alloc, &mut file) {
         Ok(bytes) => Ok(bytes),
-        Err(ReadFault::Read) => Err(FileFault::CannotRead(path)),
+        Err(ReadFault::Read) => {
+            notes.look_again(files, path);
+            Err(FileFault::CannotRead(path))
+        }
         Err(ReadFault::OutOfMemory) => Err(FileFault::OutOfMemory),
     }
 }
 
 /// Makes a file of these bytes, in place of an older one.
-pub fn write_file<'a, F: Files>(files: &F, path: &'a str, bytes: &[u8]) -> Result<(), FileFault<'a>>
+pub fn write_file<'a, F: Files>(
+    files: &F,
+    path: &'a str,
+    bytes: &[u8],
+    notes: &mut Notes,
+) -> Result<(), FileFault<'a>>
     ensures written { OnOk result (HasTaken ⟦<Counted<F::File> as Sink>⟧.contents bytes.now) }
     ensures failed { IfErr result (λ fault. fault ≡ FileFault.CannotWrite path.entry) }
 {
@@ -60,7 +77,10 @@ pub fn write_file<'a, F: Files>(files: &F, path: &'a str, bytes: &[u8]) -> Resul
             write_to(&mut device, path, bytes)?;
             Ok(())
         }
-        Err(_) => Err(FileFault::CannotWrite(path)),
+        Err(reason) => {
+            notes.say_reason(path, &reason);
+            Err(FileFault::CannotWrite(path))
+        }
     }
 }
 
@@ -69,12 +89,13 @@ pub fn write_if_named<'a, F: Files>(
     files: &F,
     path: Option<&'a str>,
     bytes: &Option<Vec<u8>>,
+    notes: &mut Notes,
 ) -> Result<(), FileFault<'a>>
     ensures { OnOk result (IsWrittenIf ⟦<Counted<F::File> as Sink>⟧.contents path.entry bytes.now) }
 {
     match path {
         Some(path) => match bytes {
-            Some(bytes) => write_file(files, path, bytes),
+            Some(bytes) => write_file(files, path, bytes, notes),
             None => Ok(()),
         },
         None => Ok(()),

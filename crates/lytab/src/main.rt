@@ -12,8 +12,11 @@ mod completion;
 mod explaining;
 mod failure;
 mod files;
+mod notes;
 mod perform;
+mod remembering;
 
+use crate::remembering::Remembering;
 use ly_print::Counted;
 use std::env;
 use std::process::ExitCode;
@@ -28,7 +31,7 @@ fn main(rt: HostRuntime) -> ExitCode {
         &rt,
         alloc,
         words.as_slice(),
-        &mut Counted::new(rt.stdin()),
+        &mut Remembering::new(Counted::new(rt.stdin())),
         &mut Counted::new(rt.stdout()),
         &mut rt.stderr(),
     );

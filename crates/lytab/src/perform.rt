@@ -3,7 +3,7 @@ ghost use Rattle.ly_words.specs.CommandLine.{line_takes, request_of, Mean};
 ghost use Rattle.ly_words.specs.Command.{said};
 ghost use Rattle.ly_words.specs.Paths.{AskFor};
 ghost use Rattle.ly_words.specs.Request.{Request};
-ghost use Rattle.lytab.specs.CarriedOut.{HasPerformed, IsCarriedOut};
+ghost use Rattle.lytab.specs.CarriedOut.{HasPerformed, IsCarriedOut, IsStatusOf};
 ghost use Rattle.lytab.specs.Devices.{IsOutputTold};
 
 use crate::answering::{Rules, answer_text};
@@ -13,6 +13,10 @@ use crate::completion::Completion;
 use crate::explaining::explain_files;
 use crate::failure::{Failure, told};
 use crate::files::read_file;
+use crate::notes::Notes;
+use crate::remembering::Recall;
+use ly_base::Limits;
+use ly_page::Named;
 use ly_print::{Counted, Sink, Source};
 use ly_words::{Command, CommandFault, read_command};
 use std::alloc::Global;
@@ -30,7 +34,7 @@ const BAD_WORDS: u8 = 4;
 /// What files hold is known to no contract, so what the answer says of them is said for some bytes. Tests alone show
 /// that these are the bytes of the files that the words name, what is written to files and to `faults`, and which
 /// failure comes where there is one.
-pub fn perform<F: Files, R: Source, W: Sink, E: Write>(
+pub fn perform<F: Files, R: Source + Recall, W: Sink, E: Write>(
     files: &F,
     alloc: Global,
     words: &[String],
@@ -53,30 +57,49 @@ pub fn perform<F: Files, R: Source, W: Sink, E: Write>(
         }) (W.failures output.old) (W.failures output.new) result }
 {
     match read_command(alloc, words) {
-        Ok(command) => match carry_out(files, alloc, command, input, output) {
-            Ok(completion) => completion.status(),
-            Err(failure) => told(alloc, failure, faults),
-        },
-        Err(CommandFault::Help(text)) => match Completion::Done.said(output, text.as_bytes()) {
-            Ok(completion) => completion.status(),
-            Err(failure) => told(alloc, failure, faults),
-        },
+        Ok(command) => {
+            let mut notes = Notes::new(alloc, &command);
+            let ended = carry_out(files, alloc, command, input, output, &mut notes);
+            let status = concluded(alloc, ended, faults);
+            notes.write(faults);
+            status
+        }
+        Err(CommandFault::Help(text)) => {
+            let said = Completion::Done.said(output, text.as_bytes());
+            concluded(alloc, said, faults)
+        }
         Err(CommandFault::Bad(text)) => {
             let _ = write!(faults, "{text}");
             BAD_WORDS
         }
-        Err(CommandFault::OutOfMemory) => told(alloc, Failure::OutOfMemory, faults),
+        Err(CommandFault::OutOfMemory) => concluded(alloc, Err(Failure::OutOfMemory), faults),
+    }
+}
+
+/// The exit status of a command that ended so. Where it failed, the line that says why is written.
+fn concluded<E: Write>(
+    alloc: Global,
+    ended: Result<Completion, Failure<'_>>,
+    faults: &mut E,
+) -> u8
+    ensures range { result ≤ 3 }
+    ensures status { IsStatusOf result ended.entry }
+{
+    match ended {
+        Ok(completion) => completion.status(),
+        Err(failure) => told(alloc, failure, faults),
     }
 }
 
 /// Does what a command says. The files that it reads are opened in the order of the words, all but the text read
 /// whole, before anything is judged.
-fn carry_out<'a, F: Files, R: Source, W: Sink>(
+fn carry_out<'a, F: Files, R: Source + Recall, W: Sink>(
     files: &F,
     alloc: Global,
     command: Command<'a>,
     input: &mut R,
     output: &mut W,
+    notes: &mut Notes,
 ) -> Result<Completion, Failure<'a>>
     ensures carried_out { IsCarriedOut ⟦<Counted<F::File> as Sink>⟧.contents (said command.entry) result (record {
       input_before = input.old;
@@ -89,25 +112,49 @@ fn carry_out<'a, F: Files, R: Source, W: Sink>(
     ensures devices { IsOutputTold result output.old output.new (W.failures output.old) (W.failures output.new) }
 {
     match command {
-        Command::Tokens { lex, text } => {
-            let lex = read_file(files, alloc, lex)?;
-            answer_text(files, alloc, Rules::Tokens(&lex), text, input, output)
+        Command::Tokens { lex, text, .. } => {
+            let bytes = read_file(files, alloc, lex, notes)?;
+            let ended = answer_text(files, alloc, Rules::Tokens(&bytes), text, input, output, notes);
+            notes.explain_lex(alloc, Named::new(lex, &bytes), &ended);
+            ended
         }
-        Command::Run { tables, text } => {
-            let tables = read_file(files, alloc, tables)?;
-            answer_text(files, alloc, Rules::Tables(&tables), text, input, output)
-        }
-        Command::Try { lex, yacc, text } => {
-            let lex = read_file(files, alloc, lex)?;
-            let yacc = read_file(files, alloc, yacc)?;
-            let rules = Rules::Both {
-                lex: &lex,
-                yacc: &yacc,
+        Command::Run { tables, text, by } => {
+            let bytes = read_file(files, alloc, tables, notes)?;
+            let rules = Rules::Tables {
+                tables: &bytes,
+                form: by.form,
             };
-            answer_text(files, alloc, rules, text, input, output)
+            let ended = answer_text(files, alloc, rules, text, input, output, notes);
+            notes.explain_tables(tables, &ended);
+            ended
         }
-        Command::Build { paths, version } => build_tables(files, alloc, paths, version, output),
-        Command::Check { tables } => check_tables(files, alloc, tables, output),
-        Command::Explain(paths) => explain_files(files, alloc, paths, output),
+        Command::Try {
+            lex,
+            yacc,
+            text,
+            by,
+        } => {
+            let lex_bytes = read_file(files, alloc, lex, notes)?;
+            let yacc_bytes = read_file(files, alloc, yacc, notes)?;
+            let rules = Rules::Both {
+                lex: &lex_bytes,
+                yacc: &yacc_bytes,
+                form: by.form,
+            };
+            let ended = answer_text(files, alloc, rules, text, input, output, notes);
+            let lex = Named::new(lex, &lex_bytes);
+            let yacc = Named::new(yacc, &yacc_bytes);
+            notes.explain(alloc, lex, yacc, &Limits::V2, &ended);
+            ended
+        }
+        Command::Build { paths, version, .. } => {
+            build_tables(files, alloc, paths, version, output, notes)
+        }
+        Command::Check { tables, by } => {
+            let ended = check_tables(files, alloc, tables, by.form, output, notes);
+            notes.explain_tables(tables, &ended);
+            ended
+        }
+        Command::Explain(paths) => explain_files(files, alloc, paths, output, notes),
     }
 }

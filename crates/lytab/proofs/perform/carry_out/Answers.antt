@@ -8,7 +8,7 @@ returns-in_ok-lex-in-Tokens-clause-carried_out g c =
     let r = c.answer_text.ensures in
     rw c.in-Tokens.is (carried_tokens
     (λ (d : Counted g.row.F-File.Denot). g.F.File.Write.contents d.inner) (λ s. s.now)
-    c.in-Tokens.lex.now _ c.in-Tokens.text c.answer_text.result _ r.answered r.refused r.unread
+    c.in-Tokens.lex.now _ c.in-Tokens.text c.in-Tokens.points c.answer_text.result _ r.answered r.refused r.unread
     (λ no. (r.needed no).unread) (λ no. (r.needed no).needed))
 
 pub returns-in_ok-tables-in-Run-clause-carried_out : goal.returns-in_ok-tables-in-Run-clause-carried_out
@@ -16,7 +16,7 @@ returns-in_ok-tables-in-Run-clause-carried_out g c =
     let r = c.answer_text-in-Run.ensures in
     rw c.in-Run.is (carried_run
     (λ (d : Counted g.row.F-File.Denot). g.F.File.Write.contents d.inner) (λ s. s.now)
-    c.in-Run.tables.now _ c.in-Run.text c.answer_text-in-Run.result _ r.answered r.refused r.unread
+    c.in-Run.tables.now _ c.in-Run.text c.in-Run.by c.answer_text-in-Run.result _ r.answered r.refused r.unread
     (λ no. (r.needed no).unread) (λ no. (r.needed no).needed))
 
 pub returns-in_ok-yacc-in-Try-clause-carried_out : goal.returns-in_ok-yacc-in-Try-clause-carried_out
@@ -24,7 +24,8 @@ returns-in_ok-yacc-in-Try-clause-carried_out g c =
     let r = c.answer_text-in-Try.ensures in
     rw c.in-Try.is (carried_try
     (λ (d : Counted g.row.F-File.Denot). g.F.File.Write.contents d.inner) (λ s. s.now)
-    c.in-Try.lex.now c.in-Try.yacc.now _ _ c.in-Try.text c.answer_text-in-Try.result _ r.answered r.refused r.unread
+    c.in-Try.lex.now c.in-Try.yacc.now _ _ c.in-Try.text c.in-Try.by
+    c.answer_text-in-Try.result _ r.answered r.refused r.unread
     (λ no. (r.needed no).unread) (λ no. (r.needed no).needed))
 
 pub returns-in-Build-clause-carried_out : goal.returns-in-Build-clause-carried_out
@@ -32,7 +33,7 @@ returns-in-Build-clause-carried_out g c =
     rw c.in-Build.is (carried_build
     (λ (d : Counted g.row.F-File.Denot). g.F.File.Write.contents d.inner) (λ s. s.now)
     c.in-Build.paths.lex.now c.in-Build.paths.yacc.now c.in-Build.paths.tables.now c.in-Build.paths.report
-    c.in-Build.version c.build_tables.result (record {
+    c.in-Build.version c.in-Build.points c.build_tables.result (record {
       input_before = c.args.input.now;
       input_after = c.args.input.now;
       given = g.R.Source.remaining c.args.input.now;

@@ -1,0 +1,81 @@
+//! Readers that can show what they gave.
+ghost use Rattle.std.specs.Prelude.{◌≡◌};
+
+use ly_print::{DeviceFailed, Source};
+use std::alloc::Global;
+use std::marker::Model;
+
+/// A reader that can show what it gave.
+pub trait Recall {
+    /// Remembers what is read from here on.
+    fn remember(&mut self, alloc: Global)
+        ensures { self.new ≡ self.old };
+
+    /// What was read since it is remembered; nothing where it isn't, or where no memory was left for it.
+    fn recalled(&self) -> Option<&[u8]>;
+}
+
+/// A reader that can show what it gave.
+#[derive(Drop)]
+pub struct Remembering<R> {
+    /// The reader.
+    reader: R,
+    /// What it gave, where that is remembered.
+    text: Option<Vec<u8>>,
+}
+
+// The reader: what is remembered of it changes nothing.
+impl<R> Model for Remembering<R> {
+    ghost Value = { R };
+
+    ghost coded = { R.code };
+
+    ghost view = { λ r. r.reader };
+}
+
+impl<R> Remembering<R> {
+    /// A reader of which nothing is remembered so far.
+    pub fn new(reader: R) -> Self
+        ensures { result ≡ reader }
+    {
+        Remembering { reader, text: None }
+    }
+
+    /// Adds what was read to what is remembered, which ends where memory does.
+    fn add(&mut self, bytes: &[u8])
+        ensures { self.new ≡ self.old }
+    {
+        let added = match &mut self.text {
+            Some(text) => text.extend_from_slice(bytes),
+            None => Ok(()),
+        };
+        if added.is_err() {
+            self.text = None;
+        }
+    }
+}
+
+impl<R: Source> Source for Remembering<R> {
+    ghost remaining = { R.remaining };
+
+    ghost failures = { R.failures };
+
+    fn pull(&mut self, buf: &mut [u8]) -> Result<usize, DeviceFailed> {
+        let count = self.reader.pull(buf)?;
+        self.add(&buf[..count]);
+        Ok(count)
+    }
+}
+
+impl<R> Recall for Remembering<R> {
+    fn remember(&mut self, alloc: Global) {
+        self.text = Some(Vec::new(alloc));
+    }
+
+    fn recalled(&self) -> Option<&[u8]> {
+        match &self.text {
+            Some(text) => Some(text),
+            None => None,
+        }
+    }
+}
