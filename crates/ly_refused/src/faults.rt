@@ -2,6 +2,7 @@ ghost use Rattle.std.specs.Prelude.{◌≡◌, OnOk, OnErr};
 ghost use Rattle.ly_page.specs.Page.{SaysMore};
 
 use crate::advice::Advice;
+use crate::exchange::say_exchanged;
 use crate::finding::Findings;
 use crate::join_faults::find_join_faults;
 use crate::lex_faults::find_lex_faults;
@@ -61,7 +62,10 @@ fn told_faults(
     fault: &GenFault,
 ) -> Result<Vec<u8>, OutOfMemory> {
     let findings = findings_in(alloc, lex.bytes, yacc.bytes, limits)?;
-    told(alloc, lex, yacc, &findings, fault)
+    let mut page = Page::new(alloc);
+    say_exchanged(alloc, &mut page, lex, yacc, limits)?;
+    page.say(&told(alloc, lex, yacc, &findings, fault)?);
+    page.finish()
 }
 
 /// The faults that are found in two files, as they are said, or else this one.

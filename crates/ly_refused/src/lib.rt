@@ -10,6 +10,7 @@
 
 mod advice;
 mod edit;
+mod exchange;
 mod faults;
 mod finding;
 mod join_faults;
