@@ -83,7 +83,7 @@ failed_first contents (try lex yacc text by) fault e same = (
   [],
   tt,
   fails_files [] [] (text_from text e.given) fault,
-  untouched text (Err (failure_of_file fault)) e _ same (λ _. same) (λ _. inl same),
+  untouched text (Err (failure_of_file fault)) e _ same (λ _. same) (inl same),
 )
 failed_first contents (build lex yacc table_file report version points) fault e same = (tt, fails_build version fault, same)
 failed_first contents (check table_file by) fault e same = (tt, fails_check fault, same)

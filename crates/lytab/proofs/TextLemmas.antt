@@ -1,15 +1,18 @@
 -- What is written for a text that is known is written for some text.
-use Rattle.std.proofs.Common.{IfErr, IfOk, List, None, Option, Result, ℕ}
+use Rattle.std.proofs.Common.{◌≡◌, ◌⊎◌, IfErr, IfOk, inl, inr, List, None, Option, Result, ℕ}
 use Rattle.ly_generate.proofs.GenFaultLemmas.{err_weaker, ok_weaker}
-use Rattle.ly_drive.specs.Answering.{IsAnsweredBy, IsBegunBy}
-use Rattle.ly_base.specs.Limits.{Sizes}
+use Rattle.ly_drive.specs.Answering.{IsAnsweredBy, IsBegunBy, IsReadAsNeeded}
+use Rattle.ly_base.specs.Limits.{Sizes, version_2}
+use Rattle.ly_base.specs.declared.version.Version.TheVariants.{V2}
 use Rattle.ly_base.specs.declared.lexeme.End.{End}
 use Rattle.ly_feed.specs.declared.outcome.Outcome.{Outcome}
 use Rattle.ly_print.specs.declared.answer_form.AnswerForm.{AnswerForm}
+use Rattle.ly_generate.specs.Generated.{IsGenerated}
 use Rattle.ly_tables.specs.TableSet.{TableSet}
 use Rattle.ly_tokens.specs.Answers.{Answers}
 use Rattle.lytab.specs.Answering.{IsAnswered, IsAnswerBegun}
 use Rattle.lytab.specs.Failure.{IsOfWriter}
+use Rattle.lytab.specs.Reading.{HasReadFailed, IsReadByFiles}
 use Rattle.lytab.specs.declared.answering.Rules.{Rules}
 use Rattle.lytab.specs.declared.answering.Rules.TheVariants as rules
 use Rattle.lytab.specs.declared.completion.Completion.{Completion}
@@ -62,3 +65,12 @@ pub if_begun : (r : Rules) (given before after : Option (List ℕ)) (result : Re
     → IfErr result (λ f. IsOfWriter f → IsAnswerBegun r None before after)
 if_begun r given before after result begun =
     err_weaker result _ _ (λ f h is. some_begun r given before after (h is)) begun
+
+-- what was read where no read failed
+pub unfailed : {R : Type 0} {lex yacc : List ℕ} {result : Result Completion Failure} {old new : R}
+    {before after : Option (List ℕ)} → (HasReadFailed result → ⊥)
+    → (new ≡ old) ⊎ ((s : TableSet) × IsGenerated V2 version_2 lex yacc s × IsReadAsNeeded 4096 s before after)
+    → IsReadByFiles lex yacc result old new before after
+unfailed not (inl same) = inl same
+unfailed not (inr read) =
+    inr (read.0, read.1, record { needed = λ _. read.2; asked = λ failed. absurd (not failed); })

@@ -3,7 +3,7 @@ use Rattle.std.specs.Prelude.{◌≡◌, ◌⊎◌, ℕ, IfErr, List, MatchResul
 use Rattle.std.specs.Io.KnownBytes.{IsAtEnd}
 use Rattle.ly_base.specs.Limits.{version_2}
 use Rattle.ly_base.specs.declared.version.Version.TheVariants.{V2}
-use Rattle.ly_drive.specs.Answering.{IsDriven, IsReadAsNeeded}
+use Rattle.ly_drive.specs.Answering.{IsDriven, IsOpenBehind, IsReadAsNeeded}
 use Rattle.ly_generate.specs.Generated.{IsGenerated}
 use Rattle.ly_tables.specs.TableSet.{TableSet}
 use Rattle.lytab.specs.Failure.{IsOfReader}
@@ -23,17 +23,21 @@ IsOfRules (Refused fault line) = Unit {0}
 IsOfRules (Tables fault) = Unit {0}
 IsOfRules _ = ⊥
 
--- Where a table file's set answers: no more than the answer asks for, and at most 4,096 bytes behind, where no read
--- failed.
+-- What is read for the answer that a table set gives: no more than it asks for, and at most 4,096 bytes behind, where no
+-- read failed; and where one did no answer was known, so that it had to be made.
+pub record IsReadFor (s : TableSet) (result : Result Completion Failure) (before after : Option (List ℕ)) : Type 0 where
+  pub needed : (HasReadFailed result → ⊥) → IsReadAsNeeded 4096 s before after
+  pub asked : HasReadFailed result → IsOpenBehind s before after
+
+-- where a table file's set answers
 abbrev pub IsReadByTables : List ℕ → Result Completion Failure → Option (List ℕ) → Option (List ℕ) → Type 0
-IsReadByTables tables result before after = (s : TableSet) → IsDriven tables s → (HasReadFailed result → ⊥)
-    → IsReadAsNeeded 4096 s before after
+IsReadByTables tables result before after = (s : TableSet) → IsDriven tables s → IsReadFor s result before after
 
 -- Where that answers which is made of a lex file and a yacc file; or the reader is as it was.
 abbrev pub IsReadByFiles : {R : Type 0} → List ℕ → List ℕ → Result Completion Failure → R → R → Option (List ℕ)
     → Option (List ℕ) → Type 0
-IsReadByFiles lex yacc result old new before after = (HasReadFailed result → ⊥) → (new ≡ old)
-    ⊎ ((s : TableSet) × IsGenerated V2 version_2 lex yacc s × IsReadAsNeeded 4096 s before after)
+IsReadByFiles lex yacc result old new before after = (new ≡ old)
+    ⊎ ((s : TableSet) × IsGenerated V2 version_2 lex yacc s × IsReadFor s result before after)
 
 -- what these rules ask for: all of a text whose tokens are printed
 abbrev pub IsReadBy : {R : Type 0} → Rules → Result Completion Failure → R → R → Option (List ℕ) → Option (List ℕ)
