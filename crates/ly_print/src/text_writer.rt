@@ -1,4 +1,4 @@
-ghost use Rattle.std.specs.Prelude.{◌≡◌, ◌<◌, ◌≤◌, ◌+◌, ◌^◌, ℕ, List, [], ◌∷◌, Option, length, take};
+ghost use Rattle.std.specs.Prelude.{◌≡◌, ◌<◌, ◌≤◌, ◌+◌, ◌^◌, ◌++◌, ℕ, List, [], ◌∷◌, Option, codes, length, take};
 ghost use Rattle.std.specs.Prelude.{IfOk, IfErr, OnOk, OnErr, MatchResult};
 ghost use Rattle.std.specs.Io.KnownBytes.{Appends};
 ghost use Rattle.std.specs.List.{flat_map};
@@ -166,6 +166,28 @@ impl TextWriter {
             }
         }
         self.push_long_line(writer, label, text.bytes, text.count)
+    }
+
+    /// Appends a label, and what a token consists of behind it, with the brace that closes an object.
+    ///
+    /// It fails where the writer does.
+    pub fn push_json_leaf<W: Sink>(
+        &mut self,
+        writer: &mut W,
+        label: &Label,
+        text: &Front<'_>,
+    ) -> Result<(), WriteFault>
+        requires countable { bytes_of self.old + length (label.now ++ (json_content text.now ++ codes "}")) < 2 ^ 64 }
+        ensures text { IsAppended self.old self.new (W.contents writer.old) (W.contents writer.new)
+            (label.now ++ (json_content text.now ++ codes "}")) result }
+        ensures counted { OnOk result (bytes_of self.new
+            ≡ bytes_of self.old + length (label.now ++ (json_content text.now ++ codes "}"))) }
+        ensures no_failure { OnOk result (W.failures writer.new ≡ W.failures writer.old) }
+        ensures failed { OnErr result (W.failures writer.new ≡ next_count (W.failures writer.old)) }
+    {
+        self.push_long_label(writer, label)?;
+        self.push_json_content(writer, text)?;
+        self.push(writer, b'}')
     }
 
     /// Appends what a token consists of as a member of a JSON object: `"text":` and a string where it is UTF-8, or else

@@ -1,6 +1,7 @@
 pub mod CostLemmas
 pub mod GrownLemmas
 pub mod HeadedLemmas
+pub mod JsonLemmas
 pub mod LineLemmas
 pub mod OfBytesLemmas
 pub mod PickLemmas
