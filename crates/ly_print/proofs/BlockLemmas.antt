@@ -5,7 +5,8 @@ use Rattle.std.proofs.Common.{eqb}
 use Rattle.std.proofs.lemmas.List.{append-nil, length-map, length-take-le, take-append-le, take-take}
 use Rattle.std.proofs.Math.Seq.{take-append-add}
 use Rattle.std.specs.Prelude.{cond, ltb}
-use Rattle.std.specs.List.{prefix_len}
+use Rattle.std.specs.List.{flat_map, prefix_len}
+use Rattle.std.proofs.lemmas.Bool.{cond-true}
 use Rattle.std.proofs.lemmas.Bool.Decides.{nat_tests}
 use Rattle.std.proofs.lemmas.List.Sums.{prefix_len-le-length}
 use Rattle.std.proofs.lemmas.Simd.{first_set_mask_l, mask_l-mod, take_more_put_chunk, zip2_splat}
@@ -14,7 +15,8 @@ use lib.Count.{count_trailing_zeros}
 use lib.Lanes.{mask_l, put_chunk, top, zip2}
 use lib.ListN.{replicate}
 use Rattle.ly_base.specs.Bytes.{double_quote}
-use Rattle.ly_print.specs.Text.{escaped, is_plain}
+use Rattle.ly_print.specs.Json.{string_body, string_byte}
+use Rattle.ly_print.specs.Text.{escaped, escaped_byte, is_plain}
 
 -- the lanes of a comparison
 abbrev flags : (ℕ → Bool) → List ℕ → List ℕ
@@ -86,17 +88,40 @@ run_in_block xs long =
     (omega (arith, long, prefix_len-le-length (λ x. not (special x)) xs))
     ∙ same_prefix (λ x. not (special x)) (is_plain double_quote) xs not_special)
 
--- bytes before the first that is special stand for themselves
-plain_run_is : (q : ℕ) (xs : List ℕ) (k : ℕ) → k ≤ prefix_len (is_plain q) xs → escaped q (take k xs) ≡ take k xs
-plain_run_is q xs zero h = refl
-plain_run_is q [] (suc k) h = refl
-plain_run_is q (x ∷ xs) (suc k) h = by (is_plain q x) refl h (plain_run_is q xs k)
+-- bytes before the first that is special stand for themselves, wherever each of them does
+plain_run_is : (q : ℕ) (each : ℕ → List ℕ) → ((x : ℕ) → is_plain q x ≡ true → each x ≡ x ∷ []) → (xs : List ℕ) (k : ℕ)
+    → k ≤ prefix_len (is_plain q) xs → flat_map each (take k xs) ≡ take k xs
+plain_run_is q each itself xs zero h = refl
+plain_run_is q each itself [] (suc k) h = refl
+plain_run_is q each itself (x ∷ xs) (suc k) h = by (is_plain q x) refl h (plain_run_is q each itself xs k)
   where
     by : (b : Bool) → is_plain q x ≡ b → suc k ≤ cond b (1 + prefix_len (is_plain q) xs) 0
-        → (k ≤ prefix_len (is_plain q) xs → escaped q (take k xs) ≡ take k xs)
-        → escaped q (x ∷ take k xs) ≡ x ∷ take k xs
-    by true e h more = rw e (ap (λ ys. x ∷ ys) (more (omega arith)))
+        → (k ≤ prefix_len (is_plain q) xs → flat_map each (take k xs) ≡ take k xs)
+        → flat_map each (x ∷ take k xs) ≡ x ∷ take k xs
+    by true e h more = ap (λ t. t ++ flat_map each (take k xs)) (itself x e) ∙ ap (λ ys. x ∷ ys) (more (omega arith))
     by false e h more = absurd (omega arith)
+
+-- so they do in a block
+plain_in_block : (q : ℕ) (each : ℕ → List ℕ) → ((x : ℕ) → is_plain q x ≡ true → each x ≡ x ∷ []) → (bytes : List ℕ)
+    (run : ℕ) → run ≤ prefix_len (is_plain q) (take 16 bytes) → flat_map each (take run bytes) ≡ take run bytes
+plain_in_block q each itself bytes run plain =
+    let few : run ≤ 16 = omega (arith, prefix_len-le-length (is_plain q) (take 16 bytes), length-take 16 bytes) in
+    ap (flat_map each) (sym (take-take run 16 bytes few))
+    ∙ plain_run_is q each itself (take 16 bytes) run plain
+    ∙ take-take run 16 bytes few
+
+plain_escaped : (q x : ℕ) → is_plain q x ≡ true → escaped_byte q x ≡ x ∷ []
+plain_escaped q x plain = cond-true _ _ _ plain
+
+plain_in_string : (x : ℕ) → is_plain double_quote x ≡ true → string_byte x ≡ x ∷ []
+plain_in_string x plain = grind (arith, nat_tests)
+
+-- such bytes stand alike between double quotes and in a string
+pub as_string : (bytes : List ℕ) (run : ℕ) → run ≤ prefix_len (is_plain double_quote) (take 16 bytes)
+    → escaped double_quote (take run bytes) ≡ string_body (take run bytes)
+as_string bytes run plain =
+    plain_in_block double_quote (escaped_byte double_quote) (plain_escaped double_quote) bytes run plain
+    ∙ sym (plain_in_block double_quote string_byte plain_in_string bytes run plain)
 
 -- the first bytes of a block at a place
 pub block_at : (room block : List ℕ) (at run : ℕ) → 16 ≤ length block → at + 16 ≤ length room → run ≤ 16
@@ -141,6 +166,5 @@ plain_block room bytes at run block within plain =
     let few : run ≤ 16
     = omega (arith, prefix_len-le-length (is_plain double_quote) (take 16 bytes), length-take 16 bytes) in
     block_at room bytes at run block within few
-    ∙ ap (λ ys. take at room ++ ys) (sym (take-take run 16 bytes few)
-    ∙ sym (plain_run_is double_quote (take 16 bytes) run plain)
-    ∙ ap (escaped double_quote) (take-take run 16 bytes few))
+    ∙ ap (λ ys. take at room ++ ys)
+    (sym (plain_in_block double_quote (escaped_byte double_quote) (plain_escaped double_quote) bytes run plain))

@@ -10,7 +10,7 @@ use Rattle.ly_print.specs.Private.Room.{name_room}
 use Rattle.std.specs.Prelude.{nat_eq, nat_le, ◌&&◌, if◌then◌else◌, Bool}
 
 -- either of two texts
-either_len : (c : Bool) (k : ℕ) (xs ys : List ℕ) → length xs ≤ k → length ys ≤ k → length (if c then xs else ys) ≤ k
+pub either_len : (c : Bool) (k : ℕ) (xs ys : List ℕ) → length xs ≤ k → length ys ≤ k → length (if c then xs else ys) ≤ k
 either_len true k xs ys p q = p
 either_len false k xs ys p q = q
 

@@ -1,7 +1,7 @@
 -- Lemmas on bytes between quotes.
 use Rattle.std.proofs.Common.{◌≡◌, ◌∙◌, ◌<◌, ◌≤◌, ◌+◌, ◌-◌, ◌++◌, ◌∷◌, [], ℕ, List, true, false, length, take, drop}
 use Rattle.std.proofs.Common.{get_or, sym, ap, arith, append-nil, append_assoc, get_or-drop, length-drop}
-use Rattle.std.proofs.Common.{flat_map, length-append, take-append-drop}
+use Rattle.std.proofs.Common.{flat_map, take-append-drop}
 use Rattle.std.proofs.Math.Seq.{take-add}
 use Rattle.std.proofs.lemmas.Grind.{flat_map-append}
 use Rattle.std.proofs.lemmas.Bool.{cond-false, cond-true}
@@ -29,33 +29,6 @@ escaped_more : (quote : ℕ) (bytes before : List ℕ) (at : ℕ) → at < lengt
 escaped_more quote bytes before at within = ap (λ t. before ++ escaped quote t) (take_more bytes at 0 within)
     ∙ sym (flat_map_more (escaped_byte quote) before (take at bytes) (get_or bytes at 0))
 
--- bytes between quotes: those before one, that one, and those behind it
-pub escaped_split : (quote : ℕ) (bytes : List ℕ) (at : ℕ) → at < length bytes
-    → (escaped quote (take at bytes) ++ escaped quote (get_or bytes at 0 ∷ [])) ++ escaped quote (drop (at + 1) bytes)
-    ≡ escaped quote bytes
-escaped_split quote bytes at within =
-    let each = escaped_byte quote in
-    ap (λ t. t ++ flat_map each (drop (at + 1) bytes))
-    (sym (flat_map-append each (take at bytes) (get_or bytes at 0 ∷ []))
-    ∙ ap (λ t. flat_map each t) (sym (take_more bytes at 0 within)))
-    ∙ sym (flat_map-append each (take (at + 1) bytes) (drop (at + 1) bytes))
-    ∙ ap (λ t. flat_map each t) (take-append-drop (at + 1) bytes)
-
--- one more byte between quotes is not more than all are
-pub escaped_within : (quote : ℕ) (bytes : List ℕ) (at : ℕ) → at < length bytes
-    → length (escaped quote (take at bytes)) + length (escaped quote (get_or bytes at 0 ∷ []))
-    ≤ length (escaped quote bytes)
-escaped_within quote bytes at within =
-    let so_far = escaped quote (take at bytes) in
-    let more = escaped quote (get_or bytes at 0 ∷ []) in
-    let rest = escaped quote (drop (at + 1) bytes) in
-    omega (
-      arith,
-      ap length (escaped_split quote bytes at within),
-      length-append (so_far ++ more) rest,
-      length-append so_far more,
-    )
-
 -- a leaf's text behind what stands before it
 pub quoted_leaf : (n : Terminal) (text : List ℕ) → quoted (before_leaf n) text ≡ leaf_of n text
 quoted_leaf n text = append_assoc (name_of n) (double_quote ∷ []) (escaped double_quote text ++ double_quote ∷ [])
@@ -82,23 +55,30 @@ module _ (quote : ℕ) (bytes before out : List ℕ) (start at : ℕ) (behind : 
       ∙ ap (λ t. (before ++ escaped quote (take at bytes)) ++ t) (sym (cond-false _ _ _ other))
       ∙ sym (escaped_more quote bytes before at within))
 
--- more bytes between quotes, behind others
-pub escaped_run : (quote : ℕ) (before bytes : List ℕ) (at run : ℕ)
-    → (before ++ escaped quote (take at bytes)) ++ escaped quote (take run (take (length bytes - at) (drop at bytes)))
-    ≡ before ++ escaped quote (take (at + run) bytes)
-escaped_run quote before bytes at run =
-    let each = escaped_byte quote in
-    ap (λ t. (before ++ escaped quote (take at bytes)) ++ escaped quote (take run t)) (whole_slice at bytes)
-    ∙ append_assoc before (escaped quote (take at bytes)) (escaped quote (take run (drop at bytes)))
-    ∙ ap (λ t. before ++ t) (sym (flat_map-append each (take at bytes) (take run (drop at bytes)))
-    ∙ ap (flat_map each) (sym (take-add at run bytes)))
+-- What is written for each byte, one behind another.
+module _ (each : ℕ → List ℕ) (before bytes : List ℕ) (at : ℕ) where
+  -- more bytes, behind others
+  pub run_behind : (run : ℕ)
+      → (before ++ flat_map each (take at bytes)) ++ flat_map each (take run (take (length bytes - at) (drop at bytes)))
+      ≡ before ++ flat_map each (take (at + run) bytes)
+  run_behind run =
+      ap (λ t. (before ++ flat_map each (take at bytes)) ++ flat_map each (take run t)) (whole_slice at bytes)
+      ∙ append_assoc before (flat_map each (take at bytes)) (flat_map each (take run (drop at bytes)))
+      ∙ ap (λ t. before ++ t) (sym (flat_map-append each (take at bytes) (take run (drop at bytes)))
+      ∙ ap (flat_map each) (sym (take-add at run bytes)))
 
--- one more
-pub escaped_next : (quote : ℕ) (before bytes : List ℕ) (at : ℕ) → at < length bytes
-    → (before ++ escaped quote (take at bytes)) ++ escaped quote (get_or bytes at 0 ∷ [])
-    ≡ before ++ escaped quote (take (at + 1) bytes)
-escaped_next quote before bytes at within =
-    let each = escaped_byte quote in
-    append_assoc before (escaped quote (take at bytes)) (escaped quote (get_or bytes at 0 ∷ []))
-    ∙ ap (λ t. before ++ t) (sym (flat_map-append each (take at bytes) (get_or bytes at 0 ∷ []))
-    ∙ ap (flat_map each) (sym (take_more bytes at 0 within)))
+  -- one more
+  pub next_behind : at < length bytes
+      → (before ++ flat_map each (take at bytes)) ++ each (get_or bytes at 0)
+      ≡ before ++ flat_map each (take (at + 1) bytes)
+  next_behind within = flat_map_more each before (take at bytes) (get_or bytes at 0)
+      ∙ ap (λ t. before ++ flat_map each t) (sym (take_more bytes at 0 within))
+
+-- what is written before a byte, for it, and behind it
+pub split_at : (each : ℕ → List ℕ) (bytes : List ℕ) (at : ℕ) → at < length bytes
+    → (flat_map each (take at bytes) ++ each (get_or bytes at 0)) ++ flat_map each (drop (at + 1) bytes)
+    ≡ flat_map each bytes
+split_at each bytes at within =
+    ap (λ t. t ++ flat_map each (drop (at + 1) bytes)) (next_behind each [] bytes at within)
+    ∙ sym (flat_map-append each (take (at + 1) bytes) (drop (at + 1) bytes))
+    ∙ ap (flat_map each) (take-append-drop (at + 1) bytes)

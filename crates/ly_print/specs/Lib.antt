@@ -1,5 +1,6 @@
 pub mod Counted
 pub mod Device
+pub mod Json
 pub mod MemSink
 pub mod MemSource
 pub mod Private

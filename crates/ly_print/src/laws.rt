@@ -1,4 +1,4 @@
-ghost use Rattle.std.specs.Prelude.{◌≡◌, Some};
+ghost use Rattle.std.specs.Prelude.{◌≡◌, ◌<◌, All, Some};
 ghost use Rattle.ly_print.specs.Counted.{device_of};
 ghost use Rattle.ly_print.specs.MemSink.{written};
 ghost use Rattle.ly_print.specs.MemSource.{unread};
@@ -21,4 +21,9 @@ pub fn counting_keeps_what_is_known<R: Read, W: Write>()
 pub fn memory_is_known()
     ensures remaining { (s : MemSource) → ⟦<MemSource<'static> as Source>⟧.remaining s ≡ Some (unread s) }
     ensures contents { (s : MemSink) → ⟦<MemSink as Sink>⟧.contents s ≡ Some (written s) }
+{}
+
+/// Bytes are numbers below 256, as their type says.
+pub fn are_bytes(bytes: &[u8])
+    ensures { All (λ byte. byte < 256) bytes.now }
 {}

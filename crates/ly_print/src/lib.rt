@@ -8,9 +8,11 @@
 #![tactic(auto)]
 
 mod answer_form;
+mod byte_form;
 mod counted;
 mod device;
 mod front;
+mod json;
 mod label;
 mod laws;
 mod memory;
@@ -24,8 +26,9 @@ pub use answer_form::AnswerForm;
 pub use counted::Counted;
 pub use device::{DeviceFailed, Sink, Source};
 pub use front::Front;
+pub use json::{push_json_content, push_json_name};
 pub use label::Label;
-pub use laws::{counting_keeps_what_is_known, memory_is_known};
+pub use laws::{are_bytes, counting_keeps_what_is_known, memory_is_known};
 pub use memory::{MemSink, MemSource};
 pub use text::{Terminal, push_escaped, push_leaf, push_name, push_no_rule_line};
 pub use text_writer::TextWriter;

@@ -129,9 +129,10 @@ fn put_runs(room: &mut [u8], at: usize, bytes: &[u8], count: usize) -> usize
 /// Copies those of the first bytes that stand for themselves between double quotes to a place, so many at most and no
 /// more than a block has, and answers how many they are. They are none where no block is left.
 #[inline(always)]
-fn put_plain(room: &mut [u8], at: usize, bytes: &[u8], most: usize) -> usize
+pub(crate) fn put_plain(room: &mut [u8], at: usize, bytes: &[u8], most: usize) -> usize
     requires { at + 16 ≤ length room.old }
     ensures bytes { take (at + result) room.new ≡ take at room.old ++ escaped double_quote (take result bytes.now) }
+    ensures plain { result ≤ prefix_len (is_plain double_quote) (take 16 bytes.now) }
     ensures most { result ≤ most }
     ensures within { result ≤ length bytes.now }
     ensures room { length room.new ≡ length room.old }
@@ -219,7 +220,7 @@ pub(crate) fn put_escape(room: &mut [u8], at: usize, byte: u8) -> usize
 }
 
 /// The lower-case hexadecimal digit of a number below 16.
-fn hex_digit(value: u8) -> u8
+pub(crate) fn hex_digit(value: u8) -> u8
     requires { value < 16 }
     ensures { result ≡ digit_glyph false value }
 {

@@ -1,16 +1,21 @@
-ghost use Rattle.std.specs.Prelude.{◌≡◌, ◌<◌, ◌≤◌, ◌+◌, ◌^◌, ℕ, List, [], ◌∷◌, Option, length, take};
+ghost use Rattle.std.specs.Prelude.{◌≡◌, ◌<◌, ◌≤◌, ◌+◌, ◌^◌, ◌++◌, ℕ, List, [], ◌∷◌, Option, codes, length, take};
 ghost use Rattle.std.specs.Prelude.{IfOk, IfErr, OnOk, OnErr, MatchResult};
 ghost use Rattle.std.specs.Io.KnownBytes.{Appends};
+ghost use Rattle.std.specs.List.{flat_map};
 ghost use Rattle.ly_print.specs.Device.{next_count};
-ghost use Rattle.ly_print.specs.Text.{escaped, no_rule_line, quoted, quoted_line};
+ghost use Rattle.ly_print.specs.Json.{bytes_member, json_content, numbers, string_body, text_member};
+ghost use Rattle.ly_print.specs.Private.ByteForm.{written_as};
+ghost use Rattle.ly_print.specs.Text.{no_rule_line, quoted, quoted_line};
 ghost use Rattle.ly_print.specs.TextWriter.{bytes_of, IsAppended, IsCutShort, IsUnderway};
 
+use crate::byte_form::{BYTE_ROOM, ByteForm, put_byte};
 use crate::device::Sink;
 use crate::front::Front;
+use crate::json::{fits_in_string, is_utf8, put_number, put_string_body};
 use crate::label::Label;
 use crate::room::{
-    NO_RULE_ROOM, SHORT_ROOM, fits, put, put_bytes, put_escaped, put_front_of, put_no_rule_line,
-    put_quoted, put_short,
+    NO_RULE_ROOM, SHORT_ROOM, fits, put, put_bytes, put_front_of, put_no_rule_line, put_quoted,
+    put_short,
 };
 use crate::whole::{WriteFault, write_whole};
 use std::alloc::{AllocError, Global};
@@ -163,6 +168,51 @@ impl TextWriter {
         self.push_long_line(writer, label, text.bytes, text.count)
     }
 
+    /// Appends a label, and what a token consists of behind it, with the brace that closes an object.
+    ///
+    /// It fails where the writer does.
+    pub fn push_json_leaf<W: Sink>(
+        &mut self,
+        writer: &mut W,
+        label: &Label,
+        text: &Front<'_>,
+    ) -> Result<(), WriteFault>
+        requires countable { bytes_of self.old + length (label.now ++ (json_content text.now ++ codes "}")) < 2 ^ 64 }
+        ensures text { IsAppended self.old self.new (W.contents writer.old) (W.contents writer.new)
+            (label.now ++ (json_content text.now ++ codes "}")) result }
+        ensures counted { OnOk result (bytes_of self.new
+            ≡ bytes_of self.old + length (label.now ++ (json_content text.now ++ codes "}"))) }
+        ensures no_failure { OnOk result (W.failures writer.new ≡ W.failures writer.old) }
+        ensures failed { OnErr result (W.failures writer.new ≡ next_count (W.failures writer.old)) }
+    {
+        self.push_long_label(writer, label)?;
+        self.push_json_content(writer, text)?;
+        self.push(writer, b'}')
+    }
+
+    /// Appends what a token consists of as a member of a JSON object: `"text":` and a string where it is UTF-8, or else
+    /// `"bytes":` and a list of its bytes' numbers.
+    ///
+    /// It fails where the writer does.
+    pub fn push_json_content<W: Sink>(
+        &mut self,
+        writer: &mut W,
+        text: &Front<'_>,
+    ) -> Result<(), WriteFault>
+        requires countable { bytes_of self.old + length (json_content text.now) < 2 ^ 64 }
+        ensures text { IsAppended self.old self.new (W.contents writer.old) (W.contents writer.new)
+            (json_content text.now) result }
+        ensures counted { OnOk result (bytes_of self.new ≡ bytes_of self.old + length (json_content text.now)) }
+        ensures no_failure { OnOk result (W.failures writer.new ≡ W.failures writer.old) }
+        ensures failed { OnErr result (W.failures writer.new ≡ next_count (W.failures writer.old)) }
+    {
+        if is_utf8(text.bytes()) {
+            self.push_json_text(writer, text)
+        } else {
+            self.push_json_bytes(writer, text.bytes())
+        }
+    }
+
     /// Appends the line that says at which byte no rule matches, counted from 0.
     ///
     /// It fails where the writer does.
@@ -297,27 +347,99 @@ impl TextWriter {
     {
         // the room holds the label at most then
         self.push_behind(writer, label)?;
-        self.push_escaped(writer, b'"', text)?;
+        self.push_each(writer, ByteForm::Quoted, text)?;
         self.push(writer, b'"')
     }
 
-    /// Appends bytes as they stand between quotes.
-    fn push_escaped<W: Sink>(
+    /// Appends the member `"text":` with a text as a string.
+    fn push_json_text<W: Sink>(
         &mut self,
         writer: &mut W,
-        quote: u8,
+        text: &Front<'_>,
+    ) -> Result<(), WriteFault>
+        requires countable { bytes_of self.old + length (text_member text.now) < 2 ^ 64 }
+        ensures text { IsAppended self.old self.new (W.contents writer.old) (W.contents writer.new)
+            (text_member text.now) result }
+        ensures counted { OnOk result (bytes_of self.new ≡ bytes_of self.old + length (text_member text.now)) }
+        ensures no_failure { OnOk result (W.failures writer.new ≡ W.failures writer.old) }
+        ensures failed { OnErr result (W.failures writer.new ≡ next_count (W.failures writer.old)) }
+    {
+        self.push_bytes(writer, b"\"text\":\"")?;
+        self.push_string_body(writer, text)?;
+        self.push(writer, b'"')
+    }
+
+    /// Appends the member `"bytes":` with a list of the numbers of bytes.
+    #[cold]
+    fn push_json_bytes<W: Sink>(&mut self, writer: &mut W, bytes: &[u8]) -> Result<(), WriteFault>
+        requires countable { bytes_of self.old + length (bytes_member bytes.now) < 2 ^ 64 }
+        ensures text { IsAppended self.old self.new (W.contents writer.old) (W.contents writer.new)
+            (bytes_member bytes.now) result }
+        ensures counted { OnOk result (bytes_of self.new ≡ bytes_of self.old + length (bytes_member bytes.now)) }
+        ensures no_failure { OnOk result (W.failures writer.new ≡ W.failures writer.old) }
+        ensures failed { OnErr result (W.failures writer.new ≡ next_count (W.failures writer.old)) }
+    {
+        self.push_bytes(writer, b"\"bytes\":[")?;
+        self.push_numbers(writer, bytes)?;
+        self.push(writer, b']')
+    }
+
+    /// Appends numbers, with commas between them.
+    fn push_numbers<W: Sink>(&mut self, writer: &mut W, bytes: &[u8]) -> Result<(), WriteFault>
+        requires countable { bytes_of self.old + length (numbers bytes.now) < 2 ^ 64 }
+        ensures text { IsAppended self.old self.new (W.contents writer.old) (W.contents writer.new)
+            (numbers bytes.now) result }
+        ensures counted { OnOk result (bytes_of self.new ≡ bytes_of self.old + length (numbers bytes.now)) }
+        ensures no_failure { OnOk result (W.failures writer.new ≡ W.failures writer.old) }
+        ensures failed { OnErr result (W.failures writer.new ≡ next_count (W.failures writer.old)) }
+    {
+        let Some((first, others)) = bytes.split_first() else {
+            return Ok(());
+        };
+        let mut room = [0u8; 3];
+        let end = put_number(&mut room, 0, *first);
+        self.push_bytes(writer, &room[..end])?;
+        self.push_each(writer, ByteForm::OtherNumber, others)
+    }
+
+    /// Appends a text as it stands in a JSON string.
+    fn push_string_body<W: Sink>(
+        &mut self,
+        writer: &mut W,
+        text: &Front<'_>,
+    ) -> Result<(), WriteFault>
+        requires countable { bytes_of self.old + length (string_body text.now) < 2 ^ 64 }
+        ensures text { IsAppended self.old self.new (W.contents writer.old) (W.contents writer.new)
+            (string_body text.now) result }
+        ensures counted { OnOk result (bytes_of self.new ≡ bytes_of self.old + length (string_body text.now)) }
+        ensures no_failure { OnOk result (W.failures writer.new ≡ W.failures writer.old) }
+        ensures failed { OnErr result (W.failures writer.new ≡ next_count (W.failures writer.old)) }
+    {
+        if !fits_in_string(self.room.len() - self.used, text.count) {
+            return self.push_each(writer, ByteForm::InString, text.bytes());
+        }
+        self.used = put_string_body(&mut self.room, self.used, text.bytes, text.count);
+        Ok(())
+    }
+
+    /// Appends what is written for each byte.
+    fn push_each<W: Sink>(
+        &mut self,
+        writer: &mut W,
+        form: ByteForm,
         bytes: &[u8],
     ) -> Result<(), WriteFault>
-        requires countable { bytes_of self.old + length (escaped quote bytes.now) < 2 ^ 64 }
+        requires countable { bytes_of self.old + length (flat_map (written_as form) bytes.now) < 2 ^ 64 }
         ensures text { IsAppended self.old self.new (W.contents writer.old) (W.contents writer.new)
-            (escaped quote bytes.now) result }
-        ensures counted { OnOk result (bytes_of self.new ≡ bytes_of self.old + length (escaped quote bytes.now)) }
+            (flat_map (written_as form) bytes.now) result }
+        ensures counted { OnOk result (bytes_of self.new
+            ≡ bytes_of self.old + length (flat_map (written_as form) bytes.now)) }
         ensures no_failure { OnOk result (W.failures writer.new ≡ W.failures writer.old) }
         ensures failed { OnErr result (W.failures writer.new ≡ next_count (W.failures writer.old)) }
     {
         for byte in bytes {
-            let mut room = [0u8; 4];
-            let end = put_escaped(&mut room, 0, quote, &[*byte]);
+            let mut room = [0u8; BYTE_ROOM];
+            let end = put_byte(&mut room, 0, form, *byte);
             self.push_bytes(writer, &room[..end])?;
         }
         Ok(())

@@ -1,6 +1,7 @@
-ghost use Rattle.std.specs.Prelude.{◌≡◌, ◌≤◌, ◌+◌, [], ◌++◌, drop, length, take, OnErr, OnOk};
+ghost use Rattle.std.specs.Prelude.{◌≡◌, ◌<◌, ◌≤◌, ◌+◌, [], ◌++◌, drop, length, take, All, OnErr, OnOk};
 
 use crate::front::{BLOCK, Front};
+use crate::laws::are_bytes;
 use crate::room::put_front_of;
 use std::alloc::{AllocError, Global};
 use std::marker::Model;
@@ -65,6 +66,13 @@ impl Texts {
         ensures { result ≡ take count (drop start self.now) }
     {
         Front::new(&self.bytes[start..], count)
+    }
+
+    /// What they consist of is bytes.
+    pub fn are_bytes(&self)
+        ensures { All (λ byte. byte < 256) self.now }
+    {
+        are_bytes(&self.bytes[..self.used]);
     }
 
     /// Appends the first so many of these bytes, however many they are.

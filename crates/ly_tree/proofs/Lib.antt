@@ -1,8 +1,11 @@
 pub mod CostLemmas
 pub mod GrownLemmas
 pub mod HeadedLemmas
+pub mod JsonLemmas
 pub mod LineLemmas
+pub mod OfBytesLemmas
 pub mod PickLemmas
 pub mod PieceLemmas
+pub mod PlainLemmas
 pub mod PrintingLemmas
 pub mod StandLemmas

@@ -5,18 +5,16 @@ use Rattle.std.proofs.lemmas.List.Sums.{sum_by-cons}
 use Rattle.std.specs.Borrow.{Bor}
 use Rattle.std.specs.Option.{SomeIff}
 use Rattle.std.specs.Prelude.{codes, sum, IfSome, IsSome, Option}
-use Rattle.ly_print.proofs.RoomLemmas.{escaped_len}
-use Rattle.ly_print.proofs.TextLemmas.{quoted_leaf}
-use Rattle.ly_base.specs.Bytes.{double_quote, newline}
-use Rattle.ly_print.specs.Text.{before_leaf, escaped, token}
+use Rattle.ly_base.specs.Bytes.{newline}
 use Rattle.ly_base.specs.declared.numbers.Sym.{Sym}
 use Rattle.ly_tree.proofs.CostLemmas.{length-terms_from}
 use Rattle.ly_tree.specs.Costs.{budget, bytes_in, cost, costs, IsPaid}
 use Rattle.ly_tree.specs.Forest.{term_of, Grown, Lists}
 use Rattle.ly_tree.specs.Private.Grown.{grown, lists_from, long_leaf, terms_from, AllKnown}
+use Rattle.ly_tree.specs.Private.OfBytes.{AreOfBytes, IsOfBytes}
 use Rattle.ly_tree.specs.Private.Printing.{left_of, term_at, term_text, IsOpen}
-use Rattle.ly_tree.specs.Shown.{shown, shown_all, Vocabulary}
 use Rattle.ly_tree.specs.Term.{Term, Terms, built, leaf, more, none, nothing}
+use Rattle.ly_tree.specs.Written.{written, written_all, IsWithin, Notation}
 use Rattle.ly_tree.specs.declared.forest.TermRef.{TermRef}
 use Rattle.ly_tree.specs.declared.span.Span.{Span}
 
@@ -47,45 +45,31 @@ some_is (Some x) v n bound h is =
     (h.1 ∙ is, omega (arith, within, h.1))
 some_is None v n bound h is = tt
 
--- A term costs a length for each of its parts, and four for each byte of a leaf, since an escape has four bytes. So
--- much and a newline it has at most as printed, where labels are no longer than that.
--- (a comma or a parenthesis stands behind each part but the last)
-module _ (v : Vocabulary) (longest : ℕ)
-    (leaves : (t : ℕ) → length (before_leaf (token (v.terminal t))) ≤ longest)
-    (nodes : (p : ℕ) → length (v.constructor p ++ codes "(") ≤ longest) where
+-- A term is written in no more than it costs, with a comma behind it.
+module _ (v : Notation) (each byte : ℕ) (within : IsWithin v each byte) where
   mutual
-    pub shown_within : (t : Term) → length (shown v t) + 1 ≤ cost (longest + 4) 4 t
-    shown_within nothing = omega arith
-    shown_within (leaf t bytes) =
-        let label = before_leaf (token (v.terminal t)) in
-        let text = escaped double_quote bytes in
+    pub written_within : (t : Term) → IsOfBytes t → length (written v t) + 1 ≤ cost each byte t
+    written_within nothing all = within.no_term
+    written_within (leaf t bytes) all = within.leaves t bytes all
+    written_within (built p ts) all =
         omega (
           arith,
-          leaves t,
-          ap length (quoted_leaf (token (v.terminal t)) bytes),
-          length-append label (text ++ double_quote ∷ []),
-          length-append text (double_quote ∷ []),
-          escaped_len double_quote bytes,
-        )
-    shown_within (built p ts) =
-        omega (
-          arith,
-          nodes p,
-          length-append (v.constructor p ++ codes "(" ++ shown_all v ts) (codes ")"),
-          length-append (v.constructor p ++ codes "(") (shown_all v ts),
-          all_within ts,
+          within.nodes p,
+          length-append (v.opens p ++ written_all v ts) v.closes,
+          length-append (v.opens p) (written_all v ts),
+          all_within ts all,
         )
 
-    all_within : (ts : Terms) → length (shown_all v ts) ≤ costs (longest + 4) 4 ts
-    all_within none = omega arith
-    all_within (more t none) = omega (arith, shown_within t)
-    all_within (more t (more u ts)) =
+    all_within : (ts : Terms) → AreOfBytes ts → length (written_all v ts) ≤ costs each byte ts
+    all_within none all = omega arith
+    all_within (more t none) all = omega (arith, written_within t all.0)
+    all_within (more t (more u ts)) all =
         omega (
           arith,
-          shown_within t,
-          all_within (more u ts),
-          length-append (shown v t ++ codes ",") (shown_all v (more u ts)),
-          length-append (shown v t) (codes ","),
+          written_within t all.0,
+          all_within (more u ts) all.1,
+          length-append (written v t ++ codes ",") (written_all v (more u ts)),
+          length-append (written v t) (codes ","),
         )
 
 -- A printer may begin with a term that its forest pays for, where there is so much room.
@@ -100,15 +84,14 @@ may_begin f r beside room known paid alone fits = record {
 }
 
 -- its line is no longer than it costs
-pub line_within : (v : Vocabulary) (f : Grown) (r : TermRef) (longest n : ℕ)
-    → ((t : ℕ) → length (before_leaf (token (v.terminal t))) ≤ longest)
-    → ((p : ℕ) → length (v.constructor p ++ codes "(") ≤ longest) → IsPaid f (term_at f r)
-    → n ≡ (longest + 4) + budget (longest + 4) 4 f → length (term_text v f r ++ newline ∷ []) ≤ n
-line_within v f r longest n leaves nodes paid is =
+pub line_within : (v : Notation) (f : Grown) (r : TermRef) (each byte n : ℕ) → IsWithin v each byte
+    → IsOfBytes (term_at f r) → IsPaid f (term_at f r) → n ≡ each + budget each byte f
+    → length (term_text v f r ++ newline ∷ []) ≤ n
+line_within v f r each byte n within bytes paid is =
     omega (
       arith,
-      shown_within v longest leaves nodes (term_at f r),
-      paid (longest + 4) 4,
+      written_within v each byte within (term_at f r) bytes,
+      paid each byte,
       is,
       length-append (term_text v f r) (newline ∷ []),
     )

@@ -7,35 +7,35 @@ use Rattle.std.proofs.lemmas.List.Elements.{All-push}
 use Rattle.std.proofs.Math.ListN.{get_or-append}
 use Rattle.std.proofs.Math.Seq.{get_or-append_seam}
 use Rattle.ly_print.proofs.TextWriterLemmas.{all_there, appended_twice, cut_from, cut_more, underway_from}
-use Rattle.ly_base.specs.Bytes.{double_quote, newline}
-use Rattle.ly_print.specs.Text.{escaped}
+use Rattle.ly_base.specs.Bytes.{newline}
 use Rattle.ly_print.specs.TextWriter.{IsAppended, IsCutShort, IsUnderway, Outgoing, bytes_of}
 use Rattle.ly_print.specs.declared.whole.WriteFault.{WriteFault}
+use Rattle.ly_tree.proofs.CostLemmas.{each_in_cost}
 use Rattle.ly_tree.proofs.StandLemmas.{known_front, known_rest}
 use Rattle.ly_tree.specs.Costs.{cost}
 use Rattle.ly_tree.specs.Forest.{terms_of, Grown, StandsFor}
 use Rattle.ly_tree.specs.Private.Grown.{AllKnown}
-use Rattle.ly_tree.specs.Private.Printing.{all_left_of, begun, left_of, left_text, next_text, opening, tail_text}
+use Rattle.ly_tree.specs.Private.Printing.{all_left_of, begun, left_of, left_text, next_text, opening, tail_text, terms_left}
 use Rattle.ly_tree.specs.Private.Printing.{term_at, term_text, waiting_text, AllWaitingKnown, HasChildren, IsAlone}
 use Rattle.ly_tree.specs.Private.Printing.{IsOpen, IsPrinted}
-use Rattle.ly_tree.specs.Shown.{shown, shown_all, Vocabulary}
 use Rattle.ly_tree.specs.Term.{Term, nothing, leaf, built}
+use Rattle.ly_tree.specs.Written.{written, written_all, Notation}
 use Rattle.ly_tree.specs.declared.forest.TermRef.{TermRef}
 
 -- the last node's end comes first
-waiting_text-push : (v : Vocabulary) (f : Grown) (rest : List (Bor (List TermRef))) (ns : Bor (List TermRef))
+waiting_text-push : (v : Notation) (f : Grown) (rest : List (Bor (List TermRef))) (ns : Bor (List TermRef))
     → waiting_text v f (rest ++ ns ∷ []) ≡ tail_text v f ns.now ++ waiting_text v f rest
 waiting_text-push v f [] ns = sym (append-nil (tail_text v f ns.now))
 waiting_text-push v f (ms ∷ rest) ns = ap (λ t. t ++ tail_text v f ms.now) (waiting_text-push v f rest ns)
     ∙ append_assoc (tail_text v f ns.now) (waiting_text v f rest) (tail_text v f ms.now)
 
--- the terms between a node's parentheses, and its end
-shown_all-tail : (v : Vocabulary) (f : Grown) (n : TermRef) (ns : List TermRef)
-    → shown_all v (terms_of f (n ∷ ns)) ++ codes ")" ≡ term_text v f n ++ tail_text v f ns
-shown_all-tail v f n [] = refl
-shown_all-tail v f n (m ∷ ns) =
-    append_assoc (term_text v f n ++ codes ",") (shown_all v (terms_of f (m ∷ ns))) (codes ")")
-    ∙ (ap (λ t. (term_text v f n ++ codes ",") ++ t) (shown_all-tail v f m ns)
+-- the terms of a node, and its end
+written_all-tail : (v : Notation) (f : Grown) (n : TermRef) (ns : List TermRef)
+    → written_all v (terms_of f (n ∷ ns)) ++ v.closes ≡ term_text v f n ++ tail_text v f ns
+written_all-tail v f n [] = refl
+written_all-tail v f n (m ∷ ns) =
+    append_assoc (term_text v f n ++ codes ",") (written_all v (terms_of f (m ∷ ns))) (v.closes)
+    ∙ (ap (λ t. (term_text v f n ++ codes ",") ++ t) (written_all-tail v f m ns)
     ∙ (append_assoc (term_text v f n) (codes ",") (term_text v f m ++ tail_text v f ns)
     ∙ ap (λ t. term_text v f n ++ t) (sym (append_assoc (codes ",") (term_text v f m) (tail_text v f ns)))))
 
@@ -46,12 +46,12 @@ begun-push [] os cs = refl
 begun-push (beside ∷ outer) os cs = refl
 
 -- its end comes before what is left behind it
-left_text-push : (v : Vocabulary) (f : Grown) (ws : List (Bor (List TermRef))) (os cs : Bor (List TermRef))
+left_text-push : (v : Notation) (f : Grown) (ws : List (Bor (List TermRef))) (os cs : Bor (List TermRef))
     → left_text v f (ws ++ os ∷ []) cs ≡ tail_text v f cs.now ++ left_text v f ws os
 left_text-push v f ws os cs = ap (waiting_text v f) (begun-push ws os cs) ∙ waiting_text-push v f (begun ws os) cs
 
 -- a child is left: a comma, and it is next
-pub sibling_text : (v : Vocabulary) (f : Grown) (ws : List (Bor (List TermRef))) (os rest : Bor (List TermRef))
+pub sibling_text : (v : Notation) (f : Grown) (ws : List (Bor (List TermRef))) (os rest : Bor (List TermRef))
     (n : TermRef) → IsAlone ws os → os.now ≡ n ∷ rest.now
     → codes "," ++ (term_text v f n ++ left_text v f ws rest) ≡ left_text v f ws os
 sibling_text v f [] os rest n alone is = absurd (let both : [] ≡ n ∷ rest.now = sym alone ∙ is in cc)
@@ -59,8 +59,8 @@ sibling_text v f (beside ∷ outer) os rest n alone is =
     rw (waiting_text-push v f outer rest, waiting_text-push v f outer os, is) (simp append_assoc)
 
 -- no child is left: the node ends
-pub end_text : (v : Vocabulary) (f : Grown) (before ws : List (Bor (List TermRef))) (os outer : Bor (List TermRef))
-    → before ≡ ws ++ outer ∷ [] → os.now ≡ [] → codes ")" ++ left_text v f ws outer ≡ left_text v f before os
+pub end_text : (v : Notation) (f : Grown) (before ws : List (Bor (List TermRef))) (os outer : Bor (List TermRef))
+    → before ≡ ws ++ outer ∷ [] → os.now ≡ [] → v.closes ++ left_text v f ws outer ≡ left_text v f before os
 end_text v f before ws os outer is none =
     sym (ap (λ b. left_text v f b os) is ∙ (left_text-push v f ws outer os
     ∙ ap (λ ns. tail_text v f ns ++ left_text v f ws outer) none))
@@ -79,35 +79,6 @@ pub alone_still : (ws : List (Bor (List TermRef))) (os rest : Bor (List TermRef)
     → os.now ≡ n ∷ rest.now → IsAlone ws rest
 alone_still [] os rest n alone is = absurd (let both : [] ≡ n ∷ rest.now = sym alone ∙ is in cc)
 alone_still (beside ∷ outer) os rest n alone is = alone
-
--- a child is left, so it is a node's
-pub has_node : (ws : List (Bor (List TermRef))) (os rest : Bor (List TermRef)) (n : TermRef) → IsAlone ws os
-    → os.now ≡ n ∷ rest.now → 1 ≤ length ws
-has_node [] os rest n alone is = absurd (let both : [] ≡ n ∷ rest.now = sym alone ∙ is in cc)
-has_node (beside ∷ outer) os rest n alone is = omega arith
-
--- a byte or more for each node that is begun
-waiting_text-long : (v : Vocabulary) (f : Grown) (ws : List (Bor (List TermRef)))
-    → length ws ≤ length (waiting_text v f ws)
-waiting_text-long v f [] = omega arith
-waiting_text-long v f (ns ∷ rest) =
-    omega (
-      arith,
-      length-append (waiting_text v f rest) (tail_text v f ns.now),
-      waiting_text-long v f rest,
-      tail_long v f ns.now,
-    )
-  where
-    tail_long : (v : Vocabulary) (f : Grown) (ns : List TermRef) → 1 ≤ length (tail_text v f ns)
-    tail_long v f [] = omega arith
-    tail_long v f (n ∷ ns) = omega arith
-
-pub left_text-long : (v : Vocabulary) (f : Grown) (ws : List (Bor (List TermRef))) (os : Bor (List TermRef))
-    → length ws ≤ length (left_text v f ws os)
-left_text-long v f [] os = omega arith
-left_text-long v f (beside ∷ outer) os =
-    let long = waiting_text-long v f (outer ++ os ∷ []) in
-    omega (arith, length-append outer (os ∷ []), long)
 
 all_front : {A : Type 0} (P : A → Type 0) (xs : List A) (x : A) → All P (xs ++ x ∷ []) → All P xs
 all_front P xs x h k d l = subst P (get_or-append xs (x ∷ []) d k l)
@@ -200,7 +171,7 @@ open_around f before ws os cs n room is h was =
     })
 
 -- a node is begun that has no children
-pub childless_text : (v : Vocabulary) (f : Grown) (before ws : List (Bor (List TermRef))) (os cs : Bor (List TermRef))
+pub childless_text : (v : Notation) (f : Grown) (before ws : List (Bor (List TermRef))) (os cs : Bor (List TermRef))
     (n : TermRef) → before ≡ ws ++ os ∷ [] → HasChildren f n (Some cs) → cs.now ≡ []
     → opening v (term_at f n) ++ left_text v f before cs ≡ term_text v f n ++ left_text v f ws os
 childless_text v f before ws os cs n is h none =
@@ -208,32 +179,25 @@ childless_text v f before ws os cs n is h none =
     rw (is, left_text-push v f ws os cs, none, stands, none) (simp append_assoc)
 
 -- a node is begun, up to its first child
-pub child_text : (v : Vocabulary) (f : Grown) (before ws : List (Bor (List TermRef))) (os cs rest : Bor (List TermRef))
+pub child_text : (v : Notation) (f : Grown) (before ws : List (Bor (List TermRef))) (os cs rest : Bor (List TermRef))
     (n first : TermRef) → before ≡ ws ++ os ∷ [] → HasChildren f n (Some cs) → cs.now ≡ first ∷ rest.now
     → opening v (term_at f n) ++ (term_text v f first ++ left_text v f before rest)
     ≡ term_text v f n ++ left_text v f ws os
 child_text v f before ws os cs rest n first is h split =
     let p = h.0.0 in
-    let head = v.constructor p ++ codes "(" in
+    let head = v.opens p in
     let node : term_text v f n ≡ head ++ (term_text v f first ++ tail_text v f rest.now)
-    = ap (λ t. shown v (unwrap_or t nothing)) h.0.1
-    ∙ (ap (λ ns. head ++ shown_all v (terms_of f ns) ++ codes ")") split
-    ∙ (append_assoc head (shown_all v (terms_of f (first ∷ rest.now))) (codes ")")
-    ∙ ap (λ t. head ++ t) (shown_all-tail v f first rest.now))) in
+    = ap (λ t. written v (unwrap_or t nothing)) h.0.1
+    ∙ (ap (λ ns. head ++ written_all v (terms_of f ns) ++ v.closes) split
+    ∙ (append_assoc head (written_all v (terms_of f (first ∷ rest.now))) v.closes
+    ∙ ap (λ t. head ++ t) (written_all-tail v f first rest.now))) in
     let opened : opening v (term_at f n) ≡ head = ap (λ t. opening v (unwrap_or t nothing)) h.0.1 in
     rw (opened, is, left_text-push v f ws os rest, node) (simp append_assoc)
 
 -- a term that is no node is printed whole
-pub whole_text : (v : Vocabulary) (f : Grown) (ws : List (Bor (List TermRef))) (os : Bor (List TermRef)) (n : TermRef)
+pub whole_text : (v : Notation) (f : Grown) (ws : List (Bor (List TermRef))) (os : Bor (List TermRef)) (n : TermRef)
     → HasChildren f n None → opening v (term_at f n) ++ left_text v f ws os ≡ term_text v f n ++ left_text v f ws os
 whole_text v f ws os n h = ap (λ t. t ++ left_text v f ws os) (sym (h v))
-
--- something is printed of each term
-pub opening_long : (v : Vocabulary) (t : Term) → 1 ≤ length (opening v t)
-opening_long v nothing = omega arith
-opening_long v (leaf t bytes) =
-    omega (arith, length-append (v.terminal t) (double_quote ∷ (escaped double_quote bytes ++ double_quote ∷ [])))
-opening_long v (built p ts) = omega (arith, length-append (v.constructor p) (codes "("))
 
 -- nothing comes
 pub nothing_appended : (o : Outgoing) (n : Option (List ℕ)) → IsAppended o o n n [] (Ok tt)
@@ -263,33 +227,50 @@ printed_fails o o' o'' n n' bytes mid whole left (Err f) fault is e h =
     subst (IsCutShort b n' fault.written) (append_assoc text bytes mid ∙ ap (λ t. text ++ t) is)
     (cut_more b n' fault.written (text ++ bytes) mid (h b text u)))
 
--- what is left is no longer than what was
-pub no_longer : (o o' : Outgoing) (n n' : Option (List ℕ)) (whole : List ℕ) (left : Option TermRef → List ℕ)
-    (r : Result (Option TermRef) WriteFault) → IsPrinted o o' n n' whole left r
-    → IfOk r (λ next. length (left next) ≤ length whole)
-no_longer o o' n n' whole left (Ok next) h = omega (arith, ap length h.1, length-append h.0 (left next))
-no_longer o o' n n' whole left (Err fault) h = tt
+-- fewer terms are left than were
+pub fewer_than : (left : Option TermRef → ℕ) (before whole : ℕ) (r : Result (Option TermRef) WriteFault)
+    → before < whole → IfOk r (λ next. left next ≤ before) → IfOk r (λ next. left next < whole)
+fewer_than left before whole (Ok next) less h = omega arith
+fewer_than left before whole (Err fault) less h = tt
+
+-- a child is left: it is next
+pub sibling_left : (f : Grown) (ws : List (Bor (List TermRef))) (os rest : Bor (List TermRef)) (n : TermRef)
+    → os.now ≡ n ∷ rest.now → terms_left f (Some n) ws rest ≡ terms_left f None ws os
+sibling_left f ws os rest n is = omega (arith, ap (left_of f) is)
+
+-- no child is left: the node ends
+pub inside_left : (f : Grown) (before ws : List (Bor (List TermRef))) (os outer : Bor (List TermRef))
+    → before ≡ ws ++ outer ∷ [] → terms_left f None ws outer ≤ terms_left f None before os
+inside_left f before ws os outer is = omega (arith, ap (all_left_of f) is, all_left_of-push f ws outer)
+
+-- a node is begun
+pub around_left : (f : Grown) (before ws : List (Bor (List TermRef))) (os cs : Bor (List TermRef)) (n : TermRef)
+    → before ≡ ws ++ os ∷ [] → HasChildren f n (Some cs) → terms_left f None before cs < terms_left f (Some n) ws os
+around_left f before ws os cs n is h = omega (
+  arith,
+  node_terms f n h.0.0 cs.now h.0.1,
+  ap (all_left_of f) is,
+  all_left_of-push f ws os,
+)
+
+-- a term is printed whole
+pub behind_left : (f : Grown) (ws : List (Bor (List TermRef))) (os : Bor (List TermRef)) (n : TermRef)
+    → terms_left f None ws os < terms_left f (Some n) ws os
+behind_left f ws os n = omega (arith, each_in_cost 1 0 (term_at f n))
 
 -- what is printed before the children of a term is the beginning of it
-pub opened_before : (v : Vocabulary) (f : Grown) (n : TermRef) (left : List ℕ)
+pub opened_before : (v : Notation) (f : Grown) (n : TermRef) (left : List ℕ)
     → (more : List ℕ) × (opening v (term_at f n) ++ more ≡ term_text v f n ++ left)
 opened_before v f n left = opens (term_at f n)
   where
-    opens : (t : Term) → (more : List ℕ) × (opening v t ++ more ≡ shown v t ++ left)
+    opens : (t : Term) → (more : List ℕ) × (opening v t ++ more ≡ written v t ++ left)
     opens nothing = (left, refl)
     opens (leaf t bytes) = (left, refl)
     opens (built p ts) = (
-      (shown_all v ts ++ codes ")") ++ left,
-      sym (append_assoc (v.constructor p ++ codes "(") (shown_all v ts ++ codes ")") left)
-          ∙ ap (λ t. t ++ left) (sym (append_assoc (v.constructor p ++ codes "(") (shown_all v ts) (codes ")"))),
+      (written_all v ts ++ v.closes) ++ left,
+      sym (append_assoc (v.opens p) (written_all v ts ++ v.closes) left)
+          ∙ ap (λ t. t ++ left) (sym (append_assoc (v.opens p) (written_all v ts) v.closes)),
     )
-
--- something was printed before what is left is
-pub shorter : (bytes mid whole : List ℕ) (left : Option TermRef → List ℕ) (r : Result (Option TermRef) WriteFault)
-    → 1 ≤ length bytes → bytes ++ mid ≡ whole → IfOk r (λ next. length (left next) ≤ length mid)
-    → IfOk r (λ next. length (left next) < length whole)
-shorter bytes mid whole left (Ok next) some is h = omega (arith, some, ap length is, length-append bytes mid, h)
-shorter bytes mid whole left (Err fault) some is h = tt
 
 -- Of the line these bytes are on their way, and then these are left, and a newline.
 module _ (line : List ℕ) (before : Option (List ℕ)) where
@@ -333,7 +314,7 @@ module _ (line : List ℕ) (before : Option (List ℕ)) where
       (appended_twice none_sent o o' before now now' told left tt (Err fault) come failed)))
 
   -- the term is printed whole, so the newline is left
-  pub newline_left : (v : Vocabulary) (f : Grown) (waiting : List (Bor (List TermRef))) (others : Bor (List TermRef))
+  pub newline_left : (v : Notation) (f : Grown) (waiting : List (Bor (List TermRef))) (others : Bor (List TermRef))
       (next : Option TermRef) (told : List ℕ) → next ≡ None → waiting ≡ []
       → (told ++ (next_text v f next ++ left_text v f waiting others)) ++ newline ∷ [] ≡ line
       → told ++ newline ∷ [] ≡ line

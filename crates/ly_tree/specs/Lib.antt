@@ -1,7 +1,9 @@
 pub mod Costs
 pub mod Forest
 pub mod GrownCode
+pub mod Json
 pub mod Private
 pub mod Shown
 pub mod Term
 pub mod TermLaws
+pub mod Written

@@ -1,3 +1,4 @@
 pub mod Grown
 pub mod Headed
+pub mod OfBytes
 pub mod Printing

@@ -1,9 +1,11 @@
 ghost use Rattle.std.specs.Prelude.{◌≡◌, ◌<◌, ◌≤◌, ◌+◌, ◌*◌, ◌^◌, ℕ, [], ◌++◌, drop, length, map, take};
 ghost use Rattle.std.specs.Prelude.{All, IfOk, IfSome, IsSome, OnErr, OnOk};
 ghost use Rattle.ly_tree.specs.Private.Headed.{ref_at};
-ghost use Rattle.ly_tree.specs.Term.{at_places, built, leaf, nothing};
+ghost use Rattle.ly_tree.specs.Private.OfBytes.{IsOfBytes};
+ghost use Rattle.ly_tree.specs.Term.{at_places, built, leaf, nothing, Term};
 
-use crate::headed::Headed;
+use crate::headed::{Headed, lists_are_bytes};
+use crate::notation::MostBytes;
 use crate::numbers::{number_of, parts_of};
 use crate::refers::Refers;
 use crate::span::Span;
@@ -204,15 +206,23 @@ impl Forest {
         Ok(TermRef::LongNode { high, low })
     }
 
-    /// How long the line of a term may be whose parts are used once each, where no label is longer than that; nothing,
+    /// How long the line of a term may be whose parts are used once each, where no more is written for a part; nothing,
     /// where no number says so.
-    pub(crate) fn longest_line(&self, label: usize) -> Option<usize>
-        ensures { IfSome result (λ n. (n ≡ (label + 4) + budget (label + 4) 4 self.now) × (n < 2 ^ 64)) }
+    pub(crate) fn longest_line(&self, most: MostBytes) -> Option<usize>
+        ensures { IfSome result (λ n. (n ≡ most.of_term + budget most.of_term most.of_byte self.now) × (n < 2 ^ 64)) }
     {
-        let each = label.checked_add(4)?;
-        let terms = self.children.len().checked_mul(each)?;
+        let terms = self.children.len().checked_mul(most.of_term)?;
         let bytes = self.texts.len().checked_add(self.long_leaves.members())?;
-        each.checked_add(terms.checked_add(bytes.checked_mul(4)?)?)
+        let of_bytes = bytes.checked_mul(most.of_byte)?;
+        most.of_term.checked_add(terms.checked_add(of_bytes)?)
+    }
+
+    /// What its leaves consist of is bytes.
+    pub(crate) fn are_bytes(&self)
+        ensures { (r : TermRef) (t : Term) → StandsFor self.now r t → IsOfBytes t }
+    {
+        self.texts.are_bytes();
+        lists_are_bytes(&self.long_leaves);
     }
 
     /// How many terms one may have whose parts are used once each.

@@ -1,8 +1,9 @@
 ghost use Rattle.std.specs.Prelude.{◌≡◌, ◌<◌, ◌≤◌, ◌+◌, ◌-◌, [], ◌∷◌, ◌++◌, length, take, drop};
-ghost use Rattle.std.specs.Prelude.{map, slice_get, sum, OnErr, OnOk, Some};
+ghost use Rattle.std.specs.Prelude.{map, slice_get, sum, All, OnErr, OnOk, Some};
 ghost use Rattle.ly_tree.specs.Private.Headed.{start_after};
 
 use ly_base::OutOfMemory;
+use ly_print::are_bytes;
 use std::alloc::Global;
 use std::marker::Model;
 
@@ -111,4 +112,11 @@ fn start_of<H: Copy>(headings: &[Heading<H>], number: usize) -> usize
     } else {
         headings[number - 1].end
     }
+}
+
+/// What lists of bytes consist of is bytes.
+pub(crate) fn lists_are_bytes<H>(lists: &Headed<H, u8>)
+    ensures { All (λ list. All (λ byte. byte < 256) list.1) lists.now }
+{
+    are_bytes(&lists.members);
 }

@@ -12,7 +12,9 @@
 mod forest;
 mod headed;
 mod laws;
+mod notation;
 mod numbers;
+mod plain;
 mod printing;
 mod refers;
 mod span;
@@ -21,6 +23,8 @@ mod words;
 
 pub use forest::{Forest, TermRef};
 pub use laws::a_reference_stands_for_one;
+pub use notation::{MostBytes, TermNotation};
+pub use plain::Plain;
 pub use refers::Refers;
 pub use term_line::TermLine;
 pub use words::Words;

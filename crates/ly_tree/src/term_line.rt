@@ -7,8 +7,11 @@ ghost use Rattle.ly_tree.specs.Costs.{IsPaid};
 ghost use Rattle.ly_tree.specs.Forest.{term_of, StandsFor};
 ghost use Rattle.ly_tree.specs.Shown.{shown};
 ghost use Rattle.ly_tree.specs.Term.{Term};
+ghost use Rattle.ly_tree.specs.Written.{written};
 
 use crate::forest::{Forest, TermRef};
+use crate::notation::TermNotation;
+use crate::plain::Plain;
 use crate::printing::Printing;
 use crate::words::Words;
 use ly_base::OutOfMemory;
@@ -17,61 +20,53 @@ use std::alloc::Global;
 use std::marker::Model;
 
 /// The line of a term, ready to be written: all room that this takes is made, so that nothing but a write can fail.
-///
-/// Nothing is printed as `()`, a leaf as `NUM"12"`, and a node as `Add(NUM"1",NUM"2")`.
 #[derive(Drop)]
-pub struct TermLine<'f, W: Words> {
+pub struct TermLine<'f, N: TermNotation> {
     /// The term.
     root: TermRef,
     /// Its forest.
     forest: &'f Forest,
-    /// The names by which it is printed.
-    words: &'f W,
+    /// How it is written.
+    notation: &'f N,
     /// What is printed, and room for children that wait.
     printing: Printing<'f>,
 }
 
-impl<'f, W: Words> Model for TermLine<'f, W> {
+impl<'f, N: TermNotation> Model for TermLine<'f, N> {
     ghost use Rattle.std.specs.Prelude.{◌≡◌, ◌<◌, ◌^◌, ◌++◌, [], ◌∷◌, List, Some, length, vec_capacity, ℕ};
     ghost use Rattle.ly_base.specs.Bytes.{newline};
     ghost use Rattle.ly_tree.specs.Private.Printing.{term_text, IsOpen};
 
     ghost Value = { List ℕ };
 
-    ghost view = { λ l. term_text (record {
-      terminal = W.terminals l.words.now;
-      constructor = W.constructors l.words.now;
-    }) l.forest.now l.root ++ newline ∷ [] };
+    ghost view = { λ l. term_text (N.form l.notation.now) l.forest.now l.root ++ newline ∷ [] };
 
     ghost invariant = { λ l. (l.printing.out ≡ record { sent = 0; held = [] }) × (l.printing.waiting.items ≡ [])
         × IsOpen l.forest.now l.printing.waiting.items l.printing.others (Some l.root) (vec_capacity l.printing.waiting)
-        × (length (term_text (record {
-          terminal = W.terminals l.words.now;
-          constructor = W.constructors l.words.now;
-        }) l.forest.now l.root ++ newline ∷ []) < 2 ^ 64) };
+        × (length (term_text (N.form l.notation.now) l.forest.now l.root ++ newline ∷ []) < 2 ^ 64) };
 }
 
 impl Forest {
     /// The line of a term. It fails where memory runs out.
-    pub fn line<'f, W: Words>(
+    pub fn line<'f, N: TermNotation>(
         &'f self,
         alloc: Global,
-        words: &'f W,
+        notation: &'f N,
         root: TermRef,
-    ) -> Result<TermLine<'f, W>, OutOfMemory>
+    ) -> Result<TermLine<'f, N>, OutOfMemory>
         requires known { IsSome (term_of self.now root) }
         requires paid { (t : Term) → StandsFor self.now root t → IsPaid self.now t }
-        ensures { IfOk result (λ l. (t : Term) → StandsFor self.now root t → l ≡ shown
-            (record { terminal = W.terminals words.now; constructor = W.constructors words.now }) t ++ newline ∷ []) }
+        ensures { IfOk result (λ l. (t : Term) → StandsFor self.now root t
+            → l ≡ written (N.form notation.now) t ++ newline ∷ []) }
     {
+        self.are_bytes();
+        let most = notation.most().ok_or(OutOfMemory)?;
         // a line is no longer than that
-        let Some(_) = self.longest_line(words.longest()) else {
-            return Err(OutOfMemory);
-        };
+        self.longest_line(most).ok_or(OutOfMemory)?;
         Ok(TermLine {
             root,
             forest: self,
-            words,
+            notation,
             printing: Printing {
                 out: TextWriter::new(alloc)?,
                 others: self.no_children(),
@@ -80,7 +75,7 @@ impl Forest {
         })
     }
 
-    /// The printed text of a term. It fails where memory runs out.
+    /// The plain text of a term. It fails where memory runs out.
     pub fn show<W: Words>(
         &self,
         alloc: Global,
@@ -92,7 +87,8 @@ impl Forest {
         ensures { IfOk result (λ bytes. (t : Term) → StandsFor self.now root t → bytes.items ≡ shown
             (record { terminal = W.terminals words.now; constructor = W.constructors words.now }) t) }
     {
-        let line = self.line(alloc, words, root)?;
+        let plain = Plain::new(words);
+        let line = self.line(alloc, &plain, root)?;
         let mut sink = MemSink::new(alloc);
         // its only failure is want of memory
         let Ok(()) = line.write(&mut sink) else {
@@ -105,7 +101,7 @@ impl Forest {
     }
 }
 
-impl<W: Words> TermLine<'_, W> {
+impl<N: TermNotation> TermLine<'_, N> {
     /// Writes the line.
     ///
     /// It fails where the writer does.
@@ -119,13 +115,13 @@ impl<W: Words> TermLine<'_, W> {
         let TermLine {
             root,
             forest,
-            words,
+            notation,
             printing,
         } = self;
         let mut printing = printing;
         let mut next = Some(root);
         while let Some(term) = next {
-            next = printing.print(writer, forest, words, term)?;
+            next = printing.print(writer, forest, notation, term)?;
         }
         printing.out.push(writer, b'\n')?;
         printing.out.finish(writer)

@@ -2,14 +2,13 @@
 use Rattle.std.specs.Prelude.{◌≡◌, ◌≤◌, ◌+◌, ℕ, List, [], ◌∷◌, ◌++◌, All, IfSome, IsSome, Option, None, Some, Result}
 use Rattle.std.specs.Prelude.{Ok, Err, codes, length, unwrap_or}
 use Rattle.std.specs.Borrow.{Bor}
-use Rattle.ly_print.specs.Text.{leaf_of, token}
 use Rattle.ly_print.specs.TextWriter.{IsAppended, Outgoing}
 use Rattle.ly_print.specs.declared.whole.WriteFault.{WriteFault}
 use Rattle.ly_tree.specs.Costs.{cost, costs}
 use Rattle.ly_tree.specs.Forest.{term_of, terms_of, Grown, StandsFor}
 use Rattle.ly_tree.specs.Private.Grown.{AllKnown}
-use Rattle.ly_tree.specs.Shown.{shown, Vocabulary}
 use Rattle.ly_tree.specs.Term.{Term, nothing, leaf, built}
+use Rattle.ly_tree.specs.Written.{written, Notation}
 use Rattle.ly_tree.specs.declared.forest.TermRef.{TermRef}
 
 -- the term of a reference; nothing where there is none
@@ -17,21 +16,21 @@ abbrev pub term_at : Grown → TermRef → Term
 term_at f n = unwrap_or (term_of f n) nothing
 
 -- a term as it is printed
-abbrev pub term_text : Vocabulary → Grown → TermRef → List ℕ
-term_text v f n = shown v (term_at f n)
+abbrev pub term_text : Notation → Grown → TermRef → List ℕ
+term_text v f n = written v (term_at f n)
 
 -- that of the term that is next, if there is one
-abbrev pub next_text : Vocabulary → Grown → Option TermRef → List ℕ
+abbrev pub next_text : Notation → Grown → Option TermRef → List ℕ
 next_text v f None = []
 next_text v f (Some n) = term_text v f n
 
 -- the end of a node, from behind one of its children: a comma and a term for each child that is left
-abbrev pub tail_text : Vocabulary → Grown → List TermRef → List ℕ
-tail_text v f [] = codes ")"
+abbrev pub tail_text : Notation → Grown → List TermRef → List ℕ
+tail_text v f [] = v.closes
 tail_text v f (n ∷ ns) = codes "," ++ term_text v f n ++ tail_text v f ns
 
 -- the ends of nodes, the last one's first
-abbrev pub waiting_text : Vocabulary → Grown → List (Bor (List TermRef)) → List ℕ
+abbrev pub waiting_text : Notation → Grown → List (Bor (List TermRef)) → List ℕ
 waiting_text v f [] = []
 waiting_text v f (ns ∷ rest) = waiting_text v f rest ++ tail_text v f ns.now
 
@@ -42,7 +41,7 @@ begun [] others = []
 begun (beside ∷ outer) others = outer ++ others ∷ []
 
 -- what is left behind the term that is next
-abbrev pub left_text : Vocabulary → Grown → List (Bor (List TermRef)) → Bor (List TermRef) → List ℕ
+abbrev pub left_text : Notation → Grown → List (Bor (List TermRef)) → Bor (List TermRef) → List ℕ
 left_text v f waiting others = waiting_text v f (begun waiting others)
 
 -- each child that is left stands for a term
@@ -66,6 +65,10 @@ abbrev pub next_terms : Grown → Option TermRef → ℕ
 next_terms f None = 0
 next_terms f (Some n) = cost 1 0 (term_at f n)
 
+-- how many terms are left, the one that is next among them
+abbrev pub terms_left : Grown → Option TermRef → List (Bor (List TermRef)) → Bor (List TermRef) → ℕ
+terms_left f next waiting others = next_terms f next + all_left_of f waiting + left_of f others.now
+
 -- nothing stands beside the whole term
 abbrev pub IsAlone : List (Bor (List TermRef)) → Bor (List TermRef) → Type 0
 IsAlone [] others = others.now ≡ []
@@ -79,17 +82,17 @@ pub record IsOpen (f : Grown) (waiting : List (Bor (List TermRef))) (others : Bo
   pub others_known : AllKnown f others.now
   pub next_known : IsNextKnown f next
   pub alone : IsAlone waiting others
-  pub fits : length waiting + next_terms f next + all_left_of f waiting + left_of f others.now ≤ room
+  pub fits : length waiting + terms_left f next waiting others ≤ room
 
 -- what is printed of a term before its children: of one that is no node, all of it
-abbrev pub opening : Vocabulary → Term → List ℕ
-opening v nothing = codes "()"
-opening v (leaf t bytes) = leaf_of (token (v.terminal t)) bytes
-opening v (built p ts) = v.constructor p ++ codes "("
+abbrev pub opening : Notation → Term → List ℕ
+opening v nothing = v.no_term
+opening v (leaf t bytes) = v.leaf_text t bytes
+opening v (built p ts) = v.opens p
 
 -- the term is no node, or it is one with these children
 abbrev pub HasChildren : Grown → TermRef → Option (Bor (List TermRef)) → Type 0
-HasChildren f n None = (v : Vocabulary) → shown v (term_at f n) ≡ opening v (term_at f n)
+HasChildren f n None = (v : Notation) → written v (term_at f n) ≡ opening v (term_at f n)
 HasChildren f n (Some ns) = ((p : ℕ) × StandsFor f n (built p (terms_of f ns.now))) × AllKnown f ns.now
 
 -- the bytes come to the text, and something is answered; or the writer failed on them

@@ -1,7 +1,7 @@
-use Rattle.std.proofs.Common.{◌∙◌, ◌+◌, ◌-◌, ◌++◌, ◌∷◌, [], ap, arith, drop, get_or, length, take}
+use Rattle.std.proofs.Common.{◌∙◌, ◌+◌, ◌-◌, ◌++◌, ◌∷◌, [], ap, append-nil, arith, drop, get_or, length, take}
 use Rattle.ly_base.specs.Bytes.{double_quote}
-use Rattle.ly_print.specs.Text.{escaped}
-use Rattle.ly_print.proofs.TextLemmas.{escaped_next, escaped_run}
+use Rattle.ly_print.specs.Text.{escaped, escaped_byte}
+use Rattle.ly_print.proofs.TextLemmas.{next_behind, run_behind}
 use Rattle.ly_print.proofs.room.put_runs.Goals as goal
 
 pub loop-done-preserved-then-done-count : goal.loop-done-preserved-then-done-count
@@ -16,8 +16,10 @@ loop-done-preserved-then-done-count c =
           ∙ ap (λ t. t ++ escaped double_quote (get_or bytes (now.done + run.result) 0 ∷ [])) (run.ensures.bytes
           ∙ ap (λ t. t ++ escaped double_quote (take run.result (take (length bytes - now.done) (drop now.done bytes))))
           now.invariant.so_far
-          ∙ escaped_run double_quote before bytes now.done run.result)
-          ∙ escaped_next double_quote before bytes (now.done + run.result)
+          ∙ run_behind (escaped_byte double_quote) before bytes now.done run.result)
+          ∙ ap (λ t. (before ++ escaped double_quote (take (now.done + run.result) bytes)) ++ t)
+          (append-nil (escaped_byte double_quote (get_or bytes (now.done + run.result) 0)))
+          ∙ next_behind (escaped_byte double_quote) before bytes (now.done + run.result)
           (omega (arith, c.if-done-count.true, c.requires.within));
       same = c.put_escaped-end.ensures.room ∙ run.ensures.room ∙ now.invariant.same;
     }
@@ -32,6 +34,6 @@ loop-done-preserved c =
       so_far = run.ensures.bytes
           ∙ ap (λ t. t ++ escaped double_quote (take run.result (take (length bytes - now.done) (drop now.done bytes))))
           now.invariant.so_far
-          ∙ escaped_run double_quote (take c.args.at c.args.room.now) bytes now.done run.result;
+          ∙ run_behind (escaped_byte double_quote) (take c.args.at c.args.room.now) bytes now.done run.result;
       same = run.ensures.room ∙ now.invariant.same;
     }

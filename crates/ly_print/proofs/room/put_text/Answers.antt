@@ -1,7 +1,7 @@
 use Rattle.std.proofs.Common.{◌≡◌, ◌∙◌, ◌+◌, ◌-◌, ◌++◌, ap, arith, drop, length, take}
 use Rattle.ly_base.specs.Bytes.{double_quote}
-use Rattle.ly_print.specs.Text.{escaped}
-use Rattle.ly_print.proofs.TextLemmas.{escaped_run}
+use Rattle.ly_print.specs.Text.{escaped, escaped_byte}
+use Rattle.ly_print.proofs.TextLemmas.{run_behind}
 use Rattle.ly_print.proofs.room.put_text.Goals as goal
 
 pub returns-clause-bytes : goal.returns-clause-bytes
@@ -14,6 +14,6 @@ returns-clause-bytes c =
     c.put_runs.ensures.bytes
     ∙ ap (λ t. t ++ escaped double_quote (take left (take (length bytes - run.result) (drop run.result bytes))))
     run.ensures.bytes
-    ∙ escaped_run double_quote before bytes run.result left
+    ∙ run_behind (escaped_byte double_quote) before bytes run.result left
     ∙ ap (λ n. before ++ escaped double_quote (take n bytes)) all
     ∙ ap (λ t. before ++ escaped double_quote t) c.text.view_is

@@ -1,20 +1,21 @@
 use Rattle.std.proofs.Common.{◌≡◌, ◌≤◌, ◌+◌, ◌++◌, ℕ, List, None, Ok, length, vec_capacity, vec_len}
 use Rattle.ly_print.specs.TextWriter.{bytes_of, IsAppended}
 use Rattle.ly_tree.specs.Forest.{Grown}
-use Rattle.ly_tree.specs.Private.Printing.{left_text, IsAlone, IsOpen}
-use Rattle.ly_tree.specs.Shown.{Vocabulary}
+use Rattle.ly_tree.specs.Private.Printing.{left_text, terms_left, IsAlone, IsOpen}
 use Rattle.ly_tree.proofs.printing.Printing.go_on.Given as goal
 
 -- what was printed and what is left are what was left
 abbrev pub invariant-loop-next : goal.invariant-loop-next
-invariant-loop-next g l = let sink = g.S.Sink in record {
+invariant-loop-next g l = let sink = g.S.Sink in let v = g.N.TermNotation.form l.notation in record {
   alone : IsAlone l.self.waiting.items l.self.others;
-  so_far : (v : Vocabulary) (f : Grown) → (told : List ℕ)
+  so_far : (f : Grown) → (told : List ℕ)
       × (told ++ left_text v f l.self.waiting.items l.self.others
       ≡ left_text v f l.fn.self.waiting.items l.fn.self.others)
       × IsAppended l.fn.self.out l.self.out (sink.contents l.fn.writer) (sink.contents l.writer) told (Ok tt);
-  counted : bytes_of l.self.out + length l.self.waiting.items
-      ≤ bytes_of l.fn.self.out + length l.fn.self.waiting.items;
+  counted : (f : Grown) → bytes_of l.self.out + length (left_text v f l.self.waiting.items l.self.others)
+      ≡ bytes_of l.fn.self.out + length (left_text v f l.fn.self.waiting.items l.fn.self.others);
+  fewer : (f : Grown) → terms_left f None l.self.waiting.items l.self.others
+      ≤ terms_left f None l.fn.self.waiting.items l.fn.self.others;
   stands : (f : Grown) (room : ℕ) → IsOpen f l.fn.self.waiting.items l.fn.self.others None room
       → IsOpen f l.self.waiting.items l.self.others None room;
   capacity : vec_capacity l.self.waiting ≡ vec_capacity l.fn.self.waiting;

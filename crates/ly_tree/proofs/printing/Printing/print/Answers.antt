@@ -1,19 +1,15 @@
-use Rattle.std.proofs.Common.{◌++◌, ap, arith, length, length-append, subst, sym}
+use Rattle.std.proofs.Common.{ap, arith, length, length-append, subst, sym}
 use Rattle.std.specs.Prelude.{Some}
 use Rattle.std.proofs.lemmas.List.{nil_from_length}
-use Rattle.ly_tree.specs.Private.Printing.{left_text, opening, term_at, term_text, HasChildren, IsOpen}
-use Rattle.ly_tree.specs.Shown.{Vocabulary}
-use Rattle.ly_tree.proofs.PrintingLemmas.{child_text, childless_text, left_text-long, no_longer, open_around}
-use Rattle.ly_tree.proofs.PrintingLemmas.{open_sibling, opening_long, printed_fails, printed_on, whole_text}
-use Rattle.ly_tree.proofs.PrintingLemmas.{opened_before, shorter}
+use Rattle.ly_tree.specs.Private.Printing.{left_text, opening, term_at, terms_left, HasChildren, IsOpen}
+use Rattle.ly_tree.proofs.PrintingLemmas.{around_left, behind_left, child_text, childless_text, fewer_than, open_around}
+use Rattle.ly_tree.proofs.PrintingLemmas.{open_sibling, opened_before, printed_fails, printed_on, sibling_left}
+use Rattle.ly_tree.proofs.PrintingLemmas.{whole_text}
 use Rattle.ly_tree.proofs.printing.Printing.print.Goals as goal
 
 pub returns-in_err-children-clause-printed : goal.returns-in_err-children-clause-printed
 returns-in_err-children-clause-printed g c =
-    let v : Vocabulary = record {
-      terminal = g.W.Words.terminals c.args.words.now;
-      constructor = g.W.Words.constructors c.args.words.now;
-    } in
+    let v = g.N.TermNotation.form c.args.notation.now in
     let more = opened_before v c.args.forest.now c.args.term
     (left_text v c.args.forest.now c.args.self.now.waiting.items c.args.self.now.others) in
     printed_fails c.args.self.now.out c.begin.new.out c.begin.new.out _ _
@@ -22,77 +18,61 @@ returns-in_err-children-clause-printed g c =
 
 pub go_on-requires-clause-countable : goal.go_on-requires-clause-countable
 go_on-requires-clause-countable g c =
-    let v : Vocabulary = record {
-      terminal = g.W.Words.terminals c.args.words.now;
-      constructor = g.W.Words.constructors c.args.words.now;
-    } in
+    let v = g.N.TermNotation.form c.args.notation.now in
     let f = c.args.forest.now in
     let self = c.args.self.now in
-    let opened = opening v (term_at f c.args.term) in
-    omega (
-      arith,
-      c.requires.countable,
-      c.in_ok-children.ensures.counted,
-      left_text-long v f self.waiting.items self.others,
-      length-append opened (left_text v f self.waiting.items self.others),
-      ap length (whole_text v f self.waiting.items self.others c.args.term
-          (subst (HasChildren f c.args.term) c.in_default.is c.in_ok-children.ensures.children)),
+    let opened = opening v (term_at f c.args.term) in (
+      f,
+      omega (
+        arith,
+        c.requires.countable,
+        c.in_ok-children.ensures.counted,
+        length-append opened (left_text v f self.waiting.items self.others),
+        ap length (whole_text v f self.waiting.items self.others c.args.term
+            (subst (HasChildren f c.args.term) c.in_default.is c.in_ok-children.ensures.children)),
+      ),
     )
 
 pub returns-in_default-clause-printed : goal.returns-in_default-clause-printed
 returns-in_default-clause-printed g c =
-    let v : Vocabulary = record {
-      terminal = g.W.Words.terminals c.args.words.now;
-      constructor = g.W.Words.constructors c.args.words.now;
-    } in
+    let v = g.N.TermNotation.form c.args.notation.now in
     let f = c.args.forest.now in
     let self = c.args.self.now in
     printed_on self.out c.begin.new.out c.go_on.new.self.out _ _ _ (opening v (term_at f c.args.term)) _ _ _
     c.go_on.result
     (whole_text v f self.waiting.items self.others c.args.term
     (subst (HasChildren f c.args.term) c.in_default.is c.in_ok-children.ensures.children))
-    c.in_ok-children.ensures.text (c.go_on.ensures.printed v f)
+    c.in_ok-children.ensures.text (c.go_on.ensures.printed f)
 
-pub returns-in_default-clause-grows : goal.returns-in_default-clause-grows
-returns-in_default-clause-grows g c =
-    let v : Vocabulary = record {
-      terminal = g.W.Words.terminals c.args.words.now;
-      constructor = g.W.Words.constructors c.args.words.now;
-    } in
+pub returns-in_default-clause-fewer : goal.returns-in_default-clause-fewer
+returns-in_default-clause-fewer g c =
     let f = c.args.forest.now in
     let self = c.args.self.now in
-    shorter (opening v (term_at f c.args.term)) _ _ _ c.go_on.result (opening_long v (term_at f c.args.term))
-    (whole_text v f self.waiting.items self.others c.args.term
-    (subst (HasChildren f c.args.term) c.in_default.is c.in_ok-children.ensures.children))
-    (no_longer _ _ _ _ _ _ c.go_on.result (c.go_on.ensures.printed v f))
+    fewer_than (λ next. terms_left f next c.go_on.new.self.waiting.items c.go_on.new.self.others) _ _ c.go_on.result
+    (behind_left f self.waiting.items self.others c.args.term) (c.go_on.ensures.fewer f)
 
 pub go_on-requires-in_default-split_first-clause-countable : goal.go_on-requires-in_default-split_first-clause-countable
 go_on-requires-in_default-split_first-clause-countable g c =
-    let v : Vocabulary = record {
-      terminal = g.W.Words.terminals c.args.words.now;
-      constructor = g.W.Words.constructors c.args.words.now;
-    } in
+    let v = g.N.TermNotation.form c.args.notation.now in
     let f = c.args.forest.now in
     let self = c.args.self.now in
-    let ws = c.push_reserved.new.self.items in
-    omega (
-      arith,
-      c.requires.countable,
-      c.in_ok-children.ensures.counted,
-      left_text-long v f ws c.in-Some.children,
-      length-append (opening v (term_at f c.args.term)) (left_text v f ws c.in-Some.children),
-      ap length (childless_text v f ws self.waiting.items self.others c.in-Some.children c.args.term
-          c.push_reserved.ensures.items
-          (subst (HasChildren f c.args.term) c.in-Some.is c.in_ok-children.ensures.children)
-          (nil_from_length c.in-Some.children.now c.in_default-split_first.ensures.cases)),
+    let ws = c.push_reserved.new.self.items in (
+      f,
+      omega (
+        arith,
+        c.requires.countable,
+        c.in_ok-children.ensures.counted,
+        length-append (opening v (term_at f c.args.term)) (left_text v f ws c.in-Some.children),
+        ap length (childless_text v f ws self.waiting.items self.others c.in-Some.children c.args.term
+            c.push_reserved.ensures.items
+            (subst (HasChildren f c.args.term) c.in-Some.is c.in_ok-children.ensures.children)
+            (nil_from_length c.in-Some.children.now c.in_default-split_first.ensures.cases)),
+      ),
     )
 
 pub returns-in_default-split_first-clause-printed : goal.returns-in_default-split_first-clause-printed
 returns-in_default-split_first-clause-printed g c =
-    let v : Vocabulary = record {
-      terminal = g.W.Words.terminals c.args.words.now;
-      constructor = g.W.Words.constructors c.args.words.now;
-    } in
+    let v = g.N.TermNotation.form c.args.notation.now in
     let f = c.args.forest.now in
     let self = c.args.self.now in
     let end = c.go_on-in_default-split_first in
@@ -101,23 +81,17 @@ returns-in_default-split_first-clause-printed g c =
     c.push_reserved.ensures.items
     (subst (HasChildren f c.args.term) c.in-Some.is c.in_ok-children.ensures.children)
     (nil_from_length c.in-Some.children.now c.in_default-split_first.ensures.cases))
-    c.in_ok-children.ensures.text (end.ensures.printed v f)
+    c.in_ok-children.ensures.text (end.ensures.printed f)
 
-pub returns-in_default-split_first-clause-grows : goal.returns-in_default-split_first-clause-grows
-returns-in_default-split_first-clause-grows g c =
-    let v : Vocabulary = record {
-      terminal = g.W.Words.terminals c.args.words.now;
-      constructor = g.W.Words.constructors c.args.words.now;
-    } in
+pub returns-in_default-split_first-clause-fewer : goal.returns-in_default-split_first-clause-fewer
+returns-in_default-split_first-clause-fewer g c =
     let f = c.args.forest.now in
     let self = c.args.self.now in
     let end = c.go_on-in_default-split_first in
-    shorter (opening v (term_at f c.args.term)) _ _ _ end.result (opening_long v (term_at f c.args.term))
-    (childless_text v f c.push_reserved.new.self.items self.waiting.items self.others c.in-Some.children c.args.term
-    c.push_reserved.ensures.items
-    (subst (HasChildren f c.args.term) c.in-Some.is c.in_ok-children.ensures.children)
-    (nil_from_length c.in-Some.children.now c.in_default-split_first.ensures.cases))
-    (no_longer _ _ _ _ _ _ end.result (end.ensures.printed v f))
+    fewer_than (λ next. terms_left f next end.new.self.waiting.items end.new.self.others) _ _ end.result
+    (around_left f c.push_reserved.new.self.items self.waiting.items self.others c.in-Some.children c.args.term
+    c.push_reserved.ensures.items (subst (HasChildren f c.args.term) c.in-Some.is c.in_ok-children.ensures.children))
+    (end.ensures.fewer f)
 
 pub returns-in_default-split_first-clause-stands : goal.returns-in_default-split_first-clause-stands
 returns-in_default-split_first-clause-stands g c =
@@ -132,10 +106,7 @@ returns-in_default-split_first-clause-stands g c =
 
 pub returns-clause-printed : goal.returns-clause-printed
 returns-clause-printed g c =
-    let v : Vocabulary = record {
-      terminal = g.W.Words.terminals c.args.words.now;
-      constructor = g.W.Words.constructors c.args.words.now;
-    } in
+    let v = g.N.TermNotation.form c.args.notation.now in
     let f = c.args.forest.now in
     let self = c.args.self.now in (
       opening v (term_at f c.args.term),
@@ -146,25 +117,17 @@ returns-clause-printed g c =
       c.in_ok-children.ensures.text,
     )
 
-pub returns-clause-grows : goal.returns-clause-grows
-returns-clause-grows g c =
-    let v : Vocabulary = record {
-      terminal = g.W.Words.terminals c.args.words.now;
-      constructor = g.W.Words.constructors c.args.words.now;
-    } in
+pub returns-clause-fewer : goal.returns-clause-fewer
+returns-clause-fewer g c =
     let f = c.args.forest.now in
     let self = c.args.self.now in
-    let opened = opening v (term_at f c.args.term) in
-    let left = term_text v f c.in-Some-split_first.first.now
-    ++ left_text v f c.push_reserved.new.self.items c.in-Some-split_first.others in
     omega (
       arith,
-      opening_long v (term_at f c.args.term),
-      length-append opened left,
-      ap length (child_text v f c.push_reserved.new.self.items self.waiting.items self.others c.in-Some.children
-          c.in-Some-split_first.others c.args.term c.in-Some-split_first.first.now c.push_reserved.ensures.items
-          (subst (HasChildren f c.args.term) c.in-Some.is c.in_ok-children.ensures.children)
-          c.in-Some-split_first.ensures.cases.0),
+      sibling_left f c.push_reserved.new.self.items c.in-Some.children c.in-Some-split_first.others
+          c.in-Some-split_first.first.now c.in-Some-split_first.ensures.cases.0,
+      around_left f c.push_reserved.new.self.items self.waiting.items self.others c.in-Some.children c.args.term
+          c.push_reserved.ensures.items
+          (subst (HasChildren f c.args.term) c.in-Some.is c.in_ok-children.ensures.children),
     )
 
 pub returns-clause-stands : goal.returns-clause-stands

@@ -2,7 +2,6 @@ use Rattle.std.proofs.Common.{◌∙◌, ◌++◌, ◌∷◌, [], ap, arith, len
 use Rattle.ly_print.proofs.TextWriterLemmas.{err_is}
 use Rattle.ly_base.specs.Bytes.{newline}
 use Rattle.ly_tree.specs.Private.Printing.{left_text, next_text, term_text}
-use Rattle.ly_tree.specs.Shown.{Vocabulary}
 use Rattle.ly_tree.proofs.PrintingLemmas.{line_counted, line_cut, line_goes_on, line_underway}
 use Rattle.ly_tree.proofs.PrintingLemmas.{newline_cut, newline_left}
 use Rattle.ly_tree.proofs.PrintingLemmas.{where_err, where_ok}
@@ -10,10 +9,7 @@ use Rattle.ly_tree.proofs.term_line.TermLine.write.Goals as goal
 
 pub returns-in_err-next-clause-cut_short : goal.returns-in_err-next-clause-cut_short
 returns-in_err-next-clause-cut_short g c =
-    let v : Vocabulary = record {
-      terminal = g.W.Words.terminals c.self.inside.words.now;
-      constructor = g.W.Words.constructors c.self.inside.words.now;
-    } in
+    let v = g.N.TermNotation.form c.self.inside.notation.now in
     let now = c.loop-next in
     let f = c.self.inside.forest.now in
     let left = left_text v f now.printing.waiting.items now.printing.others in
@@ -27,10 +23,7 @@ returns-in_err-next-clause-cut_short g c =
 
 pub loop-next-preserved : goal.loop-next-preserved
 loop-next-preserved g c =
-    let v : Vocabulary = record {
-      terminal = g.W.Words.terminals c.self.inside.words.now;
-      constructor = g.W.Words.constructors c.self.inside.words.now;
-    } in
+    let v = g.N.TermNotation.form c.self.inside.notation.now in
     let now = c.loop-next in
     let f = c.self.inside.forest.now in
     let left = left_text v f now.printing.waiting.items now.printing.others in record {
@@ -48,10 +41,7 @@ loop-next-preserved g c =
 
 pub push-requires : goal.push-requires
 push-requires g c =
-    let v : Vocabulary = record {
-      terminal = g.W.Words.terminals c.self.inside.words.now;
-      constructor = g.W.Words.constructors c.self.inside.words.now;
-    } in
+    let v = g.N.TermNotation.form c.self.inside.notation.now in
     let now = c.loop-next in
     let f = c.self.inside.forest.now in record {
       countable = omega (
@@ -66,10 +56,7 @@ push-requires g c =
 
 pub returns-in_err-push-clause-cut_short : goal.returns-in_err-push-clause-cut_short
 returns-in_err-push-clause-cut_short g c =
-    let v : Vocabulary = record {
-      terminal = g.W.Words.terminals c.self.inside.words.now;
-      constructor = g.W.Words.constructors c.self.inside.words.now;
-    } in
+    let v = g.N.TermNotation.form c.self.inside.notation.now in
     let now = c.loop-next in
     let told = now.invariant.so_far.0 in
     let is = newline_left c.args.self (g.S.Sink.contents c.args.writer.now) v c.self.inside.forest.now
@@ -81,10 +68,7 @@ returns-in_err-push-clause-cut_short g c =
 
 pub finish-requires : goal.finish-requires
 finish-requires g c =
-    let v : Vocabulary = record {
-      terminal = g.W.Words.terminals c.self.inside.words.now;
-      constructor = g.W.Words.constructors c.self.inside.words.now;
-    } in
+    let v = g.N.TermNotation.form c.self.inside.notation.now in
     let now = c.loop-next in
     let f = c.self.inside.forest.now in record {
       countable = omega (
@@ -100,10 +84,7 @@ finish-requires g c =
 
 pub returns-clause-ok : goal.returns-clause-ok
 returns-clause-ok g c =
-    let v : Vocabulary = record {
-      terminal = g.W.Words.terminals c.self.inside.words.now;
-      constructor = g.W.Words.constructors c.self.inside.words.now;
-    } in
+    let v = g.N.TermNotation.form c.self.inside.notation.now in
     let now = c.loop-next in
     let told = now.invariant.so_far.0 in
     let before = g.S.Sink.contents c.args.writer.now in
@@ -115,10 +96,7 @@ returns-clause-ok g c =
 
 pub returns-clause-cut_short : goal.returns-clause-cut_short
 returns-clause-cut_short g c =
-    let v : Vocabulary = record {
-      terminal = g.W.Words.terminals c.self.inside.words.now;
-      constructor = g.W.Words.constructors c.self.inside.words.now;
-    } in
+    let v = g.N.TermNotation.form c.self.inside.notation.now in
     let now = c.loop-next in
     let told = now.invariant.so_far.0 in
     let before = g.S.Sink.contents c.args.writer.now in
@@ -127,3 +105,19 @@ returns-clause-cut_short g c =
     where_err c.finish.result _ _
     (c.finish.ensures.text before c.args.self (line_underway c.args.self before now.printing.out c.push.new.self _ _
     told is now.invariant.so_far.2 c.in_ok-push.ensures.text))
+
+pub print-requires-clause-countable : goal.print-requires-clause-countable
+print-requires-clause-countable g c =
+    let v = g.N.TermNotation.form c.self.inside.notation.now in
+    let now = c.loop-next in
+    let f = c.self.inside.forest.now in
+    let left = left_text v f now.printing.waiting.items now.printing.others in
+    omega (
+      arith,
+      line_counted c.args.self _ now.printing.out _ now.invariant.so_far.0 (term_text v f c.in-Some.term ++ left)
+          (ap (λ n. (now.invariant.so_far.0 ++ (next_text v f n ++ left)) ++ newline ∷ []) (sym c.in-Some.is)
+          ∙ now.invariant.so_far.1)
+          now.invariant.so_far.2,
+      c.self.invariant.3,
+      ap length c.self.view_is,
+    )

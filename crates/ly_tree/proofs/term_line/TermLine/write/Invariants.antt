@@ -1,17 +1,13 @@
-use Rattle.std.proofs.Common.{◌≡◌, ◌++◌, ◌∷◌, ℕ, List, [], None, Ok, length, vec_capacity}
+use Rattle.std.proofs.Common.{◌≡◌, ◌++◌, ◌∷◌, ℕ, List, [], None, Ok, vec_capacity}
 use Rattle.ly_base.specs.Bytes.{newline}
 use Rattle.ly_print.specs.TextWriter.{IsAppended}
-use Rattle.ly_tree.specs.Private.Printing.{left_text, next_text, IsOpen}
-use Rattle.ly_tree.specs.Shown.{Vocabulary}
+use Rattle.ly_tree.specs.Private.Printing.{left_text, next_text, terms_left, IsOpen}
 use Rattle.ly_tree.proofs.term_line.TermLine.write.Given as goal
 
 -- what was printed, what is left and a newline are the whole line
 abbrev pub invariant-loop-next : goal.invariant-loop-next
 invariant-loop-next g l =
-    let v : Vocabulary = record {
-      terminal = g.W.Words.terminals l.words;
-      constructor = g.W.Words.constructors l.words;
-    } in
+    let v = g.N.TermNotation.form l.notation in
     let sink = g.S.Sink in
     record {
       so_far : (told : List ℕ)
@@ -25,9 +21,4 @@ invariant-loop-next g l =
     }
 
 abbrev pub decreases-loop-next : goal.decreases-loop-next
-decreases-loop-next g l =
-    let v : Vocabulary = record {
-      terminal = g.W.Words.terminals l.words;
-      constructor = g.W.Words.constructors l.words;
-    } in
-    length (next_text v l.forest l.next ++ left_text v l.forest l.printing.waiting.items l.printing.others)
+decreases-loop-next g l = terms_left l.forest l.next l.printing.waiting.items l.printing.others

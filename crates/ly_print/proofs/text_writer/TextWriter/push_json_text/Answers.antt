@@ -1,0 +1,30 @@
+use Rattle.std.proofs.Common.{◌++◌, Ok, Err, append_assoc, codes, refl}
+use Rattle.ly_print.specs.Json.{string_body}
+use Rattle.ly_print.proofs.TextWriterLemmas.{appended_twice, failed_before, same_bytes}
+use Rattle.ly_print.proofs.text_writer.TextWriter.push_json_text.Goals as goal
+
+pub returns-in_err-push_bytes-clause-text : goal.returns-in_err-push_bytes-clause-text
+returns-in_err-push_bytes-clause-text g c =
+    failed_before c.args.self.now c.push_bytes.new.self _ _ _ (codes "\"text\":\"")
+    (string_body c.args.text.now ++ codes "\"") _ _ c.in_err-push_bytes.field-0.0 refl c.from_residual.ensures.1
+    c.in_err-push_bytes.ensures.text
+
+pub returns-in_err-push_string_body-clause-text : goal.returns-in_err-push_string_body-clause-text
+returns-in_err-push_string_body-clause-text g c =
+    let self = c.args.self.now in
+    let fault = c.in_err-push_string_body.field-0.0 in
+    failed_before self c.push_string_body.new.self _ _ _ _ (codes "\"") _ _ fault
+    (append_assoc (codes "\"text\":\"") (string_body c.args.text.now) (codes "\""))
+    c.from_residual-in_err-push_string_body.ensures.1
+    (appended_twice self c.push_bytes.new.self c.push_string_body.new.self _ _ _ _ _ tt (Err fault)
+    c.in_ok-push_bytes.ensures.text c.in_err-push_string_body.ensures.text)
+
+pub returns-clause-text : goal.returns-clause-text
+returns-clause-text g c =
+    let self = c.args.self.now in
+    same_bytes self c.push.new.self _ _ _ _ c.push.result
+    (append_assoc (codes "\"text\":\"") (string_body c.args.text.now) (codes "\""))
+    (appended_twice self c.push_string_body.new.self c.push.new.self _ _ _ _ _ tt c.push.result
+    (appended_twice self c.push_bytes.new.self c.push_string_body.new.self _ _ _ _ _ tt (Ok tt)
+    c.in_ok-push_bytes.ensures.text c.in_ok-push_string_body.ensures.text)
+    c.push.ensures.text)

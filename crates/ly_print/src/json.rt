@@ -1,0 +1,181 @@
+ghost use Rattle.std.specs.Prelude.{◌≡◌, ◌<◌, ◌≤◌, ◌+◌, ◌*◌, ◌++◌, ◌∷◌, [], length, take, OnOk};
+ghost use Rattle.std.specs.Bool.{OnTrue};
+ghost use Rattle.std.specs.Fmt.{decimal};
+ghost use Rattle.std.specs.Str.{is_utf8};
+ghost use Rattle.ly_print.specs.Json.{control_escape, json_content, json_name, json_string, numbers, other_number};
+ghost use Rattle.ly_print.specs.Json.{string_body, string_byte};
+
+use crate::front::BLOCK;
+use crate::room::{hex_digit, put, put_bytes, put_plain};
+use itoa::Buffer;
+use std::alloc::AllocError;
+
+/// How many bytes of a string are written at a time.
+const STRETCH: usize = 64;
+
+/// How much room so many bytes of a string take at most, with a block behind them.
+const STRETCH_ROOM: usize = 400;
+
+/// Appends a name as a JSON string. Each of its bytes is the character of that number: one above 127 is two bytes of
+/// UTF-8.
+///
+/// It fails where memory runs out. How much was appended by then is left open.
+pub fn push_json_name(out: &mut Vec<u8>, name: &[u8]) -> Result<(), AllocError>
+    ensures { OnOk result (out.new.items ≡ out.old.items ++ json_name name.now) }
+{
+    out.push(b'"')?;
+    for byte in name {
+        let mut room = [0u8; 4];
+        push_string_body(out, char::from(*byte).encode_utf8(&mut room).as_bytes())?;
+    }
+    out.push(b'"')?;
+    Ok(())
+}
+
+/// Appends what a token consists of as a member of a JSON object: `"text":` and a string where it is UTF-8, or else
+/// `"bytes":` and a list of its bytes' numbers.
+///
+/// It fails where memory runs out. How much was appended by then is left open.
+pub fn push_json_content(out: &mut Vec<u8>, text: &[u8]) -> Result<(), AllocError>
+    ensures { OnOk result (out.new.items ≡ out.old.items ++ json_content text.now) }
+{
+    if is_utf8(text) {
+        out.extend_from_slice(b"\"text\":\"")?;
+        push_string_body(out, text)?;
+        out.push(b'"')?;
+    } else {
+        out.extend_from_slice(b"\"bytes\":[")?;
+        push_numbers(out, text)?;
+        out.push(b']')?;
+    }
+    Ok(())
+}
+
+/// Whether bytes are UTF-8.
+pub(crate) fn is_utf8(bytes: &[u8]) -> bool
+    ensures { result ≡ is_utf8 bytes.now }
+{
+    str::from_utf8(bytes).is_ok()
+}
+
+/// Appends bytes as they stand in a JSON string.
+fn push_string_body(out: &mut Vec<u8>, bytes: &[u8]) -> Result<(), AllocError>
+    ensures { OnOk result (out.new.items ≡ out.old.items ++ string_body bytes.now) }
+{
+    let mut done = 0;
+    while done < bytes.len() {
+        let mut room = [0u8; STRETCH_ROOM];
+        let count = STRETCH.min(bytes.len() - done);
+        let end = put_string_body(&mut room, 0, &bytes[done..], count);
+        out.extend_from_slice(&room[..end])?;
+        done += count;
+    }
+    Ok(())
+}
+
+/// Appends numbers, with commas between them.
+fn push_numbers(out: &mut Vec<u8>, bytes: &[u8]) -> Result<(), AllocError>
+    ensures { OnOk result (out.new.items ≡ out.old.items ++ numbers bytes.now) }
+{
+    let Some((first, others)) = bytes.split_first() else {
+        return Ok(());
+    };
+    let mut digits = Buffer::new();
+    out.extend_from_slice(digits.format(*first).as_bytes())?;
+    for byte in others {
+        let mut room = [0u8; 4];
+        let end = put_other_number(&mut room, 0, *byte);
+        out.extend_from_slice(&room[..end])?;
+    }
+    Ok(())
+}
+
+/// Whether so many bytes are room for so many of a JSON string. It may say no where they are.
+pub(crate) fn fits_in_string(left: usize, count: usize) -> bool
+    ensures { OnTrue result (6 * count + 16 ≤ left) }
+{
+    STRETCH_ROOM <= left && count <= (left - BLOCK) / 6
+}
+
+/// Writes the first so many bytes from a place on as they stand in a JSON string, run after run of those that stand for
+/// themselves, and answers where they end.
+pub(crate) fn put_string_body(room: &mut [u8], at: usize, bytes: &[u8], count: usize) -> usize
+    requires within { count ≤ length bytes.now }
+    requires room { at + 6 * count + 16 ≤ length room.old }
+    ensures bytes { take result room.new ≡ take at room.old ++ string_body (take count bytes.now) }
+    ensures within { result ≤ at + 6 * count }
+    ensures room { length room.new ≡ length room.old }
+{
+    let mut end = at;
+    let mut done = 0;
+    while done < count {
+        let run = put_plain(room, end, &bytes[done..], count - done);
+        end += run;
+        done += run;
+        if done < count {
+            end = put_string_byte(room, end, bytes[done]);
+            done += 1;
+        }
+    }
+    end
+}
+
+/// Writes a byte from a place on as it stands in a JSON string, and answers where it ends.
+pub(crate) fn put_string_byte(room: &mut [u8], at: usize, byte: u8) -> usize
+    requires { at + 6 ≤ length room.old }
+    ensures bytes { take result room.new ≡ take at room.old ++ string_byte byte }
+    ensures within { result ≤ at + 6 }
+    ensures room { length room.new ≡ length room.old }
+{
+    match byte {
+        b'"' | b'\\' => put_bytes(room, at, &[b'\\', byte]),
+        0..=31 => put_control(room, at, byte),
+        _ => put(room, at, byte),
+    }
+}
+
+/// Writes a control byte from a place on as it stands in a JSON string, and answers where it ends.
+#[cold]
+fn put_control(room: &mut [u8], at: usize, byte: u8) -> usize
+    requires control { byte < 32 }
+    requires room { at + 6 ≤ length room.old }
+    ensures bytes { take result room.new ≡ take at room.old ++ control_escape byte }
+    ensures within { result ≤ at + 6 }
+    ensures room { length room.new ≡ length room.old }
+{
+    let letter = match byte {
+        8 => b'b',
+        b'\t' => b't',
+        b'\n' => b'n',
+        12 => b'f',
+        b'\r' => b'r',
+        _ => {
+            let digits = [hex_digit(byte / 16), hex_digit(byte % 16)];
+            let end = put_bytes(room, at, b"\\u00");
+            return put_bytes(room, end, &digits);
+        }
+    };
+    put_bytes(room, at, &[b'\\', letter])
+}
+
+/// Writes the number of a byte from a place on, and answers where it ends.
+pub(crate) fn put_number(room: &mut [u8], at: usize, byte: u8) -> usize
+    requires { at + 3 ≤ length room.old }
+    ensures bytes { take result room.new ≡ take at room.old ++ decimal byte }
+    ensures within { result ≤ at + 3 }
+    ensures room { length room.new ≡ length room.old }
+{
+    let mut digits = Buffer::new();
+    put_bytes(room, at, digits.format(byte).as_bytes())
+}
+
+/// Writes the number of a byte from a place on, behind a comma, and answers where it ends.
+pub(crate) fn put_other_number(room: &mut [u8], at: usize, byte: u8) -> usize
+    requires { at + 4 ≤ length room.old }
+    ensures bytes { take result room.new ≡ take at room.old ++ other_number byte }
+    ensures within { result ≤ at + 4 }
+    ensures room { length room.new ≡ length room.old }
+{
+    let end = put(room, at, b',');
+    put_number(room, end, byte)
+}
