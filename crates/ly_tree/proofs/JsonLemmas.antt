@@ -1,5 +1,5 @@
 -- How long terms are as JSON.
-use Rattle.std.proofs.Common.{◌+◌, ◌*◌, ◌≤◌, ◌++◌, ℕ, arith, codes, length, length-append}
+use Rattle.std.proofs.Common.{◌+◌, ◌≤◌, ◌++◌, ℕ, arith, codes, length, length-append}
 use Rattle.ly_print.proofs.JsonLemmas.{json_content_len}
 use Rattle.ly_print.specs.Json.{json_content}
 use Rattle.ly_tree.specs.Json.{as_json, before_children, before_content}

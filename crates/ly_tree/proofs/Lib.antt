@@ -2,6 +2,7 @@ pub mod CostLemmas
 pub mod GrownLemmas
 pub mod HeadedLemmas
 pub mod JsonLemmas
+pub mod JsonReadingLemmas
 pub mod LineLemmas
 pub mod OfBytesLemmas
 pub mod PickLemmas

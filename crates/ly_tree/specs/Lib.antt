@@ -2,6 +2,7 @@ pub mod Costs
 pub mod Forest
 pub mod GrownCode
 pub mod Json
+pub mod JsonLaws
 pub mod Private
 pub mod Shown
 pub mod Term

@@ -22,7 +22,7 @@ mod term_line;
 mod words;
 
 pub use forest::{Forest, TermRef};
-pub use laws::a_reference_stands_for_one;
+pub use laws::{a_json_text_says_one_tree, a_reference_stands_for_one};
 pub use notation::{MostBytes, TermNotation};
 pub use plain::Plain;
 pub use refers::Refers;
