@@ -1,22 +1,25 @@
-ghost use Rattle.std.specs.Prelude.{◌≡◌, ◌≤◌, [], length, map, All, IfOk};
+ghost use Rattle.std.specs.Prelude.{◌≡◌, ◌≤◌, ◌++◌, ℕ, length, map, All, IfOk};
 ghost use Rattle.std.proofs.Props.{props};
 ghost use Rattle.ly_base.specs.Shape.{shape_of};
-ghost use Rattle.ly_feed.specs.Private.Labels.{leaf_label, leaf_labels, node_label, node_labels};
+ghost use Rattle.ly_feed.specs.Private.Labels.{constructors_of, leaf_label, node_label, AreLabels};
 ghost use Rattle.ly_feed.specs.Vocabularies.{constructor_in, constructor_of, name_in};
+ghost use Rattle.ly_feed.specs.declared.names.Names as names;
 ghost use Rattle.ly_pack.specs.Values.{rule_from};
+ghost use Rattle.ly_print.specs.declared.answer_form.AnswerForm as form;
+ghost use Rattle.ly_print.specs.declared.answer_form.AnswerForm.TheVariants.{Json, Plain};
+ghost use Rattle.ly_print.specs.Json.{json_name};
+ghost use Rattle.ly_tree.specs.Json.{as_json};
 
 use crate::names::Names;
 use ly_base::{OutOfMemory, RuleNo, RuleTree, Sym};
 use ly_pack::TableRule;
-use ly_print::{Label, Terminal};
-use ly_tree::Words;
+use ly_print::{AnswerForm, Front, Label, Sink, Terminal, TextWriter, WriteFault, push_json_name};
+use ly_tree::{MostBytes, TermNotation, Words};
 use std::alloc::Global;
 
-/// What stands before the texts of leaves and the children of nodes, made once from the names of a table set.
+/// What stands before the texts of leaves and the children of nodes, in an answer of some form.
 #[derive(Drop)]
-pub(crate) struct TermLabels<'a> {
-    /// The names.
-    names: Names<'a>,
+struct Labels {
     /// The label of each terminal's leaves.
     leaves: Vec<Label>,
     /// The label of each rule's nodes. That of rule 0, which has no constructor, is the first.
@@ -25,10 +28,66 @@ pub(crate) struct TermLabels<'a> {
     nameless_leaf: Label,
     /// The label of nodes whose rule has no constructor.
     nameless_node: Label,
-    ghost leaves_are: { leaves.items ≡ leaf_labels (map (λ n. n.items) names.terminals.now) } by { Prim.hlevel props },
-    ghost nodes_are: { nodes.items ≡ node_labels (map rule_from names.rules.now) } by { Prim.hlevel props },
-    ghost nameless_leaf_is: { nameless_leaf ≡ leaf_label [] } by { Prim.hlevel props },
-    ghost nameless_node_is: { nameless_node ≡ node_label [] } by { Prim.hlevel props },
+}
+
+impl Labels {
+    /// The labels of these names. It fails where memory runs out.
+    fn new(alloc: Global, names: Names<'_>, form: AnswerForm) -> Result<Labels, OutOfMemory>
+        ensures { IfOk result (AreLabels form names.entry) }
+    {
+        Ok(Labels {
+            leaves: leaf_labels(alloc, names.terminals, form)?,
+            nodes: node_labels(alloc, names.rules, form)?,
+            nameless_leaf: leaf_label(alloc, b"", form)?,
+            nameless_node: node_label(alloc, b"", form)?,
+        })
+    }
+
+    /// The label of a terminal's leaves.
+    fn leaf(&self, terminal: Sym) -> &Label
+        ensures { (form : form.AnswerForm) (names : names.Names) → AreLabels form names self.now
+            → result.now ≡ leaf_label form (name_in (map (λ name. name.items) names.terminals.now) terminal.0) }
+    {
+        match self.leaves.get(terminal.0 as usize) {
+            Some(label) => label,
+            None => &self.nameless_leaf,
+        }
+    }
+
+    /// The label of a rule's nodes.
+    fn node(&self, rule: RuleNo) -> &Label
+        ensures { (form : form.AnswerForm) (names : names.Names) → AreLabels form names self.now
+            → result.now ≡ node_label form (constructor_in (map rule_from names.rules.now) rule.0) }
+    {
+        match self.nodes.get(rule.0 as usize) {
+            Some(label) => label,
+            None => &self.nameless_node,
+        }
+    }
+
+    /// A length that none of them passes.
+    fn longest(&self) -> usize
+        ensures leaves { (form : form.AnswerForm) (names : names.Names) → AreLabels form names self.now → (t : ℕ)
+            → length (leaf_label form (name_in (map (λ name. name.items) names.terminals.now) t)) ≤ result }
+        ensures nodes { (form : form.AnswerForm) (names : names.Names) → AreLabels form names self.now → (p : ℕ)
+            → length (node_label form (constructor_in (map rule_from names.rules.now) p)) ≤ result }
+    {
+        let named = longest_of(&self.leaves).max(longest_of(&self.nodes));
+        named
+            .max(self.nameless_leaf.len())
+            .max(self.nameless_node.len())
+    }
+}
+
+/// What stands before the texts of leaves and the children of nodes in plain text, made once from the names of a table
+/// set.
+#[derive(Drop)]
+pub(crate) struct TermLabels<'a> {
+    /// The names.
+    names: Names<'a>,
+    /// Their labels.
+    labels: Labels,
+    ghost labels_are: { AreLabels Plain names labels } by { Prim.hlevel props },
 }
 
 impl<'a> TermLabels<'a> {
@@ -38,50 +97,157 @@ impl<'a> TermLabels<'a> {
     {
         Ok(TermLabels {
             names,
-            leaves: leaf_labels(alloc, names.terminals)?,
-            nodes: node_labels(alloc, names.rules)?,
-            nameless_leaf: leaf_label(alloc, b"")?,
-            nameless_node: node_label(alloc, b"")?,
+            labels: Labels::new(alloc, names, AnswerForm::Plain)?,
+        })
+    }
+}
+
+impl Words for TermLabels<'_> {
+    ghost terminals = { λ w t. name_in (map (λ name. name.items) w.names.terminals.now) t };
+
+    ghost constructors = { λ w p. constructor_in (map rule_from w.names.rules.now) p };
+
+    fn leaf_label(&self, terminal: Sym) -> &Label {
+        self.labels.leaf(terminal)
+    }
+
+    fn node_label(&self, rule: RuleNo) -> &Label {
+        self.labels.node(rule)
+    }
+
+    fn longest(&self) -> usize {
+        self.labels.longest()
+    }
+}
+
+/// What stands before the contents of leaves and the children of nodes in JSON, made once from the names of a table
+/// set.
+#[derive(Drop)]
+pub(crate) struct JsonLabels<'a> {
+    /// The names.
+    names: Names<'a>,
+    /// Their labels.
+    labels: Labels,
+    ghost labels_are: { AreLabels Json names labels } by { Prim.hlevel props },
+}
+
+impl<'a> JsonLabels<'a> {
+    /// The labels of these names. It fails where memory runs out.
+    pub(crate) fn new(alloc: Global, names: Names<'a>) -> Result<JsonLabels<'a>, OutOfMemory>
+        ensures { IfOk result (λ labels. labels.names ≡ names.entry) }
+    {
+        Ok(JsonLabels {
+            names,
+            labels: Labels::new(alloc, names, AnswerForm::Json)?,
+        })
+    }
+}
+
+impl TermNotation for JsonLabels<'_> {
+    ghost form = { λ l. as_json (record {
+      terminal = name_in (map (λ name. name.items) l.names.terminals.now);
+      constructor = constructor_in (map rule_from l.names.rules.now);
+    }) };
+
+    fn no_term(&self) -> &[u8] {
+        b"null"
+    }
+
+    fn opens(&self, rule: RuleNo) -> &Label {
+        self.labels.node(rule)
+    }
+
+    fn push_leaf<S: Sink>(
+        &self,
+        out: &mut TextWriter,
+        writer: &mut S,
+        terminal: Sym,
+        text: &Front<'_>,
+    ) -> Result<(), WriteFault> {
+        out.push_json_leaf(writer, self.labels.leaf(terminal), text)
+    }
+
+    fn push_closes<S: Sink>(&self, out: &mut TextWriter, writer: &mut S) -> Result<(), WriteFault> {
+        out.push_bytes(writer, b"]}")
+    }
+
+    fn most(&self) -> Option<MostBytes> {
+        // an escape has six bytes, and `"bytes":[` and what closes it have twelve, with a comma
+        Some(MostBytes {
+            of_term: self.labels.longest().checked_add(12)?,
+            of_byte: 6,
         })
     }
 }
 
 /// The label of each terminal's leaves. It fails where memory runs out.
-fn leaf_labels(alloc: Global, names: &[Vec<u8>]) -> Result<Vec<Label>, OutOfMemory>
-    ensures { IfOk result (λ labels. labels.items ≡ leaf_labels (map (λ name. name.items) names.now)) }
+fn leaf_labels(
+    alloc: Global,
+    names: &[Vec<u8>],
+    form: AnswerForm,
+) -> Result<Vec<Label>, OutOfMemory>
+    ensures { IfOk result (λ labels. labels.items ≡ map (leaf_label form) (map (λ name. name.items) names.now)) }
 {
     let mut labels = Vec::with_capacity(alloc, names.len())?;
     for name in names {
-        labels.push(leaf_label(alloc, name)?)?;
+        labels.push(leaf_label(alloc, name, form)?)?;
     }
     Ok(labels)
 }
 
 /// The label of each rule's nodes, that of rule 0 too. It fails where memory runs out.
-fn node_labels(alloc: Global, rules: &[TableRule]) -> Result<Vec<Label>, OutOfMemory>
-    ensures { IfOk result (λ labels. labels.items ≡ node_labels (map rule_from rules.now)) }
+fn node_labels(
+    alloc: Global,
+    rules: &[TableRule],
+    form: AnswerForm,
+) -> Result<Vec<Label>, OutOfMemory>
+    ensures { IfOk result (λ labels. labels.items ≡ map (node_label form) (constructors_of (map rule_from rules.now))) }
 {
-    let mut labels = vec![in alloc; node_label(alloc, b"")?]?;
+    let mut labels = vec![in alloc; node_label(alloc, b"", form)?]?;
     for rule in rules {
-        labels.push(node_label(alloc, constructor_of(rule))?)?;
+        labels.push(node_label(alloc, constructor_of(rule), form)?)?;
     }
     Ok(labels)
 }
 
 /// The label of a terminal's leaves, by its name. It fails where memory runs out.
-fn leaf_label(alloc: Global, name: &[u8]) -> Result<Label, OutOfMemory>
-    ensures { IfOk result (λ label. label ≡ leaf_label name.now) }
+fn leaf_label(alloc: Global, name: &[u8], form: AnswerForm) -> Result<Label, OutOfMemory>
+    ensures { IfOk result (λ label. label ≡ leaf_label form name.now) }
 {
-    Ok(Label::before_leaf(alloc, Terminal::Token(name))?)
+    match form {
+        AnswerForm::Plain => Ok(Label::before_leaf(alloc, Terminal::Token(name))?),
+        AnswerForm::Json => json_label(alloc, b"{\"token\":", name, b","),
+    }
 }
 
-/// The label of a constructor's nodes: it and a parenthesis. It fails where memory runs out.
-fn node_label(alloc: Global, constructor: &[u8]) -> Result<Label, OutOfMemory>
-    ensures { IfOk result (λ label. label ≡ node_label constructor.now) }
+/// The label of a constructor's nodes. It fails where memory runs out.
+fn node_label(alloc: Global, constructor: &[u8], form: AnswerForm) -> Result<Label, OutOfMemory>
+    ensures { IfOk result (λ label. label ≡ node_label form constructor.now) }
+{
+    match form {
+        AnswerForm::Plain => {
+            let mut text = Vec::new(alloc);
+            text.extend_from_slice(constructor)?;
+            text.push(b'(')?;
+            Ok(Label::new(text)?)
+        }
+        AnswerForm::Json => json_label(alloc, b"{\"node\":", constructor, b",\"children\":["),
+    }
+}
+
+/// The label of a name between what stands before and behind it. It fails where memory runs out.
+fn json_label(
+    alloc: Global,
+    before: &[u8],
+    name: &[u8],
+    behind: &[u8],
+) -> Result<Label, OutOfMemory>
+    ensures { IfOk result (λ label. label ≡ before.now ++ (json_name name.now ++ behind.now)) }
 {
     let mut text = Vec::new(alloc);
-    text.extend_from_slice(constructor)?;
-    text.push(b'(')?;
+    text.extend_from_slice(before)?;
+    push_json_name(&mut text, name)?;
+    text.extend_from_slice(behind)?;
     Ok(Label::new(text)?)
 }
 
@@ -92,33 +258,6 @@ fn constructor_of(rule: &TableRule) -> &[u8]
     match &rule.tree {
         RuleTree::Build { name, .. } => name,
         RuleTree::Nil | RuleTree::Pass(_) => b"",
-    }
-}
-
-impl Words for TermLabels<'_> {
-    ghost terminals = { λ w t. name_in (map (λ name. name.items) w.names.terminals.now) t };
-
-    ghost constructors = { λ w p. constructor_in (map rule_from w.names.rules.now) p };
-
-    fn leaf_label(&self, terminal: Sym) -> &Label {
-        match self.leaves.get(terminal.0 as usize) {
-            Some(label) => label,
-            None => &self.nameless_leaf,
-        }
-    }
-
-    fn node_label(&self, rule: RuleNo) -> &Label {
-        match self.nodes.get(rule.0 as usize) {
-            Some(label) => label,
-            None => &self.nameless_node,
-        }
-    }
-
-    fn longest(&self) -> usize {
-        let named = longest_of(&self.leaves).max(longest_of(&self.nodes));
-        named
-            .max(self.nameless_leaf.len())
-            .max(self.nameless_node.len())
     }
 }
 

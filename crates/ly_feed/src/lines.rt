@@ -24,7 +24,7 @@ use ly_base::{OutOfMemory, Sym};
 use ly_parse::Token;
 use ly_print::{Sink, Terminal, push_leaf, push_no_rule_line, write_whole};
 use ly_tables::TableSet;
-use ly_tree::{Forest, TermRef};
+use ly_tree::{Forest, Plain, TermRef};
 use std::alloc::Global;
 use std::io::Write;
 
@@ -83,7 +83,8 @@ fn write_term<W: Sink>(
     ensures untouched { IfErr result (λ e. IsBeforeWriting e → writer.new ≡ writer.old) }
 {
     let labels = TermLabels::new(alloc, *names)?;
-    let line = forest.line(alloc, &labels, root)?;
+    let plain = Plain::new(&labels);
+    let line = forest.line(alloc, &plain, root)?;
     line.write(writer)?;
     Ok(())
 }

@@ -18,6 +18,7 @@ returns-in_err-write-clause-beginning g c written t is stands =
     (shown (words_of c.args.names.now) t ++ newline ∷ [])) same
     (subst (IsCutShort (sink.contents c.args.writer.now) (sink.contents c.write.new.writer) count)
     (c.in_ok-line.ensures t stands
+    ∙ ap (λ labels. shown (words_of labels.names) t ++ newline ∷ []) c.new-plain.ensures
     ∙ ap (λ n. shown (words_of n) t ++ newline ∷ []) c.in_ok-labels.ensures)
     c.in_err-write.ensures.cut_short)
 
@@ -26,5 +27,6 @@ returns-clause-ok g c t stands =
     let sink = g.W.Sink in
     subst (Appends (sink.contents c.args.writer.now) (sink.contents c.write.new.writer))
     (c.in_ok-line.ensures t stands
+    ∙ ap (λ labels. shown (words_of labels.names) t ++ newline ∷ []) c.new-plain.ensures
     ∙ ap (λ n. shown (words_of n) t ++ newline ∷ []) c.in_ok-labels.ensures)
     c.in_ok-write.ensures.ok
