@@ -12,11 +12,12 @@ use Rattle.ly_feed.specs.Held.{Held, IsAnswerOf, IsOnward, IsRestOf, IsSettledBy
 use Rattle.ly_feed.specs.Onward.{Onward, none_yet}
 use Rattle.ly_feed.specs.ScanPart.{scan_part_of, scanner_in}
 use Rattle.ly_feed.specs.TableAnswer.{IsVerdict, TableAnswer, begun, with_more}
-use Rattle.ly_feed.specs.Verdict.{Verdict, faulty, printed}
+use Rattle.ly_feed.specs.Verdict.{Verdict, faulty, written_in}
 use Rattle.ly_feed.specs.Vocabularies.{vocabulary_of}
 use Rattle.ly_feed.specs.declared.outcome.Outcome.{Outcome}
 use Rattle.ly_feed.specs.declared.text_fault.TextFault.{TextFault}
 use Rattle.ly_feed.specs.declared.text_fault.TextFault.TheVariants.{FaultyTables, OutOfMemory, Read, TooLong, Write}
+use Rattle.ly_print.specs.declared.answer_form.AnswerForm.{AnswerForm}
 use Rattle.ly_scan.specs.Pieces.{IsUndecided}
 use Rattle.ly_tables.specs.TableSet.{TableSet, machine_of}
 
@@ -71,10 +72,10 @@ pub if_fault : {A E : Type 0} (P : E → Type 0) (r : Result A E) → ((e : E) �
 if_fault P (Ok x) h = tt
 if_fault P (Err e) h = h e
 
-module _ (s : TableSet) (given : Option (List ℕ)) where
+module _ (form : AnswerForm) (s : TableSet) (given : Option (List ℕ)) where
   -- nothing has come yet
-  pub begins : (f : Held) → f ≡ nothing_read s → IsReadSoFar s given given f
-  begins f none = subst (IsReadSoFar s given given) (sym none) (record {
+  pub begins : (f : Held) → f ≡ nothing_read form s → IsReadSoFar form s given given f
+  begins f none = subst (IsReadSoFar form s given given) (sym none) (record {
     taken = [];
     consumed = Consumes-nil given;
     onward = none_yet;
@@ -83,10 +84,11 @@ module _ (s : TableSet) (given : Option (List ℕ)) where
     counted = refl;
     countable = omega arith;
     set = refl;
+    same_form = refl;
     goes_on = refl;
   })
 
-  module _ (before after : Option (List ℕ)) (f : Held) (so_far : IsReadSoFar s given before f) where
+  module _ (before after : Option (List ℕ)) (f : Held) (so_far : IsReadSoFar form s given before f) where
     -- what is decided of a piece more
     onward_by : (g : Held) (piece : List ℕ) → IsOnward f piece g
         → Onward false (scan_part_of s) (machine_of s) (begun (so_far.taken ++ piece)) g.progress
@@ -98,7 +100,7 @@ module _ (s : TableSet) (given : Option (List ℕ)) where
 
     -- a piece more
     pub goes_on : (g : Held) (piece : List ℕ) → Consumes before after piece → IsOnward f piece g
-        → IsReadSoFar s given after g
+        → IsReadSoFar form s given after g
     goes_on g piece took on = record {
       taken = so_far.taken ++ piece;
       consumed = Consumes-trans given before after so_far.taken piece so_far.consumed took;
@@ -109,6 +111,7 @@ module _ (s : TableSet) (given : Option (List ℕ)) where
       counted = omega (arith, on.counted, so_far.counted, length-append so_far.taken piece);
       countable = omega (arith, on.counted, on.countable);
       set = on.set ∙ so_far.set;
+      same_form = on.form ∙ so_far.same_form;
       goes_on = on.goes_on;
     }
 
@@ -140,9 +143,14 @@ module _ (s : TableSet) (given : Option (List ℕ)) where
         → 2 ^ 64 - seen g < 2 ^ 64 - seen f
     fewer g piece some on = omega (arith, some, on.counted, on.countable, so_far.countable)
 
+    -- a verdict is written by the feed's set, and in its form
+    same_text : (v : Verdict) → written_in f.form (vocabulary_of f.set) v ≡ written_in form (vocabulary_of s) v
+    same_text v = ap (λ x. written_in f.form (vocabulary_of x) v) so_far.set
+        ∙ ap (λ x. written_in x (vocabulary_of s) v) so_far.same_form
+
     -- the text is answered by now
     pub settles : (o : Outcome) (answer piece : List ℕ) → Consumes before after piece → IsSettledBy f piece o answer
-        → (text : List ℕ) × IfSome given (λ bytes. text ≡ bytes) × TableAnswer s text o answer
+        → (text : List ℕ) × IfSome given (λ bytes. text ≡ bytes) × TableAnswer form s text o answer
     settles o answer piece took h = (
       so_far.taken ++ (piece ++ left after),
       all_given given before after so_far.taken piece so_far.consumed took,
@@ -150,7 +158,7 @@ module _ (s : TableSet) (given : Option (List ℕ)) where
         h.0,
         so_far.says (piece ++ left after) h.0 (h.1 (left after)),
         h.2,
-        h.4 ∙ ap (λ x. printed (vocabulary_of x) h.0) so_far.set,
+        h.4 ∙ same_text h.0,
       ),
     )
 
@@ -181,20 +189,20 @@ module _ (s : TableSet) (given : Option (List ℕ)) where
 
     -- and this is its answer
     pub ended_so : (g : Held) (o : Outcome) (answer : List ℕ) → g ≡ f → Consumes before after [] → IsAtEnd after
-        → IsAnswerOf g o answer → (text : List ℕ) × IfSome given (λ bytes. text ≡ bytes) × TableAnswer s text o answer
+        → IsAnswerOf g o answer → (text : List ℕ) × IfSome given (λ bytes. text ≡ bytes) × TableAnswer form s text o answer
     ended_so g o answer same took end a =
         let h = subst (λ x. IsAnswerOf x o answer) same a in
         let text = ends h.0 took end h.1 in (
           text.0,
           text.1,
-          (h.0, text.2, h.2, h.3 ∙ ap (λ x. printed (vocabulary_of x) h.0) so_far.set),
+          (h.0, text.2, h.2, h.3 ∙ same_text h.0),
         )
 
     -- where there is one
     pub answered : {E : Type 0} (g : Held) (old new : Option (List ℕ)) (r : Result Outcome E) → g ≡ f
         → Consumes before after [] → IsAtEnd after
         → IfOk r (λ o. (answer : List ℕ) × IsAnswerOf g o answer × Appends old new answer)
-        → IfOk r (IsAnsweredBy s given old new)
+        → IfOk r (IsAnsweredBy form s given old new)
     answered g old new (Ok o) same took end told =
         let text = ended_so g o told.0 same took end told.1 in
         (text.0, told.0, text.1, text.2, told.2)

@@ -8,20 +8,22 @@ use Rattle.ly_feed.specs.TableAnswer.{IsVerdict, Progress, TableAnswer, begun}
 use Rattle.ly_feed.specs.Verdict.{faulty}
 use Rattle.ly_feed.specs.declared.outcome.Outcome.{Outcome}
 use Rattle.ly_pack.specs.Steady.{IsSteady}
+use Rattle.ly_print.specs.declared.answer_form.AnswerForm.{AnswerForm}
 use Rattle.ly_scan.specs.Pieces.{IsUndecided}
 use Rattle.ly_tables.specs.TableSet.{TableSet, machine_of}
 use Rattle.ly_tables.specs.TableText.{TableText}
 
 -- A text that the reader gave, where its bytes are known, has this outcome by the set, and its whole answer was
--- written.
-abbrev pub IsAnsweredBy : TableSet → Option (List ℕ) → Option (List ℕ) → Option (List ℕ) → Outcome → Type 0
-IsAnsweredBy s given before after outcome = (text : List ℕ) × (answer : List ℕ) × IfSome given (λ bytes. text ≡ bytes)
-    × TableAnswer s text outcome answer × Appends before after answer
+-- written in a form.
+abbrev pub IsAnsweredBy :
+    AnswerForm → TableSet → Option (List ℕ) → Option (List ℕ) → Option (List ℕ) → Outcome → Type 0
+IsAnsweredBy form s given before after outcome = (text : List ℕ) × (answer : List ℕ)
+    × IfSome given (λ bytes. text ≡ bytes) × TableAnswer form s text outcome answer × Appends before after answer
 
 -- so many bytes of its answer were written, and these are not all
-abbrev pub IsBegunBy : TableSet → Option (List ℕ) → Option (List ℕ) → Option (List ℕ) → ℕ → Type 0
-IsBegunBy s given before after written = (text : List ℕ) × (answer : List ℕ) × (outcome : Outcome)
-    × IfSome given (λ bytes. text ≡ bytes) × TableAnswer s text outcome answer × (written < length answer)
+abbrev pub IsBegunBy : AnswerForm → TableSet → Option (List ℕ) → Option (List ℕ) → Option (List ℕ) → ℕ → Type 0
+IsBegunBy form s given before after written = (text : List ℕ) × (answer : List ℕ) × (outcome : Outcome)
+    × IfSome given (λ bytes. text ≡ bytes) × TableAnswer form s text outcome answer × (written < length answer)
     × Appends before after (take written answer)
 
 -- the set is at fault on the text that the reader gave

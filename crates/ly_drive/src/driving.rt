@@ -14,11 +14,11 @@ ghost use Rattle.ly_feed.specs.TextFault as text;
 use crate::fault::DriveFault;
 use crate::reading::read_into;
 use ly_feed::{Feed, Need, Outcome, TextFault};
-use ly_print::{Sink, Source, write_whole};
+use ly_print::{AnswerForm, Sink, Source, write_whole};
 use ly_tables::{TableSet, a_file_has_one_set, read_tables};
 use std::alloc::Global;
 
-/// Answers the text that a reader gives by the bytes of a table file, and writes the answer. Nothing is read before the
+/// Answers the text that a reader gives by the bytes of a table file, and writes the answer in a form. Nothing is read before the
 /// table file is read, and at most 4,096 bytes at a time; nothing is written before the outcome is known, and nothing
 /// is asked of the reader after it is, so only at a tree the reader is known to be at its end, and a read that fails
 /// was one that had to be made.
@@ -27,14 +27,15 @@ use std::alloc::Global;
 pub fn drive<R: Source, W: Sink>(
     alloc: Global,
     tables: &[u8],
+    form: AnswerForm,
     reader: &mut R,
     writer: &mut W,
 ) -> Result<Outcome, DriveFault>
     ensures answered { IfOk result (λ o. (s : Tables) × IsDriven tables.now s
-        × IsAnsweredBy s (R.remaining reader.old) (W.contents writer.old) (W.contents writer.new) o) }
+        × IsAnsweredBy form s (R.remaining reader.old) (W.contents writer.old) (W.contents writer.new) o) }
     ensures beginning { (written : ℕ) → result ≡ Err (DriveFault.Text (TextFault.Write written)) → (s : Tables)
         × IsDriven tables.now s
-        × IsBegunBy s (R.remaining reader.old) (W.contents writer.old) (W.contents writer.new) written }
+        × IsBegunBy form s (R.remaining reader.old) (W.contents writer.old) (W.contents writer.new) written }
     ensures faulty { result ≡ Err (DriveFault.Text TextFault.FaultyTables) → (s : Tables) × IsDriven tables.now s
         × IsFaultyOn s (R.remaining reader.old) }
     ensures refused { (fault : file.TableFault) → result ≡ Err (DriveFault.Tables fault)
@@ -56,7 +57,7 @@ pub fn drive<R: Source, W: Sink>(
 {
     a_file_has_one_set();
     let (set, _version) = read_tables(alloc, tables)?;
-    let answered = run(alloc, &set, reader, writer);
+    let answered = run(alloc, &set, form, reader, writer);
     drop(set);
     Ok(answered?)
 }
@@ -64,7 +65,7 @@ pub fn drive<R: Source, W: Sink>(
 /// How many bytes are asked for at a time.
 const PIECE: usize = 4_096;
 
-/// Answers the text that a reader gives by a table set, and writes the answer. Nothing is written before the outcome is
+/// Answers the text that a reader gives by a table set, and writes the answer in a form. Nothing is written before the outcome is
 /// known, and nothing is asked of the reader after it is, so only at a tree the reader is known to be at its end, and a
 /// read that fails was one that had to be made.
 ///
@@ -72,13 +73,14 @@ const PIECE: usize = 4_096;
 pub fn run<R: Source, W: Sink>(
     alloc: Global,
     set: &TableSet,
+    form: AnswerForm,
     reader: &mut R,
     writer: &mut W,
 ) -> Result<Outcome, TextFault>
-    ensures answered { IfOk result (IsAnsweredBy set.now (R.remaining reader.old) (W.contents writer.old)
+    ensures answered { IfOk result (IsAnsweredBy form set.now (R.remaining reader.old) (W.contents writer.old)
         (W.contents writer.new)) }
     ensures beginning { (written : ℕ) → result ≡ Err (TextFault.Write written)
-        → IsBegunBy set.now (R.remaining reader.old) (W.contents writer.old) (W.contents writer.new) written }
+        → IsBegunBy form set.now (R.remaining reader.old) (W.contents writer.old) (W.contents writer.new) written }
     ensures faulty { result ≡ Err TextFault.FaultyTables → IsFaultyOn set.now (R.remaining reader.old) }
     ensures long { result ≡ Err TextFault.TooLong → IsTooLong (R.remaining reader.old) }
     ensures ended { result ≡ Ok Outcome.Tree → IsAtEnd (R.remaining reader.new) }
@@ -93,7 +95,7 @@ pub fn run<R: Source, W: Sink>(
     ensures untouched { IfErr result (λ e. text.IsBeforeWriting e → writer.new ≡ writer.old) }
 {
     let mut room = vec![in alloc; 0u8; PIECE]?;
-    let mut feed = Feed::new(alloc, set)?;
+    let mut feed = Feed::new(alloc, set, form)?;
     let answered = feed_all(&mut feed, &mut room, reader, writer);
     drop(feed);
     answered
@@ -107,12 +109,12 @@ fn feed_all<R: Source, W: Sink>(
     reader: &mut R,
     writer: &mut W,
 ) -> Result<Outcome, TextFault>
-    requires begins { feed.old ≡ nothing_read feed.old.set }
+    requires begins { feed.old ≡ nothing_read feed.old.form feed.old.set }
     requires room { 0 < length room.old }
-    ensures answered { IfOk result (IsAnsweredBy feed.old.set (R.remaining reader.old) (W.contents writer.old)
+    ensures answered { IfOk result (IsAnsweredBy feed.old.form feed.old.set (R.remaining reader.old) (W.contents writer.old)
         (W.contents writer.new)) }
     ensures beginning { (written : ℕ) → result ≡ Err (TextFault.Write written)
-        → IsBegunBy feed.old.set (R.remaining reader.old) (W.contents writer.old) (W.contents writer.new) written }
+        → IsBegunBy feed.old.form feed.old.set (R.remaining reader.old) (W.contents writer.old) (W.contents writer.new) written }
     ensures faulty { result ≡ Err TextFault.FaultyTables → IsFaultyOn feed.old.set (R.remaining reader.old) }
     ensures long { result ≡ Err TextFault.TooLong → IsTooLong (R.remaining reader.old) }
     ensures ended { result ≡ Ok Outcome.Tree → IsAtEnd (R.remaining reader.new) }

@@ -18,3 +18,4 @@ pub use ly_feed::{
     Feed, FeedFault, Need, Outcome, TextFault, a_beginning_says_it, a_text_has_a_verdict,
     a_text_has_one_verdict, decided_matches_change_nothing,
 };
+pub use ly_print::AnswerForm;

@@ -1,5 +1,5 @@
 -- How a feed answers a text that has ended.
-use Rattle.std.proofs.Common.{◌≡◌, ℕ, List, [], Err, Ok, Option, Result, ap, refl, subst, sym}
+use Rattle.std.proofs.Common.{◌≡◌, ◌∙◌, ℕ, List, [], Err, Ok, Option, Result, ap, length, refl, subst, sym}
 use Rattle.std.specs.Io.KnownBytes.{Appends}
 use Rattle.std.specs.Prelude.{Bool, IfErr, IfOk, IsErrAnd}
 use Rattle.ly_base.specs.Lexed.{Place}
@@ -10,7 +10,7 @@ use Rattle.ly_feed.specs.Private.Running.{IsClosed, IsVerdictOf, progress_of}
 use Rattle.ly_feed.specs.ScanPart.{ScanPart, scan_part_of}
 use Rattle.ly_feed.specs.TableAnswer.{IsRest, Progress}
 use Rattle.ly_feed.specs.TextFault.{IsOfEnding, IsOfWriting}
-use Rattle.ly_feed.specs.Verdict.{IsOutcome, Verdict, faulty, printed}
+use Rattle.ly_feed.specs.Verdict.{IsOutcome, Verdict, faulty, written_in}
 use Rattle.ly_feed.specs.Vocabularies.{vocabulary_of}
 use Rattle.ly_feed.specs.declared.flaw.Flaw.TheVariants as flaw
 use Rattle.ly_feed.specs.declared.outcome.Outcome.{Outcome}
@@ -21,14 +21,15 @@ use Rattle.ly_feed.specs.declared.text_fault.TextFault.{TextFault}
 use Rattle.ly_feed.specs.declared.text_fault.TextFault.TheVariants as text
 use Rattle.ly_pack.specs.Machine.{Machine}
 use Rattle.ly_parse.specs.Parse.{Parse}
+use Rattle.ly_print.specs.declared.answer_form.AnswerForm.{AnswerForm}
 use Rattle.ly_tables.specs.TableSet.{TableSet, machine_of}
 use Rattle.ly_tree.specs.Forest.{Grown}
 
 -- what is said where the run stands is said of what the feed holds
-pub rest_of : (set : TableSet) (q z : Place) (s : Parse) (over : Bool) (f : Held) (v : Verdict)
-    → held_from set q s over ≡ f → z ≡ q → IsRest (scan_part_of set) (machine_of set) (progress_of z s) v
+pub rest_of : (set : TableSet) (form : AnswerForm) (q z : Place) (s : Parse) (over : Bool) (f : Held) (v : Verdict)
+    → held_from set form q s over ≡ f → z ≡ q → IsRest (scan_part_of set) (machine_of set) (progress_of z s) v
     → IsRestOf f [] v
-rest_of set q z s over f v view at said = subst (λ x. IsRestOf x [] v) view
+rest_of set form q z s over f v view at said = subst (λ x. IsRestOf x [] v) view
     (subst (λ w. IsRest (scan_part_of set) (machine_of set) w v) (sym (nothing_more (progress_of q s) [] refl))
     (subst (λ x. IsRest (scan_part_of set) (machine_of set) (progress_of x s) v) at said))
 
@@ -68,21 +69,28 @@ pub outcome_of : (forest : Grown) (ended : Ended) (v : Verdict) → IsVerdictOf 
     → (o : Outcome) × IsOutcome v o
 outcome_of forest (Accepted root) v is = (Tree, subst (λ x. IsOutcome x Tree) (sym is.1) refl)
 outcome_of forest (Refused (flaw.Refused number token expected)) v is = (
-  Syntax number token.at expected,
-  subst (λ x. IsOutcome x (Syntax number token.at expected)) (sym is) (refl, refl, refl),
+  Syntax number token.at (length token.text) expected,
+  subst (λ x. IsOutcome x (Syntax number token.at (length token.text) expected)) (sym is) (refl, refl, refl, refl),
 )
 outcome_of forest (Refused (flaw.NoRule byte)) v is =
     (NoRule byte, subst (λ x. IsOutcome x (NoRule byte)) (sym is) refl)
 
 -- what was written is the answer
-pub answered : {E : Type 0} (f : Held) (set : TableSet) (v : Verdict) (forest : Grown) (ended : Ended)
-    (before after : Option (List ℕ)) (result : Result Outcome E) → f.set ≡ set → IsRestOf f [] v
-    → IsVerdictOf forest ended v → IfOk result (λ o. (v : Verdict) → IsVerdictOf forest ended v → IsOutcome v o
-    × Appends before after (printed (vocabulary_of set) v))
+pub answered : {E : Type 0} (f : Held) (set : TableSet) (form : AnswerForm) (v : Verdict) (forest : Grown)
+    (ended : Ended) (before after : Option (List ℕ)) (result : Result Outcome E) → f.set ≡ set → f.form ≡ form
+    → IsRestOf f [] v → IsVerdictOf forest ended v
+    → IfOk result (λ o. (v : Verdict) → IsVerdictOf forest ended v → IsOutcome v o
+    × Appends before after (written_in form (vocabulary_of set) v))
     → IfOk result (λ o. (answer : List ℕ) × IsAnswerOf f o answer × Appends before after answer)
-answered f set v forest ended before after (Ok o) same rest said h = (
-  printed (vocabulary_of set) v,
-  (v, rest, (h v said).0, ap (λ s. printed (vocabulary_of s) v) (sym same)),
+answered f set form v forest ended before after (Ok o) same_set same_form rest said h = (
+  written_in form (vocabulary_of set) v,
+  (
+    v,
+    rest,
+    (h v said).0,
+    ap (λ s. written_in form (vocabulary_of s) v) (sym same_set)
+        ∙ ap (λ x. written_in x (vocabulary_of f.set) v) (sym same_form),
+  ),
   (h v said).1,
 )
-answered f set v forest ended before after (Err e) same rest said h = tt
+answered f set form v forest ended before after (Err e) same_set same_form rest said h = tt

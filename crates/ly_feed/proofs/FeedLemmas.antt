@@ -15,7 +15,7 @@ use Rattle.ly_feed.specs.Private.Flaw.{verdict_of}
 use Rattle.ly_feed.specs.Private.Running.{IsRunOn, progress_of}
 use Rattle.ly_feed.specs.ScanPart.{ScanPart, condition_in, scan_part_of, scanner_in}
 use Rattle.ly_feed.specs.TableAnswer.{Progress}
-use Rattle.ly_feed.specs.Verdict.{IsOutcome, faulty, printed}
+use Rattle.ly_feed.specs.Verdict.{IsOutcome, faulty, written_in}
 use Rattle.ly_feed.specs.Vocabularies.{vocabulary_of}
 use Rattle.ly_feed.specs.declared.feed_fault.FeedFault.{FeedFault}
 use Rattle.ly_feed.specs.declared.flaw.Flaw.{Flaw}
@@ -32,6 +32,7 @@ use Rattle.ly_feed.specs.FeedFaultNames.{feed_fault_of}
 use Rattle.ly_pack.specs.Machine.{Machine}
 use Rattle.ly_parse.proofs.FedOnceLemmas.{fed_in_one_way}
 use Rattle.ly_parse.specs.Parse.{Parse}
+use Rattle.ly_print.specs.declared.answer_form.AnswerForm.{AnswerForm}
 use Rattle.ly_scan.specs.Pieces.{IsUndecided, behind}
 use Rattle.ly_tables.specs.TableSet.{TableSet, machine_of}
 
@@ -80,12 +81,12 @@ given_up q r at line condition h same_at same_line same_condition =
 
 -- of a flaw no tree is told
 no_tree : (flaw : Flaw) (o : Outcome) → IsOutcome (verdict_of flaw) o → o ≡ out.Tree → ⊥
-no_tree (Refused number token expected) (out.Syntax n b ts) told is = cc
+no_tree (Refused number token expected) (out.Syntax n b count ts) told is = cc
 no_tree (Refused number token expected) out.Tree told is = told
 no_tree (Refused number token expected) (out.NoRule b) told is = told
 no_tree (NoRule byte) o told is = let both : out.NoRule byte ≡ out.Tree = sym told ∙ is in cc
 
-module _ (set : TableSet) (q : Place) (s : Parse) (over : Bool) (piece : List ℕ) where
+module _ (set : TableSet) (form : AnswerForm) (q : Place) (s : Parse) (over : Bool) (piece : List ℕ) where
   abbrev p : ScanPart
   p = scan_part_of set
 
@@ -93,16 +94,17 @@ module _ (set : TableSet) (q : Place) (s : Parse) (over : Bool) (piece : List �
   m = machine_of set
 
   abbrev f : Held
-  f = held_from set q s over
+  f = held_from set form q s over
 
   -- decided matches lead to where the next one isn't
   pub goes_onward : (r : Place) (t : Parse) → Onward false p m (progress_of (behind q piece) s) (progress_of r t)
-      → IsUndecided (scanner_in p) r → seen f + length piece < 2 ^ 64 → IsOnward f piece (held_from set r t false)
+      → IsUndecided (scanner_in p) r → seen f + length piece < 2 ^ 64 → IsOnward f piece (held_from set form r t false)
   goes_onward r t on undecided few = record {
     onward = on;
     undecided = undecided;
     same_rest = same_rest p m (progress_of q s) piece fed_in_one_way on;
     set = refl;
+    form = refl;
     goes_on = refl;
     counted = omega (arith, same_end p m on, length-append q.rest piece);
     countable = few;
@@ -112,7 +114,7 @@ module _ (set : TableSet) (q : Place) (s : Parse) (over : Bool) (piece : List �
   pub is_settled : (g : Held) (flaw : Flaw) (o : Outcome) (lines : Vec ℕ Global)
       (t : Parse) (h : Halt)
       → IsRunOn false p m (progress_of (behind q piece) s) t (Ok h) → h ≡ Flawed flaw
-      → IsOutcome (verdict_of flaw) o → lines.items ≡ printed (vocabulary_of set) (verdict_of flaw) → IsOver f g
+      → IsOutcome (verdict_of flaw) o → lines.items ≡ written_in form (vocabulary_of set) (verdict_of flaw) → IsOver f g
       → seen f + length piece < 2 ^ 64 → TakesPiece f piece g (Ok (Settled o lines))
   is_settled g flaw o lines t h run at told written over few = (
     over,

@@ -3,6 +3,7 @@ pub mod EndingLemmas
 pub mod FaultLemmas
 pub mod FeedLemmas
 pub mod FeedingLemmas
+pub mod JsonLineLemmas
 pub mod LabelLemmas
 pub mod LexerOfLemmas
 pub mod LineLemmas

@@ -7,7 +7,7 @@ use Rattle.std.specs.declared.vec.Vec.{Vec}
 use Rattle.ly_feed.specs.Onward.{Onward}
 use Rattle.ly_feed.specs.ScanPart.{scan_part_of, scanner_in}
 use Rattle.ly_feed.specs.TableAnswer.{Progress, IsRest, begun, with_more}
-use Rattle.ly_feed.specs.Verdict.{Verdict, IsOutcome, faulty, printed}
+use Rattle.ly_feed.specs.Verdict.{Verdict, IsOutcome, faulty, written_in}
 use Rattle.ly_feed.specs.Vocabularies.{vocabulary_of}
 use Rattle.ly_feed.specs.declared.feed_fault.FeedFault.{FeedFault}
 use Rattle.ly_feed.specs.declared.feed_fault.FeedFault.TheVariants.{OutOfMemory, Over, FaultyTables, TooLong}
@@ -15,19 +15,21 @@ use Rattle.ly_feed.specs.declared.need.Need.{Need}
 use Rattle.ly_feed.specs.declared.need.Need.TheVariants.{More, Settled}
 use Rattle.ly_feed.specs.declared.outcome.Outcome.{Outcome}
 use Rattle.ly_feed.specs.declared.outcome.Outcome.TheVariants.{Tree}
+use Rattle.ly_print.specs.declared.answer_form.AnswerForm.{AnswerForm}
 use Rattle.ly_scan.specs.Pieces.{IsUndecided}
 use Rattle.ly_tables.specs.TableSet.{TableSet, machine_of}
 
--- The table set, how far the run has come, with the bytes that are held as those that are left there, and whether no
--- more is said of the text.
+-- The table set, the form of the answer, how far the run has come, with the bytes that are held as those that are left
+-- there, and whether no more is said of the text.
 pub record Held : Type 0 where
   pub set : TableSet
+  pub form : AnswerForm
   pub progress : Progress
   pub over : Bool
 
 -- nothing has come yet
-abbrev pub nothing_read : TableSet → Held
-nothing_read s = record { set = s; progress = begun []; over = false }
+abbrev pub nothing_read : AnswerForm → TableSet → Held
+nothing_read form s = record { set = s; form = form; progress = begun []; over = false }
 
 -- how many bytes are held; none where no more is said
 abbrev pub bytes_held : Held → ℕ
@@ -44,6 +46,7 @@ IsRestOf f more v = IsRest (scan_part_of f.set) (machine_of f.set) (with_more f.
 -- no more is said
 pub record IsOver (f g : Held) : Type 0 where
   pub set : g.set ≡ f.set
+  pub form : g.form ≡ f.form
   pub over : g.over ≡ true
 
 -- A piece leads to where it isn't known yet what is said: all matches that are decided were passed over, or their
@@ -54,6 +57,7 @@ pub record IsOnward (f : Held) (piece : List ℕ) (g : Held) : Type 0 where
   pub same_rest : (more : List ℕ) (v : Verdict) → (IsRestOf f (piece ++ more) v → IsRestOf g more v)
       × (IsRestOf g more v → IsRestOf f (piece ++ more) v)
   pub set : g.set ≡ f.set
+  pub form : g.form ≡ f.form
   pub goes_on : g.over ≡ false
   pub counted : seen g ≡ seen f + length piece
   pub countable : seen f + length piece < 2 ^ 64
@@ -62,7 +66,7 @@ pub record IsOnward (f : Held) (piece : List ℕ) (g : Held) : Type 0 where
 -- needs the end of the text.
 abbrev pub IsSettledBy : Held → List ℕ → Outcome → List ℕ → Type 0
 IsSettledBy f piece outcome answer = (v : Verdict) × ((more : List ℕ) → IsRestOf f (piece ++ more) v)
-    × IsOutcome v outcome × (outcome ≢ Tree) × (answer ≡ printed (vocabulary_of f.set) v)
+    × IsOutcome v outcome × (outcome ≢ Tree) × (answer ≡ written_in f.form (vocabulary_of f.set) v)
 
 -- What a feed that isn't over makes of a piece, by what it answers. Want of memory says nothing of the text.
 abbrev pub TakesPiece : Held → List ℕ → Held → Result Need FeedFault → Type 0
@@ -83,7 +87,7 @@ pub record IsPiece (f : Held) (piece : List ℕ) (g : Held) (answer : Result Nee
 -- the text is answered with this outcome and these bytes, if it ends behind what is held
 abbrev pub IsAnswerOf : Held → Outcome → List ℕ → Type 0
 IsAnswerOf f outcome answer = (v : Verdict) × IsRestOf f [] v × IsOutcome v outcome
-    × (answer ≡ printed (vocabulary_of f.set) v)
+    × (answer ≡ written_in f.form (vocabulary_of f.set) v)
 
 -- What a feed that isn't over says where the text has ended.
 abbrev pub Ends : Held → Result (Outcome × Vec ℕ Global) FeedFault → Type 0

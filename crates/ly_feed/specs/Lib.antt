@@ -1,5 +1,6 @@
 pub mod FeedFaultNames
 pub mod Held
+pub mod JsonLines
 pub mod Laws
 pub mod Onward
 pub mod Private

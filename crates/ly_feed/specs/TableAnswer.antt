@@ -6,13 +6,14 @@ use Rattle.ly_base.specs.declared.lexeme.End.TheVariants.{BadCut, Clean, Stuck}
 use Rattle.ly_base.specs.declared.lexeme.Lexeme.{Lexeme}
 use Rattle.ly_feed.specs.ScanPart.{ScanPart, condition_in, scan_part_of, scanner_in, terminal_in}
 use Rattle.ly_feed.specs.Vocabularies.{vocabulary_of}
-use Rattle.ly_feed.specs.Verdict.{Verdict, IsOutcome, accepted, faulty, printed, refused, unmatched}
+use Rattle.ly_feed.specs.Verdict.{Verdict, IsOutcome, accepted, faulty, refused, unmatched, written_in}
 use Rattle.ly_feed.specs.declared.outcome.Outcome.{Outcome}
 use Rattle.ly_pack.specs.Machine.{Machine}
 use Rattle.ly_parse.specs.Expected.{AreExpected}
 use Rattle.ly_parse.specs.Feeding.{Feeds, Level, states_on}
 use Rattle.ly_parse.specs.Feeding as fed
 use Rattle.ly_parse.specs.Reading.{ReadsTokens}
+use Rattle.ly_print.specs.declared.answer_form.AnswerForm.{AnswerForm}
 use Rattle.ly_scan.specs.Lexer.{IsLexemeAt, ScanEndsAt}
 use Rattle.ly_scan.specs.Pieces.{behind}
 use Rattle.ly_tables.specs.TableSet.{TableSet, machine_of}
@@ -94,7 +95,7 @@ IsVerdictBy p m text v = IsSaidFrom p m (begun text) (end_of text) v
 abbrev pub IsVerdict : TableSet → List ℕ → Verdict → Type 0
 IsVerdict s text v = IsVerdictBy (scan_part_of s) (machine_of s) text v
 
--- the text is answered with this outcome and these bytes
-abbrev pub TableAnswer : TableSet → List ℕ → Outcome → List ℕ → Type 0
-TableAnswer s text outcome answer = (v : Verdict) × IsVerdict s text v × IsOutcome v outcome
-    × (answer ≡ printed (vocabulary_of s) v)
+-- the text is answered with this outcome and, in a form, these bytes
+abbrev pub TableAnswer : AnswerForm → TableSet → List ℕ → Outcome → List ℕ → Type 0
+TableAnswer form s text outcome answer = (v : Verdict) × IsVerdict s text v × IsOutcome v outcome
+    × (answer ≡ written_in form (vocabulary_of s) v)

@@ -1,12 +1,16 @@
 -- What a text is answered with, and how that is printed.
-use Rattle.std.specs.Prelude.{◌≡◌, ℕ, List, [], ◌∷◌, ◌++◌, nat_eq, if◌then◌else◌, codes, map}
+use Rattle.std.specs.Prelude.{◌≡◌, ℕ, List, [], ◌∷◌, ◌++◌, nat_eq, if◌then◌else◌, codes, length, map}
 use Rattle.std.specs.Fmt.{decimal}
 use Rattle.std.specs.List.{flat_map}
 use Rattle.ly_base.specs.Bytes.{newline}
 use Rattle.ly_base.specs.Lexed.{Token}
 use Rattle.ly_print.specs.Text.{leaf_of, no_rule_line, token}
+use Rattle.ly_print.specs.declared.answer_form.AnswerForm.{AnswerForm}
+use Rattle.ly_print.specs.declared.answer_form.AnswerForm.TheVariants.{Json, Plain}
+use Rattle.ly_feed.specs.JsonLines.{json_refused_line, json_unmatched_line}
 use Rattle.ly_feed.specs.declared.outcome.Outcome.{Outcome}
 use Rattle.ly_feed.specs.declared.outcome.Outcome.TheVariants.{NoRule, Syntax, Tree}
+use Rattle.ly_tree.specs.Json.{json}
 use Rattle.ly_tree.specs.Shown.{Vocabulary, shown}
 use Rattle.ly_tree.specs.Term.{Term}
 
@@ -28,21 +32,34 @@ syntax_line v k t = if nat_eq t.terminal 0
 abbrev pub expected_line : Vocabulary → List ℕ → List ℕ
 expected_line v ts = codes "expected:" ++ flat_map (λ t. codes " " ++ v.terminal t) ts ++ newline ∷ []
 
--- the printed answer; nothing where the tables are at fault
+-- the answer as plain text; nothing where the tables are at fault
 abbrev pub printed : Vocabulary → Verdict → List ℕ
 printed v (accepted t) = shown v t ++ newline ∷ []
 printed v (refused k t ts) = syntax_line v k t ++ expected_line v ts
 printed v (unmatched byte) = no_rule_line byte
 printed v faulty = []
 
--- the outcome says which token is refused, where it stands and what is expected
-abbrev pub IsSyntax : ℕ → ℕ → List ℕ → Outcome → Type 0
-IsSyntax k at ts (Syntax n b expected) = (n ≡ k) × (b ≡ at) × (map (λ s. s.0) expected.items ≡ ts)
-IsSyntax k at ts _ = ⊥
+-- the answer as a line of JSON, likewise
+abbrev pub json_printed : Vocabulary → Verdict → List ℕ
+json_printed v (accepted t) = json v t ++ newline ∷ []
+json_printed v (refused k t ts) = json_refused_line v k t ts
+json_printed v (unmatched byte) = json_unmatched_line byte
+json_printed v faulty = []
+
+-- the answer in a form
+abbrev pub written_in : AnswerForm → Vocabulary → Verdict → List ℕ
+written_in Plain v verdict = printed v verdict
+written_in Json v verdict = json_printed v verdict
+
+-- the outcome says which token is refused, where it stands, how many bytes it has and what is expected
+abbrev pub IsSyntax : ℕ → Token ℕ → List ℕ → Outcome → Type 0
+IsSyntax k t ts (Syntax n byte count expected) = (n ≡ k) × (byte ≡ t.at) × (count ≡ length t.bytes)
+    × (map (λ s. s.0) expected.items ≡ ts)
+IsSyntax k t ts _ = ⊥
 
 -- the outcome that a verdict is told by
 abbrev pub IsOutcome : Verdict → Outcome → Type 0
 IsOutcome (accepted t) outcome = outcome ≡ Tree
-IsOutcome (refused k t ts) outcome = IsSyntax k t.at ts outcome
+IsOutcome (refused k t ts) outcome = IsSyntax k t ts outcome
 IsOutcome (unmatched byte) outcome = outcome ≡ NoRule byte
 IsOutcome faulty outcome = ⊥

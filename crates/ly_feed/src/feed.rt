@@ -17,7 +17,7 @@ use crate::text_fault::TextFault;
 use crate::window::Window;
 use ly_base::OutOfMemory;
 use ly_parse::Parser;
-use ly_print::{MemSink, Sink};
+use ly_print::{AnswerForm, MemSink, Sink};
 use ly_scan::{Lexer, Matcher, RowStart};
 use ly_tables::TableSet;
 use std::alloc::Global;
@@ -33,9 +33,11 @@ pub struct Feed<'a> {
     alloc: Global,
     /// The table set.
     set: &'a TableSet,
-    /// Its scanner.
+    /// How the answer is written.
+    form: AnswerForm,
+    /// The set's scanner.
     lexer: Lexer,
-    /// Its parser, with what it has read.
+    /// The set's parser, with what it has read.
     parser: TableParser<'a>,
     /// The bytes that are held, which are those of the match that isn't decided, and where it begins.
     window: Window,
@@ -55,15 +57,15 @@ impl<'a> Model for Feed<'a> {
 
     ghost coded = { Prim.hlevel (codes, level_code) };
 
-    ghost view = { λ f. held_from f.set.now f.window f.parser f.over };
+    ghost view = { λ f. held_from f.set.now f.form f.window f.parser f.over };
 
     ghost invariant = { λ f. IsFeed f };
 }
 
 impl<'a> Feed<'a> {
-    /// A feed to which nothing has come. It fails where memory runs out.
-    pub fn new(alloc: Global, set: &'a TableSet) -> Result<Feed<'a>, OutOfMemory>
-        ensures { IfOk result (λ f. f ≡ nothing_read set.now) }
+    /// A feed to which nothing has come, and whose answer is written in a form. It fails where memory runs out.
+    pub fn new(alloc: Global, set: &'a TableSet, form: AnswerForm) -> Result<Feed<'a>, OutOfMemory>
+        ensures { IfOk result (λ f. f ≡ nothing_read form set.now) }
     {
         let lexer = lexer_of(alloc, set)?;
         let window = Window::new(alloc);
@@ -71,6 +73,7 @@ impl<'a> Feed<'a> {
         Ok(Feed {
             alloc,
             set,
+            form,
             lexer,
             parser: Parser::new(alloc, set.machine()),
             window,
@@ -114,7 +117,7 @@ impl<'a> Feed<'a> {
         )? {
             Halt::At(place) => place,
             Halt::Flawed(flaw) => {
-                let (outcome, lines) = told(self.alloc, self.set, flaw)?;
+                let (outcome, lines) = told(self.alloc, self.set, self.form, flaw)?;
                 return Ok(Need::Settled(outcome, lines));
             }
         };
@@ -160,6 +163,13 @@ impl<'a> Feed<'a> {
         self.over = true;
         let place = self.window.place();
         let ended = run_to_end(self.alloc, self.set, &self.lexer, &mut self.parser, place)?;
-        write_ended(self.alloc, self.set, self.parser.forest(), ended, writer)
+        write_ended(
+            self.alloc,
+            self.set,
+            self.form,
+            self.parser.forest(),
+            ended,
+            writer,
+        )
     }
 }

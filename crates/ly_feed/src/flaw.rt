@@ -37,6 +37,7 @@ impl Flaw<'_> {
             } => Outcome::Syntax {
                 token: number,
                 byte: token.at,
+                length: token.text.len(),
                 expected,
             },
             Flaw::NoRule { byte } => Outcome::NoRule { byte },

@@ -1,10 +1,10 @@
 //! From a table set and a text in pieces to the printed answer.
 //!
 //! A `Feed` takes the text piece by piece: the scanner of the set takes it apart, its parser reads the tokens one by
-//! one, and the tree, or the lines that say what is wrong, are printed once they are known (`TableAnswer`). A feed
-//! holds the match that isn't decided yet, and gives up the rest; the text is answered as it is whole, however it is
-//! cut (`IsPiece`, `IsFinish`). Scanner and parser run over the tables alone, so nothing here knows of lex and yacc
-//! files.
+//! one, and the tree, or what is wrong, is written once it is known, as plain text or as JSON (`TableAnswer`,
+//! `written_in`). A feed holds the match that isn't decided yet, and gives up the rest; the text is answered as it is
+//! whole, however it is cut (`IsPiece`, `IsFinish`). Scanner and parser run over the tables alone, so nothing here
+//! knows of lex and yacc files.
 //!
 //! Left out: where the pieces come from, and what tables say of the files that they were generated from.
 #![tactic(auto)]
@@ -12,6 +12,7 @@
 mod feed;
 mod feed_fault;
 mod flaw;
+mod json_lines;
 mod labels;
 mod laws;
 mod lexer_of_set;

@@ -7,42 +7,45 @@ ghost use Rattle.ly_print.specs.TextWriter.{IsCutShort};
 ghost use Rattle.ly_feed.specs.Private.Flaw.{token_of, verdict_of};
 ghost use Rattle.ly_feed.specs.Private.Running.{words_of, IsThere, IsVerdictOf};
 ghost use Rattle.ly_feed.specs.TextFault.{IsBeforeWriting, IsOfWriting, IsWrite};
-ghost use Rattle.ly_feed.specs.Verdict.{expected_line, printed, syntax_line, IsOutcome, Verdict};
+ghost use Rattle.ly_feed.specs.Verdict.{accepted, expected_line, printed, syntax_line, written_in, IsOutcome, Verdict};
 ghost use Rattle.ly_feed.specs.Vocabularies.{vocabulary_of};
 ghost use Rattle.ly_tree.specs.Costs.{IsPaid};
 ghost use Rattle.ly_tree.specs.Forest.{term_of, StandsFor};
-ghost use Rattle.ly_tree.specs.Shown.{shown, Vocabulary};
+ghost use Rattle.ly_tree.specs.Shown.{Vocabulary};
 ghost use Rattle.ly_tree.specs.Term.{Term};
+ghost use Rattle.ly_tree.specs.Written.{written as noted};
 
 use crate::flaw::Flaw;
-use crate::labels::TermLabels;
+use crate::json_lines::json_line;
+use crate::labels::{JsonLabels, TermLabels};
 use crate::names::Names;
 use crate::outcome::Outcome;
 use crate::running::Ended;
 use crate::text_fault::TextFault;
 use ly_base::{OutOfMemory, Sym};
 use ly_parse::Token;
-use ly_print::{Sink, Terminal, push_leaf, push_no_rule_line, write_whole};
+use ly_print::{AnswerForm, Sink, Terminal, push_leaf, push_no_rule_line, write_whole};
 use ly_tables::TableSet;
-use ly_tree::{Forest, Plain, TermRef};
+use ly_tree::{Forest, Plain, TermNotation, TermRef};
 use std::alloc::Global;
 use std::io::Write;
 
-/// Writes what a text that has ended is answered with, and says what it is. Nothing is written where memory runs out. A
-/// term is written while it is printed.
+/// Writes what a text that has ended is answered with, in a form, and says what it is. Nothing is written where memory
+/// runs out. A term is written while it is printed.
 pub(crate) fn write_ended<W: Sink>(
     alloc: Global,
     set: &TableSet,
+    form: AnswerForm,
     forest: &Forest,
     ended: Ended<'_>,
     writer: &mut W,
 ) -> Result<Outcome, TextFault>
     requires { IsThere forest.now ended }
     ensures ok { IfOk result (λ o. (v : Verdict) → IsVerdictOf forest.now ended.entry v → IsOutcome v o
-        × Appends (W.contents writer.old) (W.contents writer.new) (printed (vocabulary_of set.now) v)) }
+        × Appends (W.contents writer.old) (W.contents writer.new) (written_in form (vocabulary_of set.now) v)) }
     ensures beginning { (written : ℕ) (v : Verdict) → result ≡ Err (TextFault.Write written)
         → IsVerdictOf forest.now ended.entry v
-        → IsCutShort (W.contents writer.old) (W.contents writer.new) written (printed (vocabulary_of set.now) v) }
+        → IsCutShort (W.contents writer.old) (W.contents writer.new) written (written_in form (vocabulary_of set.now) v) }
     ensures of_writing { IfErr result IsOfWriting }
     ensures write { IfErr result (λ e. IsWrite e → W.failures writer.new ≡ next_count (W.failures writer.old)) }
     ensures writer_held { OnOk result (W.failures writer.new ≡ W.failures writer.old) }
@@ -50,21 +53,22 @@ pub(crate) fn write_ended<W: Sink>(
 {
     match ended {
         Ended::Accepted(root) => {
-            write_term(alloc, &Names::of(set), forest, root, writer)?;
+            write_term(alloc, &Names::of(set), form, forest, root, writer)?;
             Ok(Outcome::Tree)
         }
         Ended::Refused(flaw) => {
-            let (outcome, lines) = told(alloc, set, flaw)?;
+            let (outcome, lines) = told(alloc, set, form, flaw)?;
             write_whole(writer, &lines)?;
             Ok(outcome)
         }
     }
 }
 
-/// Writes the line of a term of a forest. Nothing is written where memory runs out.
+/// Writes the line of a term of a forest in a form. Nothing is written where memory runs out.
 fn write_term<W: Sink>(
     alloc: Global,
     names: &Names<'_>,
+    form: AnswerForm,
     forest: &Forest,
     root: TermRef,
     writer: &mut W,
@@ -72,35 +76,83 @@ fn write_term<W: Sink>(
     requires known { IsSome (term_of forest.now root) }
     requires paid { (t : Term) → StandsFor forest.now root t → IsPaid forest.now t }
     ensures ok { OnOk result ((t : Term) → StandsFor forest.now root t → Appends (W.contents writer.old)
-        (W.contents writer.new) (shown (words_of names.now) t ++ newline ∷ [])) }
+        (W.contents writer.new) (written_in form (words_of names.now) (accepted t))) }
     ensures beginning { (written : ℕ) (t : Term) → result ≡ Err (TextFault.Write written)
         → StandsFor forest.now root t
         → IsCutShort (W.contents writer.old) (W.contents writer.new) written
-        (shown (words_of names.now) t ++ newline ∷ []) }
+        (written_in form (words_of names.now) (accepted t)) }
     ensures of_writing { IfErr result IsOfWriting }
     ensures write { IfErr result (λ e. IsWrite e → W.failures writer.new ≡ next_count (W.failures writer.old)) }
     ensures writer_held { OnOk result (W.failures writer.new ≡ W.failures writer.old) }
     ensures untouched { IfErr result (λ e. IsBeforeWriting e → writer.new ≡ writer.old) }
 {
-    let labels = TermLabels::new(alloc, *names)?;
-    let plain = Plain::new(&labels);
-    let line = forest.line(alloc, &plain, root)?;
+    match form {
+        AnswerForm::Plain => {
+            let labels = TermLabels::new(alloc, *names)?;
+            let plain = Plain::new(&labels);
+            write_line(alloc, &plain, forest, root, writer)
+        }
+        AnswerForm::Json => {
+            let labels = JsonLabels::new(alloc, *names)?;
+            write_line(alloc, &labels, forest, root, writer)
+        }
+    }
+}
+
+/// Writes the line of a term of a forest by a notation. Nothing is written where memory runs out.
+fn write_line<N: TermNotation, W: Sink>(
+    alloc: Global,
+    notation: &N,
+    forest: &Forest,
+    root: TermRef,
+    writer: &mut W,
+) -> Result<(), TextFault>
+    requires known { IsSome (term_of forest.now root) }
+    requires paid { (t : Term) → StandsFor forest.now root t → IsPaid forest.now t }
+    ensures ok { OnOk result ((t : Term) → StandsFor forest.now root t → Appends (W.contents writer.old)
+        (W.contents writer.new) (noted (N.form notation.now) t ++ newline ∷ [])) }
+    ensures beginning { (written : ℕ) (t : Term) → result ≡ Err (TextFault.Write written)
+        → StandsFor forest.now root t
+        → IsCutShort (W.contents writer.old) (W.contents writer.new) written
+        (noted (N.form notation.now) t ++ newline ∷ []) }
+    ensures of_writing { IfErr result IsOfWriting }
+    ensures write { IfErr result (λ e. IsWrite e → W.failures writer.new ≡ next_count (W.failures writer.old)) }
+    ensures writer_held { OnOk result (W.failures writer.new ≡ W.failures writer.old) }
+    ensures untouched { IfErr result (λ e. IsBeforeWriting e → writer.new ≡ writer.old) }
+{
+    let line = forest.line(alloc, notation, root)?;
     line.write(writer)?;
     Ok(())
 }
 
-/// What a text is answered with where something is wrong with it: the outcome, and the lines that say so.
+/// What a text is answered with where something is wrong with it: the outcome, and the lines that say so in a form.
 #[inline(never)] // so that a token that is read has the registers
 pub(crate) fn told(
     alloc: Global,
     set: &TableSet,
+    form: AnswerForm,
     flaw: Flaw<'_>,
 ) -> Result<(Outcome, Vec<u8>), OutOfMemory>
     ensures { IfOk result (λ told. IsOutcome (verdict_of flaw.entry) told.0
-        × (told.1.items ≡ printed (vocabulary_of set.now) (verdict_of flaw.entry))) }
+        × (told.1.items ≡ written_in form (vocabulary_of set.now) (verdict_of flaw.entry))) }
 {
-    let lines = flaw_lines(alloc, &Names::of(set), &flaw)?;
+    let lines = flaw_text(alloc, &Names::of(set), form, &flaw)?;
     Ok((flaw.into_outcome(), lines))
+}
+
+/// What says in a form what is wrong with a text.
+fn flaw_text(
+    alloc: Global,
+    names: &Names<'_>,
+    form: AnswerForm,
+    flaw: &Flaw<'_>,
+) -> Result<Vec<u8>, OutOfMemory>
+    ensures { IfOk result (λ text. text.items ≡ written_in form (words_of names.now) (verdict_of flaw.now)) }
+{
+    match form {
+        AnswerForm::Plain => flaw_lines(alloc, names, flaw),
+        AnswerForm::Json => json_line(alloc, names, flaw),
+    }
 }
 
 /// The lines that say what is wrong with a text.

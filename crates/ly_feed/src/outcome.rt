@@ -11,6 +11,8 @@ pub enum Outcome {
         token: u64,
         /// The byte where it stands, counted from 0.
         byte: u64,
+        /// How many bytes it has; none at the end.
+        length: usize,
         /// The terminals that would have been read in its place, or accepted with, by rising number.
         expected: Vec<Sym>,
     },

@@ -11,6 +11,7 @@ use Rattle.ly_feed.specs.declared.need.Need.{Need}
 use Rattle.ly_feed.specs.declared.need.Need.TheVariants.{More, Settled}
 use Rattle.ly_feed.specs.declared.text_fault.TextFault.{TextFault}
 use Rattle.ly_feed.specs.declared.text_fault.TextFault.TheVariants.{FaultyTables, OutOfMemory, Read, TooLong}
+use Rattle.ly_print.specs.declared.answer_form.AnswerForm.{AnswerForm}
 use Rattle.ly_scan.specs.Pieces.{IsUndecided}
 use Rattle.ly_tables.specs.TableSet.{TableSet, machine_of}
 
@@ -35,9 +36,9 @@ IsReadInto most f before after g (Err OutOfMemory) = (piece : List ℕ) × IsGiv
 IsReadInto most f before after g (Err Read) = Consumes before after []
 IsReadInto most f before after g (Err _) = ⊥
 
--- What a reader gave so far has come to a feed of a set, which says of the rest what the set says of the whole; and
--- the text isn't answered by it.
-pub record IsReadSoFar (s : TableSet) (given now : Option (List ℕ)) (f : Held) : Type 0 where
+-- What a reader gave so far has come to a feed of a set, which says of the rest what the set says of the whole, in a
+-- form; and the text isn't answered by it.
+pub record IsReadSoFar (form : AnswerForm) (s : TableSet) (given now : Option (List ℕ)) (f : Held) : Type 0 where
   pub taken : List ℕ
   pub consumed : Consumes given now taken
   pub onward : Onward false (scan_part_of s) (machine_of s) (begun taken) f.progress
@@ -46,4 +47,5 @@ pub record IsReadSoFar (s : TableSet) (given now : Option (List ℕ)) (f : Held)
   pub counted : seen f ≡ length taken
   pub countable : seen f < 2 ^ 64
   pub set : f.set ≡ s
+  pub same_form : f.form ≡ form
   pub goes_on : f.over ≡ false

@@ -7,12 +7,14 @@ use Rattle.ly_feed.specs.Private.Running.{CanRun, progress_of}
 use Rattle.ly_feed.specs.ScanPart.{scan_part_of}
 use Rattle.ly_feed.specs.declared.feed.Feed.TheInside.{Inside}
 use Rattle.ly_parse.specs.Parse.{Parse}
+use Rattle.ly_print.specs.declared.answer_form.AnswerForm.{AnswerForm}
 use Rattle.ly_scan.specs.Lexers.{IsUnderwayAt}
 use Rattle.ly_tables.specs.TableSet.{TableSet, machine_of}
 
 -- what a feed holds
-abbrev pub held_from : TableSet → Place → Parse → Bool → Held
-held_from set place parse over = record { set = set; progress = progress_of place parse; over = over }
+abbrev pub held_from : TableSet → AnswerForm → Place → Parse → Bool → Held
+held_from set form place parse over =
+    record { set = set; form = form; progress = progress_of place parse; over = over }
 
 -- A feed's scanner and parser are those of its set, and as long as it isn't over its parse isn't, and the walk over the
 -- bytes that are held goes on.

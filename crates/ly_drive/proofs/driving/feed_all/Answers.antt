@@ -16,7 +16,7 @@ use Rattle.ly_feed.specs.declared.text_fault.TextFault.TheVariants.{FaultyTables
 pub loop-outcome-init : goal.loop-outcome-init
 loop-outcome-init g c =
     let source = g.R.Source in record {
-      so_far = begins c.args.feed.now.set (source.remaining c.args.reader.now) c.args.feed.now c.requires.begins;
+      so_far = begins c.args.feed.now.form c.args.feed.now.set (source.remaining c.args.reader.now) c.args.feed.now c.requires.begins;
       counted = refl;
       untouched = refl;
       room = c.requires.room;
@@ -30,12 +30,13 @@ returns-in_err-read_into-clause-faulty g c is =
     let given = g.R.Source.remaining c.args.reader.now in
     let f = c.loop-outcome.feed in
     let s = c.args.feed.now.set in
+    let form = c.args.feed.now.form in
     let i = c.loop-outcome.invariant in
     let fault = same_fault c.from_residual.result c.in_err-read_into.field-0.0 FaultyTables c.from_residual.ensures.1 is
     in
     let read = subst (λ e. IsReadInto (length c.loop-outcome.room) f before after c.read_into.new.feed (Err e)) fault
     c.in_err-read_into.ensures.is_read in
-    at_fault s given before after f i.so_far read.0 read.1.consumed read.2
+    at_fault form s given before after f i.so_far read.0 read.1.consumed read.2
 
 pub loop-outcome-preserved : goal.loop-outcome-preserved
 loop-outcome-preserved g c =
@@ -44,10 +45,11 @@ loop-outcome-preserved g c =
     let given = g.R.Source.remaining c.args.reader.now in
     let f = c.loop-outcome.feed in
     let s = c.args.feed.now.set in
+    let form = c.args.feed.now.form in
     let i = c.loop-outcome.invariant in
     let read = subst (λ o. IsReadInto (length c.loop-outcome.room) f before after c.read_into.new.feed (Ok o))
     (c.in-Some-More.is ∙ ap Some c.in-Some-More.field-0-is) c.in_ok-read_into.ensures.is_read in record {
-      so_far = goes_on s given before after f i.so_far c.read_into.new.feed read.0 read.1.consumed read.3;
+      so_far = goes_on form s given before after f i.so_far c.read_into.new.feed read.0 read.1.consumed read.3;
       counted = c.in_ok-read_into.ensures.held
           (λ z. let off : Ok c.in_ok-read_into.field-0 ≡ Err Read = z in cc) ∙ i.counted;
       untouched = i.untouched;
@@ -63,11 +65,12 @@ returns-in_err-write_whole-in-Some-Settled-clause-beginning g c written is =
     let given = g.R.Source.remaining c.args.reader.now in
     let f = c.loop-outcome.feed in
     let s = c.args.feed.now.set in
+    let form = c.args.feed.now.form in
     let i = c.loop-outcome.invariant in
     let read = subst (λ o. IsReadInto (length c.loop-outcome.room) f before after c.read_into.new.feed (Ok o))
     (c.in-Some-Settled.is ∙ ap Some c.in-Some-Settled.field-0-is) c.in_ok-read_into.ensures.is_read in
     let answer = c.in-Some-Settled.answer.items in
-    let text = settles s given before after f i.so_far c.in-Some-Settled.outcome answer read.0 read.1.consumed
+    let text = settles form s given before after f i.so_far c.in-Some-Settled.outcome answer read.0 read.1.consumed
     read.2 in
     let failed = c.in_err-write_whole-in-Some-Settled in
     let count = failed.field-0.0.written in
@@ -86,11 +89,12 @@ returns-in-Some-Settled-clause-answered g c =
     let given = g.R.Source.remaining c.args.reader.now in
     let f = c.loop-outcome.feed in
     let s = c.args.feed.now.set in
+    let form = c.args.feed.now.form in
     let i = c.loop-outcome.invariant in
     let read = subst (λ o. IsReadInto (length c.loop-outcome.room) f before after c.read_into.new.feed (Ok o))
     (c.in-Some-Settled.is ∙ ap Some c.in-Some-Settled.field-0-is) c.in_ok-read_into.ensures.is_read in
     let answer = c.in-Some-Settled.answer.items in
-    let text = settles s given before after f i.so_far c.in-Some-Settled.outcome answer read.0 read.1.consumed
+    let text = settles form s given before after f i.so_far c.in-Some-Settled.outcome answer read.0 read.1.consumed
     read.2 in (
       text.0,
       answer,
@@ -109,10 +113,11 @@ returns-in-None-clause-answered g c =
     let given = g.R.Source.remaining c.args.reader.now in
     let f = c.loop-outcome.feed in
     let s = c.args.feed.now.set in
+    let form = c.args.feed.now.form in
     let i = c.loop-outcome.invariant in
     let read = subst (λ o. IsReadInto (length c.loop-outcome.room) f before after c.read_into.new.feed (Ok o))
     c.in-None.is c.in_ok-read_into.ensures.is_read in
-    answered s given before after f i.so_far c.read_into.new.feed (g.W.Sink.contents c.args.writer.now)
+    answered form s given before after f i.so_far c.read_into.new.feed (g.W.Sink.contents c.args.writer.now)
     (g.W.Sink.contents c.finish_into.new.writer) c.finish_into.result read.2 read.1 read.0
     (subst (λ w. IfOk c.finish_into.result (λ o. (answer : List ℕ) × IsAnswerOf c.read_into.new.feed o answer
     × Appends (g.W.Sink.contents w) (g.W.Sink.contents c.finish_into.new.writer) answer)) i.untouched
@@ -125,11 +130,12 @@ returns-in-None-clause-beginning g c written is =
     let given = g.R.Source.remaining c.args.reader.now in
     let f = c.loop-outcome.feed in
     let s = c.args.feed.now.set in
+    let form = c.args.feed.now.form in
     let i = c.loop-outcome.invariant in
     let read = subst (λ o. IsReadInto (length c.loop-outcome.room) f before after c.read_into.new.feed (Ok o))
     c.in-None.is c.in_ok-read_into.ensures.is_read in
     let begun = c.finish_into.ensures.beginning written is in
-    let text = ended_so s given before after f i.so_far c.read_into.new.feed begun.1 begun.0 read.2 read.1 read.0
+    let text = ended_so form s given before after f i.so_far c.read_into.new.feed begun.1 begun.0 read.2 read.1 read.0
     begun.2 in
     let cut = subst (λ w. IsCutShort (g.W.Sink.contents w) (g.W.Sink.contents c.finish_into.new.writer) written begun.0)
     i.untouched begun.3 in
@@ -142,10 +148,11 @@ returns-in-None-clause-faulty g c is =
     let given = g.R.Source.remaining c.args.reader.now in
     let f = c.loop-outcome.feed in
     let s = c.args.feed.now.set in
+    let form = c.args.feed.now.form in
     let i = c.loop-outcome.invariant in
     let read = subst (λ o. IsReadInto (length c.loop-outcome.room) f before after c.read_into.new.feed (Ok o))
     c.in-None.is c.in_ok-read_into.ensures.is_read in
-    ends s given before after f i.so_far faulty read.1 read.0
+    ends form s given before after f i.so_far faulty read.1 read.0
     (subst (λ x. IsRestOf x [] faulty) read.2 (c.finish_into.ensures.faulty is))
 
 pub returns-in_err-read_into-clause-needed : goal.returns-in_err-read_into-clause-needed
@@ -155,13 +162,14 @@ returns-in_err-read_into-clause-needed g c not =
     let given = g.R.Source.remaining c.args.reader.now in
     let f = c.loop-outcome.feed in
     let s = c.args.feed.now.set in
+    let form = c.args.feed.now.form in
     let i = c.loop-outcome.invariant in
     let most = length c.args.room.now in
     let room = length c.loop-outcome.room in
     let fault = c.in_err-read_into.field-0.0 in
     let piece = given_by room f c.read_into.new.feed before after fault c.in_err-read_into.ensures.is_read
     (other_fault c.from_residual.result fault Read c.from_residual.ensures.1 not) in
-    as_needed s given before after f i.so_far most room piece.0 i.same_room piece.1
+    as_needed form s given before after f i.so_far most room piece.0 i.same_room piece.1
 
 pub returns-in_err-write_whole-in-Some-Settled-clause-needed :
     goal.returns-in_err-write_whole-in-Some-Settled-clause-needed
@@ -171,12 +179,13 @@ returns-in_err-write_whole-in-Some-Settled-clause-needed g c not =
     let given = g.R.Source.remaining c.args.reader.now in
     let f = c.loop-outcome.feed in
     let s = c.args.feed.now.set in
+    let form = c.args.feed.now.form in
     let i = c.loop-outcome.invariant in
     let most = length c.args.room.now in
     let room = length c.loop-outcome.room in
     let read = subst (λ o. IsReadInto room f before after c.read_into.new.feed (Ok o))
     (c.in-Some-Settled.is ∙ ap Some c.in-Some-Settled.field-0-is) c.in_ok-read_into.ensures.is_read in
-    as_needed s given before after f i.so_far most room read.0 i.same_room read.1
+    as_needed form s given before after f i.so_far most room read.0 i.same_room read.1
 
 pub returns-in-Some-Settled-clause-needed : goal.returns-in-Some-Settled-clause-needed
 returns-in-Some-Settled-clause-needed g c not =
@@ -185,12 +194,13 @@ returns-in-Some-Settled-clause-needed g c not =
     let given = g.R.Source.remaining c.args.reader.now in
     let f = c.loop-outcome.feed in
     let s = c.args.feed.now.set in
+    let form = c.args.feed.now.form in
     let i = c.loop-outcome.invariant in
     let most = length c.args.room.now in
     let room = length c.loop-outcome.room in
     let read = subst (λ o. IsReadInto room f before after c.read_into.new.feed (Ok o))
     (c.in-Some-Settled.is ∙ ap Some c.in-Some-Settled.field-0-is) c.in_ok-read_into.ensures.is_read in
-    as_needed s given before after f i.so_far most room read.0 i.same_room read.1
+    as_needed form s given before after f i.so_far most room read.0 i.same_room read.1
 
 pub returns-in-None-clause-needed : goal.returns-in-None-clause-needed
 returns-in-None-clause-needed g c not =
@@ -199,12 +209,13 @@ returns-in-None-clause-needed g c not =
     let given = g.R.Source.remaining c.args.reader.now in
     let f = c.loop-outcome.feed in
     let s = c.args.feed.now.set in
+    let form = c.args.feed.now.form in
     let i = c.loop-outcome.invariant in
     let most = length c.args.room.now in
     let room = length c.loop-outcome.room in
     let read = subst (λ o. IsReadInto room f before after c.read_into.new.feed (Ok o)) c.in-None.is
     c.in_ok-read_into.ensures.is_read in
-    ended_as_needed s given before after f i.so_far most read.1
+    ended_as_needed form s given before after f i.so_far most read.1
 
 pub returns-in_err-read_into-clause-asked : goal.returns-in_err-read_into-clause-asked
 returns-in_err-read_into-clause-asked g c is =
@@ -213,8 +224,9 @@ returns-in_err-read_into-clause-asked g c is =
     let given = g.R.Source.remaining c.args.reader.now in
     let f = c.loop-outcome.feed in
     let s = c.args.feed.now.set in
+    let form = c.args.feed.now.form in
     let i = c.loop-outcome.invariant in
     let fault = same_fault c.from_residual.result c.in_err-read_into.field-0.0 Read c.from_residual.ensures.1 is in
-    asked_for s given before after f i.so_far
+    asked_for form s given before after f i.so_far
     (subst (λ e. IsReadInto (length c.loop-outcome.room) f before after c.read_into.new.feed (Err e)) fault
     c.in_err-read_into.ensures.is_read)

@@ -7,7 +7,8 @@ use Rattle.ly_feed.specs.Held.{seen}
 -- what came so far is in the feed, and nothing failed or was written
 abbrev pub invariant-loop-outcome : goal.invariant-loop-outcome
 invariant-loop-outcome g l = let source = g.R.Source in record {
-  so_far : IsReadSoFar l.initial.feed.set (source.remaining l.initial.reader) (source.remaining l.reader) l.feed;
+  so_far : IsReadSoFar l.initial.feed.form l.initial.feed.set (source.remaining l.initial.reader)
+      (source.remaining l.reader) l.feed;
   counted : source.failures l.reader ≡ source.failures l.initial.reader;
   untouched : l.writer ≡ l.initial.writer;
   room : 0 < length l.room;

@@ -5,9 +5,9 @@ use Rattle.ly_drive.proofs.driving.run.Goals as goal
 
 pub returns-clause-beginning : goal.returns-clause-beginning
 returns-clause-beginning g c written is =
-    subst (λ s. IsBegunBy s (g.R.Source.remaining c.args.reader.now) (g.W.Sink.contents c.args.writer.now)
-    (g.W.Sink.contents c.feed_all-answered.new.writer) written) (ap (λ f. f.set) c.in_ok-feed.ensures)
-    (c.feed_all-answered.ensures.beginning written is)
+    subst (λ f. IsBegunBy f.form f.set (g.R.Source.remaining c.args.reader.now)
+    (g.W.Sink.contents c.args.writer.now) (g.W.Sink.contents c.feed_all-answered.new.writer) written)
+    c.in_ok-feed.ensures (c.feed_all-answered.ensures.beginning written is)
 
 pub returns-clause-faulty : goal.returns-clause-faulty
 returns-clause-faulty g c is = subst (λ s. IsFaultyOn s (g.R.Source.remaining c.args.reader.now))

@@ -3,7 +3,7 @@ use Rattle.std.specs.Prelude.{false, true}
 use Rattle.ly_feed.proofs.EndingLemmas.{answered, at_fault, fault_of_ending, outcome_of, rest_of, writing_ends}
 use Rattle.ly_feed.specs.Private.Running.{IsVerdictOf, progress_of}
 use Rattle.ly_feed.specs.ScanPart.{scan_part_of}
-use Rattle.ly_feed.specs.Verdict.{faulty, printed}
+use Rattle.ly_feed.specs.Verdict.{faulty, written_in}
 use Rattle.ly_feed.specs.Vocabularies.{vocabulary_of}
 use Rattle.ly_feed.proofs.feed.Feed.finish_into.Goals as goal
 use Rattle.ly_tables.specs.TableSet.{machine_of}
@@ -21,7 +21,7 @@ pub returns-in_err-ended-clause-faulty : goal.returns-in_err-ended-clause-faulty
 returns-in_err-ended-clause-faulty g c failed =
     let f = c.self.inside in
     let set = f.set.now in
-    rest_of set f.window c.place-place.result f.parser f.over c.args.self.now faulty c.self.view_is
+    rest_of set f.form f.window c.place-place.result f.parser f.over c.args.self.now faulty c.self.view_is
     c.place-place.ensures
     (at_fault (scan_part_of set) (machine_of set) (progress_of c.place-place.result f.parser)
     c.run_to_end.new.parser.forest c.in_err-ended.field-0.0 c.from_residual.result c.in_err-ended.ensures.closed
@@ -53,9 +53,10 @@ returns-clause-answered g c =
     let set = f.set.now in
     let closed = c.in_ok-ended.ensures.closed in
     let said = subst (λ x. IsVerdictOf x c.in_ok-ended.ended closed.0) (sym c.forest.ensures) closed.2 in
-    answered c.args.self.now set closed.0 c.forest.result.now c.in_ok-ended.ended (sink.contents c.args.writer.now)
-    (sink.contents c.write_ended.new.writer) c.write_ended.result (ap (λ x. x.set) (sym c.self.view_is))
-    (rest_of set f.window c.place-place.result f.parser f.over c.args.self.now closed.0 c.self.view_is
+    answered c.args.self.now set f.form closed.0 c.forest.result.now c.in_ok-ended.ended
+    (sink.contents c.args.writer.now) (sink.contents c.write_ended.new.writer) c.write_ended.result
+    (ap (λ x. x.set) (sym c.self.view_is)) (ap (λ x. x.form) (sym c.self.view_is))
+    (rest_of set f.form f.window c.place-place.result f.parser f.over c.args.self.now closed.0 c.self.view_is
     c.place-place.ensures closed.1) said c.write_ended.ensures.ok
 
 pub returns-clause-beginning : goal.returns-clause-beginning
@@ -65,14 +66,14 @@ returns-clause-beginning g c written is =
     let closed = c.in_ok-ended.ensures.closed in
     let said = subst (λ x. IsVerdictOf x c.in_ok-ended.ended closed.0) (sym c.forest.ensures) closed.2 in
     let out = outcome_of c.forest.result.now c.in_ok-ended.ended closed.0 said in (
-      printed (vocabulary_of set) closed.0,
+      written_in f.form (vocabulary_of set) closed.0,
       out.0,
       (
         closed.0,
-        rest_of set f.window c.place-place.result f.parser f.over c.args.self.now closed.0 c.self.view_is
+        rest_of set f.form f.window c.place-place.result f.parser f.over c.args.self.now closed.0 c.self.view_is
             c.place-place.ensures closed.1,
         out.1,
-        ap (λ x. printed (vocabulary_of x.set) closed.0) c.self.view_is,
+        ap (λ x. written_in x.form (vocabulary_of x.set) closed.0) c.self.view_is,
       ),
       c.write_ended.ensures.beginning written closed.0 is said,
     )

@@ -18,10 +18,10 @@ returns-then-goes_on c =
     let f = c.self.inside in
     let next = c.if-goes_on.ensures f.window (c.self.invariant.waits c.if-self.false) refl in
     is_piece c.args.self.now _ c.args.bytes.now _ (ap (λ x. x.over) (sym c.self.view_is) ∙ c.if-self.false)
-    (subst (λ x. IsOnward x c.args.bytes.now (held_from f.set.now c.push.new.self f.parser false)) c.self.view_is
-    (subst (λ q. IsOnward (held_from f.set.now f.window f.parser f.over) c.args.bytes.now
-    (held_from f.set.now q f.parser false)) (sym c.in_ok-push.ensures.ok)
-    (goes_onward f.set.now f.window f.parser f.over c.args.bytes.now (behind f.window c.args.bytes.now) f.parser
+    (subst (λ x. IsOnward x c.args.bytes.now (held_from f.set.now f.form c.push.new.self f.parser false)) c.self.view_is
+    (subst (λ q. IsOnward (held_from f.set.now f.form f.window f.parser f.over) c.args.bytes.now
+    (held_from f.set.now f.form q f.parser false)) (sym c.in_ok-push.ensures.ok)
+    (goes_onward f.set.now f.form f.window f.parser f.over c.args.bytes.now (behind f.window c.args.bytes.now) f.parser
     none_yet
     (subst (λ s. IsUndecided s (behind f.window c.args.bytes.now)) c.self.invariant.lexer.scanner next.1)
     c.in_ok-push.ensures.countable)))
@@ -29,31 +29,31 @@ returns-then-goes_on c =
 pub returns-in_err-place : goal.returns-in_err-place
 returns-in_err-place c =
     let f = c.self.inside in
-    let g = held_from f.set.now c.push.new.self c.run_on.new.parser true in
+    let g = held_from f.set.now f.form c.push.new.self c.run_on.new.parser true in
     is_piece c.args.self.now g c.args.bytes.now c.from_residual-in_err-place.result
     (ap (λ x. x.over) (sym c.self.view_is) ∙ c.if-self.false)
     (subst (λ x. TakesPiece x c.args.bytes.now g c.from_residual-in_err-place.result) c.self.view_is
-    (is_faulty f.set.now f.window f.parser f.over c.args.bytes.now g c.in_err-place.field-0.0
+    (is_faulty f.set.now f.form f.window f.parser f.over c.args.bytes.now g c.in_err-place.field-0.0
     c.from_residual-in_err-place.result c.run_on.new.parser
     (subst (λ q. IsRunOn false (scan_part_of f.set.now) (machine_of f.set.now) (progress_of q f.parser)
     c.run_on.new.parser (Err c.in_err-place.field-0.0))
     (c.place-start.ensures ∙ c.in_ok-push.ensures.ok) c.in_err-place.ensures.runs)
-    c.from_residual-in_err-place.ensures.1 (record { set = refl; over = refl }) c.in_ok-push.ensures.countable))
+    c.from_residual-in_err-place.ensures.1 (record { set = refl; form = refl; over = refl }) c.in_ok-push.ensures.countable))
 
 pub returns-in-Flawed : goal.returns-in-Flawed
 returns-in-Flawed c =
     let f = c.self.inside in
-    let g = held_from f.set.now c.push.new.self c.run_on.new.parser true in
+    let g = held_from f.set.now f.form c.push.new.self c.run_on.new.parser true in
     is_piece c.args.self.now g c.args.bytes.now _ (ap (λ x. x.over) (sym c.self.view_is) ∙ c.if-self.false)
     (subst (λ x. TakesPiece x c.args.bytes.now g
     (Ok (Settled c.in_ok-outcome-in-Flawed.outcome c.in_ok-outcome-in-Flawed.lines))) c.self.view_is
-    (is_settled f.set.now f.window f.parser f.over c.args.bytes.now g c.in-Flawed.flaw
+    (is_settled f.set.now f.form f.window f.parser f.over c.args.bytes.now g c.in-Flawed.flaw
     c.in_ok-outcome-in-Flawed.outcome c.in_ok-outcome-in-Flawed.lines c.run_on.new.parser c.in_ok-place.field-0
     (subst (λ q. IsRunOn false (scan_part_of f.set.now) (machine_of f.set.now) (progress_of q f.parser)
     c.run_on.new.parser (Ok c.in_ok-place.field-0))
     (c.place-start.ensures ∙ c.in_ok-push.ensures.ok) c.in_ok-place.ensures.runs)
     c.in-Flawed.is c.in_ok-outcome-in-Flawed.ensures.0 c.in_ok-outcome-in-Flawed.ensures.1
-    (record { set = refl; over = refl }) c.in_ok-push.ensures.countable))
+    (record { set = refl; form = refl; over = refl }) c.in_ok-push.ensures.countable))
 
 pub matcher_at-self-inside-requires : goal.matcher_at-self-inside-requires
 matcher_at-self-inside-requires c =
@@ -109,14 +109,14 @@ returns c =
     c.run_on.new.parser c.in_ok-place.field-0 c.in-At.place c.in_ok-place.ensures.runs c.in-At.is in
     let at = c.place-start.ensures ∙ c.in_ok-push.ensures.ok in
     is_piece c.args.self.now _ c.args.bytes.now _ (ap (λ x. x.over) (sym c.self.view_is) ∙ c.if-self.false)
-    (subst (λ x. IsOnward x c.args.bytes.now (held_from f.set.now c.give_up.new.self c.run_on.new.parser false))
+    (subst (λ x. IsOnward x c.args.bytes.now (held_from f.set.now f.form c.give_up.new.self c.run_on.new.parser false))
     c.self.view_is
-    (subst (λ q. IsOnward (held_from f.set.now f.window f.parser f.over) c.args.bytes.now
-    (held_from f.set.now q c.run_on.new.parser false)) (sym (c.give_up.ensures
+    (subst (λ q. IsOnward (held_from f.set.now f.form f.window f.parser f.over) c.args.bytes.now
+    (held_from f.set.now f.form q c.run_on.new.parser false)) (sym (c.give_up.ensures
     ∙ given_up c.push.new.self c.in-At.place c.at-at.result c.at_line_start-line.result
     c.condition-condition.result
     (subst (λ q. IsFurther q c.in-At.place) c.place-start.ensures (further run.0)) c.at-at.ensures
     c.at_line_start-line.ensures c.condition-condition.ensures))
-    (goes_onward f.set.now f.window f.parser f.over c.args.bytes.now c.in-At.place c.run_on.new.parser
+    (goes_onward f.set.now f.form f.window f.parser f.over c.args.bytes.now c.in-At.place c.run_on.new.parser
     (subst (λ q. Onward false (scan_part_of f.set.now) (machine_of f.set.now) (progress_of q f.parser)
     (progress_of c.in-At.place c.run_on.new.parser)) at run.0) run.1 c.in_ok-push.ensures.countable)))
