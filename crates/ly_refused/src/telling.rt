@@ -22,8 +22,8 @@ pub(crate) fn say_findings(page: &mut Page, lex: Named<'_>, yacc: Named<'_>, fin
     }
 }
 
-/// Says a fault: the file, the place, its number, its name and what it is, the line with a caret under the place, and
-/// what to write instead.
+/// Says a fault: the file, the location, its number, its name and what it is, the line with a caret under the byte
+/// there, and what to write instead.
 pub(crate) fn say_fault(
     page: &mut Page,
     lex: Named<'_>,
@@ -115,7 +115,7 @@ fn say_at_fault(page: &mut Page, fault: &JoinFault) {
     }
 }
 
-/// Says the line of a place, or the part of it round the place where it is long, and under it a caret.
+/// Says the line of a location, or the part of it round the location where it is long, and under it a caret.
 fn say_line(page: &mut Page, file: Named<'_>, at: Location) {
     let Some(line) = file.line(at.line) else {
         return;
