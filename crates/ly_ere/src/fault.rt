@@ -7,7 +7,7 @@ ghost use Rattle.ly_ere.specs.declared.fault.StepFault.TheVariants as step;
 use std::alloc::{AllocError, AllocFailed};
 use thiserror::Error;
 
-/// Why an expression is refused. Nothing is handed out then. It is printed in words, without its place.
+/// Why an expression is refused. Nothing is handed out then. It is printed in words, without its offset.
 #[derive(Clone, Copy, Debug, PartialEq, Eq, Error)]
 pub enum EreFault {
     /// The text is at fault.

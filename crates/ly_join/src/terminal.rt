@@ -1,8 +1,9 @@
-ghost use Rattle.std.specs.Prelude.{◌≡◌, ◌<◌, [], ◌∷◌, ◌+◌, ◌^◌, length, map, IfOk, Contains};
-ghost use Rattle.ly_join.specs.Terminals.{byte as byte_terminal, end, undefined, same_terminal};
-ghost use Rattle.ly_join.specs.Terminals.{token as token_terminal, IsNumbered, IsOfByte};
+ghost use Rattle.std.specs.Prelude.{◌≡◌, ◌↔◌, ◌<◌, [], ◌∷◌, ◌+◌, ◌^◌, length, map, IfOk, IsTrue, Contains};
+ghost use Rattle.ly_join.specs.Terminals.{byte as byte_terminal, end, undefined, same_terminal, terminal_from};
+ghost use Rattle.ly_join.specs.Terminals.{terminal_in, token as token_terminal, IsNumbered, IsOfByte};
 ghost use Rattle.ly_join.specs.Private.Numbering.{with_one};
 ghost use Rattle.ly_join.specs.Private.Tables.{terminal_of, AreLiterals, IsFoundAs};
+ghost use Rattle.ly_yaccread.specs.File.{symbol_word};
 
 use indexmap::IndexMap;
 use ly_base::{OutOfMemory, Sym};
@@ -21,6 +22,20 @@ pub enum TerminalName {
     Token(Vec<u8>),
     /// The literal of this byte.
     Literal(u8),
+}
+
+impl TerminalName {
+    /// Whether a symbol of a yacc file is this terminal, where it is one.
+    pub fn is_symbol(&self, symbol: &SymbolName) -> bool
+        ensures { IsTrue result ↔ (terminal_in (symbol_word symbol.now) ≡ Some (terminal_from self.now)) }
+    {
+        match (self, symbol) {
+            (TerminalName::Token(token), SymbolName::Name(name)) => token.as_slice()
+                == name.as_slice(),
+            (TerminalName::Literal(byte), SymbolName::Literal(other)) => byte == other,
+            _ => false,
+        }
+    }
 }
 
 /// Terminals, numbered as they came: `$end`, `$undef`, and then tokens and literals, each once.
@@ -49,8 +64,6 @@ impl<'t> Model for Terminals<'t> {
 }
 
 impl<'t> Terminals<'t> {
-    ghost use Rattle.ly_join.specs.Terminals.{terminal_from};
-
     /// `$end` and `$undef`.
     pub(crate) fn new(alloc: Global) -> Result<Terminals<'t>, OutOfMemory>
         ensures { IfOk result (λ t. t ≡ end ∷ undefined ∷ []) }

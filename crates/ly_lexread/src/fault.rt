@@ -7,7 +7,7 @@ use ly_ere::EreFaultKind;
 use std::alloc::{AllocError, AllocFailed};
 use thiserror::Error;
 
-/// Why a lex file is refused. Nothing is handed out then. It is printed in words, without its place.
+/// Why a lex file is refused. Nothing is handed out then. It is printed in words, without its offset.
 #[derive(Clone, Copy, Debug, PartialEq, Eq, Error)]
 pub enum LexFault {
     /// The file is at fault.

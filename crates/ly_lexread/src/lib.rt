@@ -35,3 +35,4 @@ pub use file::{LexFile, StartCondition};
 pub use kind::{LineKind, kind_of};
 pub use laws::{lex_text_begins_there, lex_text_is_one, lexing_goes_on, lexing_is_one};
 pub use read::read_lex;
+pub use rest::first_line;

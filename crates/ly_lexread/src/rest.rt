@@ -103,6 +103,14 @@ impl Line<'_> {
     }
 }
 
+/// The first line of a text, without its newline, and what stands behind it; `None` where no text is left.
+pub fn first_line(text: &[u8]) -> Option<(&[u8], &[u8])>
+    ensures { MatchOption result (text.now ≡ []) (λ found. LineBefore text.now found.0.now found.1.now) }
+{
+    let (line, behind) = Rest::of(text).first_line()?;
+    Some((line, behind.bytes))
+}
+
 /// How many bytes stand before the first newline.
 pub(crate) fn line_length(bytes: &[u8]) -> usize
     ensures within { result ≤ length bytes.now }

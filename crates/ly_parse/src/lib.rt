@@ -26,6 +26,7 @@ mod parser;
 mod refusal;
 mod running;
 mod settled;
+mod settling;
 mod shortcut;
 mod shortcuts;
 mod step;

@@ -1,0 +1,3 @@
+pub mod Indented
+pub mod Lines
+pub mod Private

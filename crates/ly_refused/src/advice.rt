@@ -12,7 +12,7 @@ pub(crate) enum Advice {
 }
 
 impl Advice {
-    /// That behind a fault that has no place.
+    /// That behind a fault that has no location.
     pub(crate) fn of_whole(fault: &GenFault) -> Advice {
         match fault {
             GenFault::Positions(_) | GenFault::States(_) => {

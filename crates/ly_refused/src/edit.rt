@@ -4,16 +4,16 @@ use std::alloc::Global;
 /// A change of a text that mends a fault: bytes of it are replaced.
 #[derive(Clone, Copy)]
 pub(crate) struct Edit {
-    /// The place of the first of them.
+    /// The offset of the first of them.
     pub(crate) from: usize,
-    /// The place behind the last.
+    /// The offset behind the last.
     pub(crate) to: usize,
     /// What stands there then, with blanks behind it.
     pub(crate) by: &'static [u8],
 }
 
 impl Edit {
-    /// So many bytes from a place on are blanked out, one at least.
+    /// So many bytes from an offset on are blanked out, one at least.
     pub(crate) fn blank(from: usize, length: usize) -> Edit {
         Edit {
             from,
@@ -22,7 +22,7 @@ impl Edit {
         }
     }
 
-    /// So many bytes from a place on are replaced.
+    /// So many bytes from an offset on are replaced.
     pub(crate) fn replace(from: usize, length: usize, by: &'static [u8]) -> Edit {
         Edit {
             from,

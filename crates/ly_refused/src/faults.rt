@@ -8,7 +8,7 @@ use crate::join_faults::find_join_faults;
 use crate::lex_faults::find_lex_faults;
 use crate::telling::{say_fault, say_findings};
 use crate::yacc_faults::find_yacc_faults;
-use crate::yacc_places::start_location;
+use crate::yacc_offsets::start_location;
 use ly_base::{Limits, OutOfMemory};
 use ly_generate::GenFault;
 use ly_page::{Named, Page};

@@ -2,10 +2,10 @@ use crate::advice::Advice;
 use crate::finding::{Finding, Findings, MOST};
 use crate::join_mending::mend;
 use crate::lex_faults::MendedLex;
-use crate::location::{from_place, line_start};
+use crate::location::{from_offset, line_start};
 use crate::nearest::nearest;
 use crate::yacc_faults::MendedYacc;
-use crate::yacc_places::symbol_location;
+use crate::yacc_offsets::symbol_location;
 use ly_base::{Language, Limits, Location, OutOfMemory, locate};
 use ly_generate::GenFault;
 use ly_join::{JoinFault, join};
@@ -140,17 +140,17 @@ fn returned_location(lex: &MendedLex, name: &[u8]) -> Option<Location> {
     };
     let rule = lex.file.actions.iter().position(returns)?;
     let start = *lex.file.rule_starts.get(rule)?;
-    let before = word_place(from_place(&lex.text, start), name)?;
+    let before = word_offset(from_offset(&lex.text, start), name)?;
     Some(locate(&lex.text, start.saturating_add(before)))
 }
 
 /// Where a name stands first in a text by itself.
-fn word_place(text: &[u8], name: &[u8]) -> Option<usize> {
+fn word_offset(text: &[u8], name: &[u8]) -> Option<usize> {
     let mut in_word = false;
-    for place in 0..text.len() {
-        let rest = from_place(text, place);
+    for offset in 0..text.len() {
+        let rest = from_offset(text, offset);
         if !in_word && ends_behind(rest, name) {
-            return Some(place);
+            return Some(offset);
         }
         in_word = goes_on(rest);
     }

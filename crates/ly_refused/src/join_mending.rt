@@ -61,8 +61,8 @@ fn give_once(file: &mut YaccFile, terminal: &TerminalName) {
             continue;
         }
         declaration.symbols.retain(|symbol| {
-            let stays = !given || !is_terminal(symbol, terminal);
-            given = given || is_terminal(symbol, terminal);
+            let stays = !given || !terminal.is_symbol(symbol);
+            given = given || terminal.is_symbol(symbol);
             stays
         });
     }
@@ -73,14 +73,5 @@ pub(crate) fn is_name(symbol: &SymbolName, name: &[u8]) -> bool {
     match symbol {
         SymbolName::Name(found) => found.as_slice() == name,
         SymbolName::Literal(_) => false,
-    }
-}
-
-/// Whether a symbol is this terminal.
-pub(crate) fn is_terminal(symbol: &SymbolName, terminal: &TerminalName) -> bool {
-    match (symbol, terminal) {
-        (SymbolName::Name(name), TerminalName::Token(token)) => name.as_slice() == token.as_slice(),
-        (SymbolName::Literal(byte), TerminalName::Literal(other)) => byte == other,
-        _ => false,
     }
 }

@@ -2,14 +2,14 @@
 use crate::advice::Advice;
 use crate::lex_names::{defined_names, known_conditions};
 use crate::lex_units::{Kind, Unit, action_start, first_line};
-use crate::location::{bytes_before, from_place, line_start};
+use crate::location::{bytes_before, from_offset, line_start};
 use crate::nearest::nearest;
 use ly_base::{Language, Location, OutOfMemory, is_blank, leading_name};
 use ly_ere::EreFaultKind;
 use ly_lexread::LexFaultKind;
 use std::alloc::Global;
 
-/// The advice behind a fault, by its place in a text and what that belongs to.
+/// The advice behind a fault, by its location in a text and what that belongs to.
 pub(crate) fn lex_advice(
     alloc: Global,
     text: &[u8],
@@ -17,14 +17,14 @@ pub(crate) fn lex_advice(
     kind: LexFaultKind,
     at: Location,
 ) -> Result<Advice, OutOfMemory> {
-    let line = first_line(from_place(text, line_start(text, at.line)));
+    let line = first_line(from_offset(text, line_start(text, at.line)));
     if let Some(words) = form_of_flex(unit, line) {
         return Ok(Advice::Words(words));
     }
     if unit.open && at.line > unit.last {
         return Ok(Advice::Words("close the braces of the action before this line with `}`"));
     }
-    let rest = from_place(line, bytes_before(at));
+    let rest = from_offset(line, bytes_before(at));
     let near = match kind {
         LexFaultKind::Pattern(EreFaultKind::UnknownName) => near_name(alloc, text, rest)?,
         LexFaultKind::UnknownCondition => near_condition(alloc, text, rest)?,
@@ -53,7 +53,7 @@ fn form_of_flex(unit: Unit, line: &[u8]) -> Option<&'static str> {
     if line.starts_with(b"<*>") {
         return Some("name the conditions, with commas between them: `<INITIAL,NAME>`");
     }
-    let opens_scope = line.starts_with(b"<") && from_place(line, action_start(line)).is_empty();
+    let opens_scope = line.starts_with(b"<") && from_offset(line, action_start(line)).is_empty();
     if opens_scope && ends_with_brace(line) {
         return Some("write the conditions in front of each rule: there are no braces round many");
     }
@@ -73,7 +73,7 @@ fn ends_with_brace(line: &[u8]) -> bool {
 
 /// The name of a definition that is near to one in braces.
 fn near_name(alloc: Global, text: &[u8], rest: &[u8]) -> Result<Option<Advice>, OutOfMemory> {
-    let Some((name, _)) = leading_name(from_place(rest, 1), Language::Lex) else {
+    let Some((name, _)) = leading_name(from_offset(rest, 1), Language::Lex) else {
         return Ok(None);
     };
     let names = defined_names(alloc, text)?;
@@ -111,7 +111,7 @@ fn is_unknown(word: &[u8], known: &[&[u8]]) -> bool {
 
 /// The advice for a fault of POSIX's forms, of a line of which so many bytes stand before what is at fault.
 fn words_for(unit: Unit, kind: LexFaultKind, line: &[u8], before: usize) -> &'static str {
-    let rest = from_place(line, before);
+    let rest = from_offset(line, before);
     match kind {
         LexFaultKind::NoRulesMark => "write a line `%%` before the first rule",
         LexFaultKind::BadDefinition => definition_advice(unit, line, rest),
@@ -128,7 +128,7 @@ fn words_for(unit: Unit, kind: LexFaultKind, line: &[u8], before: usize) -> &'st
 
 /// Whether the byte of a line behind so many is the `?` of a group with options, as `(?i:`.
 fn opens_options(line: &[u8], before: usize) -> bool {
-    from_place(line, before.saturating_sub(1)).starts_with(b"(?")
+    from_offset(line, before.saturating_sub(1)).starts_with(b"(?")
 }
 
 /// The advice for what is no definition.
@@ -138,7 +138,7 @@ fn definition_advice(unit: Unit, line: &[u8], rest: &[u8]) -> &'static str {
         Kind::Comment => "close the comment with `*/`",
         Kind::Directive =>
             "there are `%s` and `%x` and names of conditions: leave other lines with `%` out",
-        _ if place_of(line, b"return").is_some() => "write a line `%%` before the first rule",
+        _ if offset_of(line, b"return").is_some() => "write a line `%%` before the first rule",
         _ if rest.starts_with(b"/*") || rest.starts_with(b"//") => {
             "a comment stands on a line of its own"
         }
@@ -148,7 +148,7 @@ fn definition_advice(unit: Unit, line: &[u8], rest: &[u8]) -> &'static str {
 
 /// The advice for what is no action.
 fn action_advice(line: &[u8]) -> &'static str {
-    if place_of(line, b"_state").is_some() {
+    if offset_of(line, b"_state").is_some() {
         return "conditions have no stack: `BEGIN NAME;` sets one";
     }
     let left_out: [&[u8]; 8] = [
@@ -161,13 +161,13 @@ fn action_advice(line: &[u8]) -> &'static str {
         b"yywrap",
         b"yyterminate",
     ];
-    if left_out.iter().any(|word| place_of(line, word).is_some()) {
+    if left_out.iter().any(|word| offset_of(line, word).is_some()) {
         return "there is no C, nor what needs it: the text of a token is in the tree";
     }
-    if place_of(line, b"return \"").is_some() {
+    if offset_of(line, b"return \"").is_some() {
         return "a literal is one byte in single quotes: `return '(';`";
     }
-    if place_of(line, b"return").is_some() && !line.contains(&b';') {
+    if offset_of(line, b"return").is_some() && !line.contains(&b';') {
         return "a statement ends with a `;`: `return NAME;`";
     }
     "write `return NAME;`, `return 'c';`, `return yytext[0];`, `BEGIN NAME;`, `|` or nothing: lytab's actions are not C"
@@ -202,11 +202,11 @@ fn pattern_advice(kind: EreFaultKind) -> &'static str {
     }
 }
 
-/// The place where bytes stand in a line first.
-fn place_of(line: &[u8], bytes: &[u8]) -> Option<usize> {
-    for place in 0..line.len() {
-        if from_place(line, place).starts_with(bytes) {
-            return Some(place);
+/// The offset in a line at which bytes stand first.
+fn offset_of(line: &[u8], bytes: &[u8]) -> Option<usize> {
+    for offset in 0..line.len() {
+        if from_offset(line, offset).starts_with(bytes) {
+            return Some(offset);
         }
     }
     None

@@ -2,7 +2,7 @@
 use crate::edit::push_all;
 use crate::lex_names::{defined_names, known_conditions};
 use crate::lex_units::{Kind, Unit, first_line};
-use crate::location::{from_place, is_blank_byte, is_newline, line_start};
+use crate::location::{from_offset, is_blank_byte, is_newline, line_start};
 use crate::nearest::MOST_NAMES;
 use ly_base::{Language, OutOfMemory, leading_name};
 use ly_lexread::LexFaultKind;
@@ -85,7 +85,7 @@ fn push_new<'t>(
 /// The number of the last line before the next one that begins with `%%`, from a line on; of the last line where none
 /// does.
 fn last_before_mark(text: &[u8], first: u64) -> u64 {
-    let behind = from_place(text, line_start(text, first));
+    let behind = from_offset(text, line_start(text, first));
     let lines = behind
         .split(is_newline)
         .take_while(|line| !line.starts_with(b"%%"))

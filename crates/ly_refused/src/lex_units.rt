@@ -1,9 +1,12 @@
 //! What a line of a lex file belongs to, where it is refused: so it needn't have a form of a lex file.
-use crate::location::{from_place, is_newline, length_to_blank, line_length};
+ghost use Rattle.std.specs.Prelude.{◌≡◌, ◌≤◌, ◌+◌, ◌-◌, ◌⊎◌, [], false, min, true, IfSome};
+ghost use Rattle.ly_refused.specs.Lines.{ArePassed, IsKindOf, LinesBefore};
+ghost use Rattle.ly_refused.specs.declared.lex_units.Kind.TheVariants.{Mark};
+
+use crate::location::{from_offset, is_newline, length_to_blank, line_length};
 use crate::pieces::braces_length;
 use ly_base::{after_comment, is_blank};
 use ly_lexread::{LineKind, kind_of};
-use std::alloc::{AllocError, Global};
 
 /// What lines stand for together.
 #[derive(Clone, Copy, PartialEq, Eq)]
@@ -37,81 +40,104 @@ pub(crate) struct Unit {
     pub(crate) open: bool,
 }
 
-/// No lines, in front of a text.
-const NO_LINES: Unit = Unit {
-    kind: Kind::Unused,
-    first: 1,
-    last: 0,
-    open: false,
-};
-
 /// How many bytes of an action are looked at for the brace that closes it.
 const LONGEST: usize = 4096;
 
 /// The lines of a text that a line of it belongs to. The line behind a rule whose braces are open belongs to that rule.
 pub(crate) fn unit_at(text: &[u8], line: u64) -> Unit {
-    let mut rest = text;
-    let mut in_rules = false;
-    let mut unit = NO_LINES;
+    let mut units = Units::of(text);
     for _ in 0..=text.len() {
-        unit = unit_behind(unit, rest, in_rules);
+        let unit = units.front(first_line(units.rest));
         let last = unit.last.saturating_add(u64::from(unit.open));
-        if line <= last || rest.is_empty() {
-            break;
+        if line <= last || units.rest.is_empty() {
+            return unit;
         }
-        in_rules = in_rules || unit.kind == Kind::Mark;
-        rest = behind_lines(rest, unit.last.saturating_sub(unit.first).saturating_add(1));
+        units.pass(unit);
     }
-    unit
+    units.front(b"")
 }
 
-/// The lines among the rules that begin with a blank, and hold something else than blanks and comments.
-pub fn indented_lines(alloc: Global, text: &[u8]) -> Result<Vec<u64>, AllocError> {
-    let mut found = Vec::new(alloc);
-    let mut rest = text;
-    let mut in_rules = false;
-    let mut in_comment = false;
-    let mut unit = NO_LINES;
-    for _ in 0..=text.len() {
-        unit = unit_behind(unit, rest, in_rules);
-        let ends = in_rules && unit.kind == Kind::Mark;
-        if ends || rest.is_empty() {
-            break;
+/// The units of a text, one behind another: what stands behind those that were passed.
+#[derive(Clone, Copy)]
+pub(crate) struct Units<'t> {
+    /// What is left of the text.
+    pub(crate) rest: &'t [u8],
+    /// How many lines were passed.
+    pub(crate) passed: u64,
+    /// Whether a line that begins with `%%` was among them.
+    pub(crate) in_rules: bool,
+}
+
+impl<'t> Units<'t> {
+    /// None is passed yet.
+    pub(crate) fn of(text: &'t [u8]) -> Self
+        ensures rest { result.rest ≡ text.entry }
+        ensures passed { result.passed ≡ 0 }
+        ensures in_rules { result.in_rules ≡ false }
+    {
+        Units {
+            rest: text,
+            passed: 0,
+            in_rules: false,
         }
-        if in_rules && unit.kind == Kind::Unused {
-            let line = first_line(rest).trim_ascii();
-            in_comment = in_comment || line.starts_with(b"/*");
-            if !in_comment && !line.is_empty() {
-                found.push(unit.first)?;
+    }
+
+    /// The units behind the first line that begins with `%%`, if there is one and something behind it.
+    pub(crate) fn behind_mark(text: &'t [u8]) -> Option<Units<'t>>
+        ensures { IfSome result (λ units. ArePassed text.now units × (units.in_rules ≡ true)) }
+    {
+        let mut units = Units::of(text);
+        for _ in 0..text.len() {
+            if units.in_rules {
+                return Some(units);
             }
-            in_comment = in_comment && !line.ends_with(b"*/");
+            let (line, _behind) = ly_lexread::first_line(units.rest)?;
+            let unit = units.front(line);
+            units.pass(unit);
         }
-        in_rules = in_rules || unit.kind == Kind::Mark;
-        rest = behind_lines(rest, unit.last.saturating_sub(unit.first).saturating_add(1));
+        None
     }
-    Ok(found)
-}
 
-/// The lines at the front of a text that stand for one thing, behind those of another.
-fn unit_behind(unit: Unit, text: &[u8], in_rules: bool) -> Unit {
-    let first = unit.last.saturating_add(1);
-    let kind = kind_in(first_line(text), in_rules);
-    let (more, open) = match kind {
-        Kind::Block => (lines_to_block_end(text), false),
-        Kind::Comment => (lines_to_comment_end(text), false),
-        Kind::Rule => lines_to_rule_end(text),
-        _ => (0, false),
-    };
-    Unit {
-        kind,
-        first,
-        last: first.saturating_add(more),
-        open,
+    /// The unit in front, whose first line is this one.
+    pub(crate) fn front(&self, line: &[u8]) -> Unit
+        ensures first { result.first ≡ min (self.now.passed + 1) 18446744073709551615 }
+        ensures last { result.first ≤ result.last }
+        ensures kind { IsKindOf line.now result.kind }
+    {
+        let first = self.passed.saturating_add(1);
+        let kind = kind_in(line, self.in_rules);
+        let (more, open) = match kind {
+            Kind::Block => (lines_to_block_end(self.rest), false),
+            Kind::Comment => (lines_to_comment_end(self.rest), false),
+            Kind::Rule => lines_to_rule_end(self.rest),
+            _ => (0, false),
+        };
+        Unit {
+            kind,
+            first,
+            last: first.saturating_add(more),
+            open,
+        }
+    }
+
+    /// Passes the unit in front.
+    pub(crate) fn pass(&mut self, unit: Unit)
+        ensures rest { (self.new.rest.now ≡ [])
+            ⊎ LinesBefore (unit.last - self.old.passed) self.old.rest.now self.new.rest.now }
+        ensures passed { self.new.passed ≡ unit.last }
+        ensures in_rules { self.new.in_rules ≡ true → (self.old.in_rules ≡ true) ⊎ (unit.kind ≡ Mark) }
+        ensures kept { self.old.in_rules ≡ true → self.new.in_rules ≡ true }
+    {
+        self.in_rules = self.in_rules || unit.kind == Kind::Mark;
+        self.rest = behind_lines(self.rest, unit.last.saturating_sub(self.passed));
+        self.passed = unit.last;
     }
 }
 
 /// What a line begins.
-fn kind_in(line: &[u8], in_rules: bool) -> Kind {
+fn kind_in(line: &[u8], in_rules: bool) -> Kind
+    ensures { IsKindOf line.now result }
+{
     match kind_of(line) {
         LineKind::Unused => Kind::Unused,
         LineKind::Mark => Kind::Mark,
@@ -128,14 +154,16 @@ pub(crate) fn first_line(text: &[u8]) -> &[u8] {
     text.get(..line_length(text)).unwrap_or(text)
 }
 
-/// What stands behind so many lines.
-fn behind_lines(text: &[u8], lines: u64) -> &[u8] {
+/// What stands behind so many lines; nothing where there are fewer.
+fn behind_lines(text: &[u8], lines: u64) -> &[u8]
+    ensures { (result.now ≡ []) ⊎ LinesBefore lines text.now result.now }
+{
     let mut rest = text;
     for _ in 0..lines {
-        if rest.is_empty() {
-            break;
+        match ly_lexread::first_line(rest) {
+            Some((_line, behind)) => rest = behind,
+            None => break,
         }
-        rest = from_place(rest, line_length(rest).saturating_add(1));
     }
     rest
 }
@@ -149,7 +177,7 @@ fn lines_to_block_end(text: &[u8]) -> u64 {
 
 /// How many lines behind the first one it takes to the end of a comment; none where it isn't closed.
 fn lines_to_comment_end(text: &[u8]) -> u64 {
-    match after_comment(from_place(text, 2)) {
+    match after_comment(from_offset(text, 2)) {
         Some(rest) => {
             let length = text.len().saturating_sub(rest.len());
             newlines(text.get(..length).unwrap_or_default())
@@ -163,10 +191,10 @@ fn lines_to_comment_end(text: &[u8]) -> u64 {
 fn lines_to_rule_end(text: &[u8]) -> (u64, bool) {
     let line = first_line(text);
     let start = action_start(line);
-    if !from_place(line, start).starts_with(b"{") {
+    if !from_offset(line, start).starts_with(b"{") {
         return (0, false);
     }
-    let action = from_place(text, start);
+    let action = from_offset(text, start);
     let front = action.get(..LONGEST).unwrap_or(action);
     match braces_length(front) {
         Some(length) => (newlines(front.get(..length).unwrap_or(front)), false),
@@ -176,7 +204,7 @@ fn lines_to_rule_end(text: &[u8]) -> (u64, bool) {
 
 /// How many lines behind the first one begin with a blank or a `}`, up to the first that doesn't.
 fn lines_that_go_on(text: &[u8]) -> u64 {
-    let behind = from_place(text, line_length(text).saturating_add(1));
+    let behind = from_offset(text, line_length(text).saturating_add(1));
     behind
         .split(is_newline)
         .take_while(|line| matches!(line.first(), Some(b' ' | b'\t' | b'}')))
@@ -194,7 +222,7 @@ pub(crate) fn pattern_start(line: &[u8]) -> usize {
         return 0;
     }
     match line.iter().position(|byte| *byte == b'>') {
-        Some(place) => place.saturating_add(1),
+        Some(offset) => offset.saturating_add(1),
         None => 0,
     }
 }
@@ -202,9 +230,9 @@ pub(crate) fn pattern_start(line: &[u8]) -> usize {
 /// How many bytes stand before the action on the line of a rule.
 pub(crate) fn action_start(line: &[u8]) -> usize {
     let start = pattern_start(line);
-    let body = from_place(line, start);
+    let body = from_offset(line, start);
     let behind = pattern_length(body);
-    let blanks = leading_blanks(from_place(body, behind));
+    let blanks = leading_blanks(from_offset(body, behind));
     start.saturating_add(behind).saturating_add(blanks)
 }
 

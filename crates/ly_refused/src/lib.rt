@@ -13,6 +13,7 @@ mod edit;
 mod exchange;
 mod faults;
 mod finding;
+mod indented;
 mod join_faults;
 mod join_mending;
 mod lex_advice;
@@ -29,8 +30,8 @@ mod yacc_advice;
 mod yacc_before;
 mod yacc_faults;
 mod yacc_mending;
-mod yacc_places;
+mod yacc_offsets;
 mod yacc_units;
 
 pub use faults::{say_faults, say_lex_faults};
-pub use lex_units::indented_lines;
+pub use indented::indented_lines;

@@ -5,7 +5,7 @@ pub(crate) fn bytes_before(at: Location) -> usize {
     usize::try_from(at.column.saturating_sub(1)).unwrap_or(usize::MAX)
 }
 
-/// The place where a line of a text begins; the end of the text, or behind it, where there is no such line.
+/// The offset where a line of a text begins; the end of the text, or behind it, where there is no such line.
 pub(crate) fn line_start(text: &[u8], line: u64) -> usize {
     let before = usize::try_from(line.saturating_sub(1)).unwrap_or(usize::MAX);
     let mut start: usize = 0;
@@ -36,7 +36,7 @@ pub(crate) fn is_blank_byte(byte: &u8) -> bool {
     is_blank(*byte)
 }
 
-/// What stands from a place on; nothing where the text ends before it.
-pub(crate) fn from_place(text: &[u8], place: usize) -> &[u8] {
-    text.get(place..).unwrap_or(b"")
+/// What stands from an offset on; nothing where the text ends before it.
+pub(crate) fn from_offset(text: &[u8], offset: usize) -> &[u8] {
+    text.get(offset..).unwrap_or(b"")
 }

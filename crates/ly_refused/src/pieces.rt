@@ -1,5 +1,5 @@
 //! Text that may be anything, as C code, piece by piece.
-use crate::location::{from_place, line_length};
+use crate::location::{from_offset, line_length};
 use ly_base::after_comment;
 
 /// What stands behind the piece at the front: a comment, a string or a character in quotes, or else a byte. A comment
@@ -12,7 +12,7 @@ pub(crate) fn behind_piece(text: &[u8]) -> &[u8] {
         Some(b'"' | b'\'') => quoted_length(text).unwrap_or(line_length(text)),
         _ => 1,
     };
-    from_place(text, length)
+    from_offset(text, length)
 }
 
 /// How many bytes stand up to the next quote, on its line and without a backslash before it, as the one at the front,

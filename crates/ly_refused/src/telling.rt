@@ -15,8 +15,8 @@ pub(crate) fn say_findings(page: &mut Page, lex: Named<'_>, yacc: Named<'_>, fin
     }
 }
 
-/// Says a fault: the file, the place, its number, its name and what it is, the line with a caret under the place, and
-/// what to write instead.
+/// Says a fault: the file, the location, its number, its name and what it is, the line with a caret under the byte
+/// there, and what to write instead.
 pub(crate) fn say_fault(
     page: &mut Page,
     lex: Named<'_>,

@@ -5,7 +5,7 @@ use crate::yacc_units::begins_rule;
 use ly_base::{Language, leading_name};
 use ly_yaccread::YaccFaultKind;
 
-/// The advice behind a fault, by what stands at its place and before it.
+/// The advice behind a fault, by what stands at its offset and before it.
 pub(crate) fn yacc_advice(before: &Before, kind: YaccFaultKind, rest: &[u8]) -> Advice {
     if rest.starts_with(b"//") {
         return Advice::Words("comments are written `/* .. */`");

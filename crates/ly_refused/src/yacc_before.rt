@@ -2,10 +2,10 @@ use ly_base::OutOfMemory;
 use ly_yaccread::{WordSpan, word_spans};
 use std::alloc::Global;
 
-/// What stands before a place of a yacc file, as far as it says what stands there.
+/// What stands before an offset of a yacc file, as far as it says what stands there.
 #[derive(Clone, Copy)]
 pub(crate) struct Before {
-    /// Whether the place is in the rules.
+    /// Whether the offset is in the rules.
     pub(crate) in_rules: bool,
     /// Whether it is in a body of a rule.
     pub(crate) in_body: bool,
@@ -20,8 +20,8 @@ pub(crate) struct Before {
 }
 
 impl Before {
-    /// What stands before a place of a text.
-    pub(crate) fn of(alloc: Global, text: &[u8], place: usize) -> Result<Before, OutOfMemory> {
+    /// What stands before an offset of a text.
+    pub(crate) fn of(alloc: Global, text: &[u8], offset: usize) -> Result<Before, OutOfMemory> {
         let mut before = Before {
             in_rules: false,
             in_body: false,
@@ -31,7 +31,7 @@ impl Before {
             last: None,
         };
         for span in &word_spans(alloc, text)? {
-            if span.start >= place {
+            if span.start >= offset {
                 break;
             }
             before = before.with(span.word(text), *span);

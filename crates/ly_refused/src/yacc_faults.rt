@@ -1,7 +1,7 @@
 use crate::advice::Advice;
 use crate::edit::if_changed;
 use crate::finding::{Finding, Findings, MOST};
-use crate::location::from_place;
+use crate::location::from_offset;
 use crate::text_marks::{has_byte_order_mark, without_marks};
 use crate::yacc_advice::yacc_advice;
 use crate::yacc_before::Before;
@@ -68,7 +68,7 @@ fn mend_fault(
     findings.add(Finding {
         fault: GenFault::Yacc(YaccFault::Refused { kind, offset }),
         at: locate(text, offset),
-        advice: yacc_advice(&before, kind, from_place(text, offset)),
+        advice: yacc_advice(&before, kind, from_offset(text, offset)),
     })?;
     let Some(edit) = mending(text, &before, kind, offset, mended) else {
         return Ok(None);

@@ -1,7 +1,7 @@
 //! How a fault of a yacc file is mended, so that what stands behind it can be read.
 use crate::edit::Edit;
 use crate::finding::MOST;
-use crate::location::{from_place, length_to_blank, line_length};
+use crate::location::{from_offset, length_to_blank, line_length};
 use crate::pieces::quoted_length;
 use crate::yacc_before::Before;
 use crate::yacc_units::{Unit, begins_rule, declaration_length, length_to_percent, word_length};
@@ -14,45 +14,46 @@ const NAMES: [&[u8]; MOST] = [
     b".d", b".e", b".f", b".g", b".h", b".i", b".j",
 ];
 
-/// The change that mends a fault at a place of a text, where so many have been mended before; none where there is none.
+/// The change that mends a fault at an offset of a text, where so many have been mended before; none where there is
+/// none.
 pub(crate) fn mending(
     text: &[u8],
     before: &Before,
     kind: YaccFaultKind,
-    place: usize,
+    offset: usize,
     mended: usize,
 ) -> Option<Edit> {
-    let rest = from_place(text, place);
+    let rest = from_offset(text, offset);
     if rest.starts_with(b"//") {
-        return Some(Edit::blank(place, line_length(rest)));
+        return Some(Edit::blank(offset, line_length(rest)));
     }
     let name = NAMES.get(mended).copied().unwrap_or(b"");
     match kind {
         YaccFaultKind::NoRulesMark => None,
-        YaccFaultKind::UnclosedComment => Some(unclosed_mending(text, before, place)),
+        YaccFaultKind::UnclosedComment => Some(unclosed_mending(text, before, offset)),
         YaccFaultKind::ErrorToken if !before.in_rules || begins_rule(rest) => {
-            Some(Edit::replace(place, word_length(rest), name))
+            Some(Edit::replace(offset, word_length(rest), name))
         }
         YaccFaultKind::BadLiteral if !before.in_rules => {
-            Some(Edit::replace(place, literal_length(rest), name))
+            Some(Edit::replace(offset, literal_length(rest), name))
         }
-        _ if before.in_rules => Some(rule_mending(text, before, kind, place)),
-        _ => declaration_mending(text, before, place),
+        _ if before.in_rules => Some(rule_mending(text, before, kind, offset)),
+        _ => declaration_mending(text, before, offset),
     }
 }
 
 /// The change that mends a comment or a block that isn't closed: of a comment its line is left out, of a block or a
 /// union all up to a line that begins with `%`.
-fn unclosed_mending(text: &[u8], before: &Before, place: usize) -> Edit {
-    let rest = from_place(text, place);
+fn unclosed_mending(text: &[u8], before: &Before, offset: usize) -> Edit {
+    let rest = from_offset(text, offset);
     if rest.starts_with(b"/*") {
-        return Edit::blank(place, line_length(rest));
+        return Edit::blank(offset, line_length(rest));
     }
     let from = match before.directive {
         Some(directive) if rest.starts_with(b"{") => directive,
-        _ => place,
+        _ => offset,
     };
-    Edit::blank(from, length_to_percent(from_place(text, from)))
+    Edit::blank(from, length_to_percent(from_offset(text, from)))
 }
 
 /// How many bytes a literal that is refused has: up to the quote that closes it on its line, or else to a blank.
@@ -61,79 +62,79 @@ fn literal_length(rest: &[u8]) -> usize {
 }
 
 /// The change that mends what can't stand in the declarations.
-fn declaration_mending(text: &[u8], before: &Before, place: usize) -> Option<Edit> {
-    let rest = from_place(text, place);
+fn declaration_mending(text: &[u8], before: &Before, offset: usize) -> Option<Edit> {
+    let rest = from_offset(text, offset);
     if begins_rule(rest) {
-        return missing_mark(text, before, place);
+        return missing_mark(text, before, offset);
     }
     if rest.starts_with(b"%precedence") {
-        return Some(Edit::replace(place, 11, b"%nonassoc"));
+        return Some(Edit::replace(offset, 11, b"%nonassoc"));
     }
     if rest.starts_with(b"%nterm") {
-        return Some(Edit::replace(place, 6, b"%type"));
+        return Some(Edit::replace(offset, 6, b"%type"));
     }
     let last = before.last.map(|span| span.start);
     match (rest.first()?, before.directive) {
         (b'%', Some(start)) if last == Some(start) => {
-            Some(Edit::blank(start, place.saturating_sub(start)))
+            Some(Edit::blank(start, offset.saturating_sub(start)))
         }
-        (b'%', _) => Some(Edit::blank(place, declaration_length(rest))),
-        (b'"', _) => Some(Edit::blank(place, literal_length(rest))),
-        _ => Some(Edit::blank(place, word_length(rest))),
+        (b'%', _) => Some(Edit::blank(offset, declaration_length(rest))),
+        (b'"', _) => Some(Edit::blank(offset, literal_length(rest))),
+        _ => Some(Edit::blank(offset, word_length(rest))),
     }
 }
 
 /// The change that puts a `%%` behind the last word of the declarations, where the rules begin on a later line.
-fn missing_mark(text: &[u8], before: &Before, place: usize) -> Option<Edit> {
+fn missing_mark(text: &[u8], before: &Before, offset: usize) -> Option<Edit> {
     let last = before.last?;
     let end = last.start.saturating_add(last.length);
-    let gap = text.get(end..place)?;
+    let gap = text.get(end..offset)?;
     gap.contains(&b'\n').then_some(Edit::replace(end, 0, b"%%"))
 }
 
 /// The change that mends what can't stand in the rules.
-fn rule_mending(text: &[u8], before: &Before, kind: YaccFaultKind, place: usize) -> Edit {
-    let rest = from_place(text, place);
+fn rule_mending(text: &[u8], before: &Before, kind: YaccFaultKind, offset: usize) -> Edit {
+    let rest = from_offset(text, offset);
     if !before.in_body {
-        return left_side_mending(place, rest);
+        return left_side_mending(offset, rest);
     }
     if rest.starts_with(b":") || rest.starts_with(b"=") {
-        return Edit::blank(place, arrow_length(rest));
+        return Edit::blank(offset, arrow_length(rest));
     }
     let from = match kind {
         YaccFaultKind::BadAction | YaccFaultKind::DollarRange | YaccFaultKind::DollarTwice => {
-            before.action.unwrap_or(place)
+            before.action.unwrap_or(offset)
         }
-        _ => first_at_fault(text, before, place),
+        _ => first_at_fault(text, before, offset),
     };
-    let length = Unit::Body.length(from_place(text, from));
-    Edit::blank(from, length.max(place.saturating_sub(from)))
+    let length = Unit::Body.length(from_offset(text, from));
+    Edit::blank(from, length.max(offset.saturating_sub(from)))
 }
 
-/// The place of the first word that goes with the one at fault: a directive before it lacks what it is for.
-fn first_at_fault(text: &[u8], before: &Before, place: usize) -> usize {
+/// The offset of the first word that goes with the one at fault: a directive before it lacks what it is for.
+fn first_at_fault(text: &[u8], before: &Before, offset: usize) -> usize {
     match before.last {
-        Some(last) if from_place(text, last.start).starts_with(b"%") => last.start,
-        _ => place,
+        Some(last) if from_offset(text, last.start).starts_with(b"%") => last.start,
+        _ => offset,
     }
 }
 
 /// The change that mends what stands where a rule is to begin: a name gets its `:`, and anything else is left out.
-fn left_side_mending(place: usize, rest: &[u8]) -> Edit {
+fn left_side_mending(offset: usize, rest: &[u8]) -> Edit {
     let Some((name, behind)) = leading_name(rest, Language::Yacc) else {
-        return Edit::blank(place, Unit::Rule.length(rest));
+        return Edit::blank(offset, Unit::Rule.length(rest));
     };
     let gap = after_gap(behind, Language::Yacc);
     let arrow = arrow_length(gap);
     if arrow > 0 {
         let skipped = rest.len().saturating_sub(gap.len());
-        return Edit::replace(place.saturating_add(skipped), arrow, b":");
+        return Edit::replace(offset.saturating_add(skipped), arrow, b":");
     }
     match behind.first() {
         Some(byte) if is_blank(*byte) && !begins_rule(gap) => {
-            Edit::replace(place.saturating_add(name.len()), 1, b":")
+            Edit::replace(offset.saturating_add(name.len()), 1, b":")
         }
-        _ => Edit::blank(place, name.len()),
+        _ => Edit::blank(offset, name.len()),
     }
 }
 

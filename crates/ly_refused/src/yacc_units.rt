@@ -93,8 +93,8 @@ pub(crate) fn declaration_length(text: &[u8]) -> usize {
 /// does.
 pub(crate) fn length_to_percent(text: &[u8]) -> usize {
     let mut length: usize = 0;
-    for (place, line) in text.split(is_newline).enumerate() {
-        if place > 0 && line.starts_with(b"%") && !line.starts_with(b"%}") {
+    for (index, line) in text.split(is_newline).enumerate() {
+        if index > 0 && line.starts_with(b"%") && !line.starts_with(b"%}") {
             return length.saturating_sub(1);
         }
         length = length.saturating_add(line.len()).saturating_add(1);

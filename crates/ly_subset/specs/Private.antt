@@ -6,3 +6,4 @@ pub mod Keys
 pub mod Members
 pub mod Packed
 pub mod Rules
+pub mod Steps

@@ -1,10 +1,10 @@
-ghost use Rattle.std.specs.Prelude.{◌≡◌, ◌<◌, ◌≤◌, ◌+◌, ◌*◌, ◌↔◌, ℕ, List, length, All, AllPairs, IfOk, IfSome};
+ghost use Rattle.std.specs.Prelude.{◌≡◌, ◌<◌, ◌≤◌, ◌+◌, ◌*◌, ◌↔◌, ℕ, List, length, All, AllPairs, IfOk};
 ghost use Rattle.std.specs.Prelude.{IsErrOf, OnOk};
-ghost use Rattle.ly_position.specs.Nfa.{IsRoomFor, ReadsByte};
+ghost use Rattle.ly_position.specs.Nfa.{IsRoomFor};
 ghost use Rattle.ly_subset.specs.Automaton.{IsAutomaton, start_place};
-ghost use Rattle.ly_subset.specs.Private.Chains.{AreChains};
 ghost use Rattle.ly_subset.specs.Private.Members.{listed};
 ghost use Rattle.ly_subset.specs.Private.Found.{AreKept, IsFound, IsLed, IsLedPast, IsPast};
+ghost use Rattle.ly_subset.specs.Private.Steps.{AreSteps};
 ghost use Rattle.ly_subset.specs.Subsets.{AreSubsets, HasMoreSets};
 
 use crate::chains::{chains, last_reader, span_after};
@@ -104,78 +104,87 @@ fn rows(nfa: &PosNfa, found: &mut Found, least: &[u8]) -> Result<(), SubsetFault
 {
     let mut into = nfa.set(found.alloc)?;
     let firsts = chains(found.alloc, nfa)?;
-    let unread = unread_byte(nfa, least);
+    let steps = SetSteps {
+        nfa,
+        least,
+        firsts: &firsts,
+        unread: unread_byte(nfa, least),
+    };
     let mut state = 0;
     while state < found.keys.len() {
-        row(nfa, found, &firsts, least, unread, &mut into, state)?;
+        steps.row(found, &mut into, state)?;
         state += 1;
     }
     Ok(())
 }
 
-/// Enters the row of a state: by the bytes of each class, what its set comes to.
-fn row(
-    nfa: &PosNfa,
-    found: &mut Found,
-    firsts: &[u32],
-    least: &[u8],
-    unread: Option<u8>,
-    into: &mut PositionSet,
-    state: usize,
-) -> Result<(), SubsetFault>
-    requires unread { IfSome unread (λ b. (p : ℕ) → ReadsByte nfa.now p b → ⊥) }
-    requires firsts { AreChains nfa.now firsts.now }
-    requires room { IsRoomFor nfa.now into.old }
-    requires found { IsFound nfa.now least.now found.old }
-    requires state { state < length found.old.keys }
-    requires next { length found.old.entries.items ≡ found.old.starts + state * length least.now }
-    ensures room { IsRoomFor nfa.now into.new }
-    ensures found { OnOk result (IsFound nfa.now least.now found.new) }
-    ensures more { OnOk result (length found.new.entries.items
-        ≡ length found.old.entries.items + length least.now) }
-    ensures longer { OnOk result (length found.old.keys ≤ length found.new.keys) }
-    ensures starts { found.new.starts ≡ found.old.starts }
-    ensures limit { found.new.limit ≡ found.old.limit }
-    ensures past { IsErrOf result SubsetFault.TooManyStates →
-        IsPast nfa.now found.old.starts least.now found.old.limit }
-{
-    let from = found.keys.members(found.alloc, state)?;
-    for byte in least {
-        lead(nfa, found, firsts, &from, *byte, unread, into)?;
-    }
-    Ok(())
+/// The automaton of positions, of which sets make a step by each class, with what makes the step short.
+#[derive(Clone, Copy)]
+pub(crate) struct SetSteps<'a> {
+    /// The automaton.
+    pub(crate) nfa: &'a PosNfa,
+    /// The least byte of each class.
+    pub(crate) least: &'a [u8],
+    /// For each position the first of the chain that it goes on, or 0 where it goes on none.
+    pub(crate) firsts: &'a [u32],
+    /// A byte that no position reads, if there is one.
+    pub(crate) unread: Option<u8>,
 }
 
-/// Enters what may come after some rising positions once the byte is read. `unread` is a byte that no position reads.
-fn lead(
-    nfa: &PosNfa,
-    found: &mut Found,
-    firsts: &[u32],
-    from: &Members,
-    byte: u8,
-    unread: Option<u8>,
-    into: &mut PositionSet,
-) -> Result<(), SubsetFault>
-    requires firsts { AreChains nfa.now firsts.now }
-    requires unread { IfSome unread (λ b. (p : ℕ) → ReadsByte nfa.now p b → ⊥) }
-    requires from { All (λ p. p < length nfa.now.positions) (listed from.now) }
-    requires rising { AllPairs (λ p q. p < q) (listed from.now) }
-    requires room { IsRoomFor nfa.now into.old }
-    requires kept { AreKept (length nfa.now.positions) found.old.limit found.old.keys }
-    ensures room { IsRoomFor nfa.now into.new }
-    ensures led { OnOk result (IsLed nfa.now (listed from.now) byte found.old found.new) }
-    ensures kept { OnOk result (AreKept (length nfa.now.positions) found.new.limit found.new.keys) }
-    ensures starts { found.new.starts ≡ found.old.starts }
-    ensures limit { found.new.limit ≡ found.old.limit }
-    ensures full { IsErrOf result SubsetFault.TooManyStates
-        → IsLedPast nfa.now (listed from.now) byte found.old.limit found.old.keys }
-{
-    let Some(last) = last_reader(nfa, from, byte, unread) else {
-        return found.enter_none();
-    };
-    if let Some(span) = span_after(nfa, firsts, from, byte, last) {
-        return found.enter_span(span);
+impl SetSteps<'_> {
+    /// Enters the row of a state: by the bytes of each class, what its set comes to.
+    fn row(self, found: &mut Found, into: &mut PositionSet, state: usize) -> Result<(), SubsetFault>
+        requires steps { AreSteps self }
+        requires room { IsRoomFor self.nfa.now into.old }
+        requires found { IsFound self.nfa.now self.least.now found.old }
+        requires state { state < length found.old.keys }
+        requires next { length found.old.entries.items ≡ found.old.starts + state * length self.least.now }
+        ensures room { IsRoomFor self.entry.nfa.now into.new }
+        ensures found { OnOk result (IsFound self.entry.nfa.now self.entry.least.now found.new) }
+        ensures more { OnOk result (length found.new.entries.items
+            ≡ length found.old.entries.items + length self.entry.least.now) }
+        ensures longer { OnOk result (length found.old.keys ≤ length found.new.keys) }
+        ensures starts { found.new.starts ≡ found.old.starts }
+        ensures limit { found.new.limit ≡ found.old.limit }
+        ensures past { IsErrOf result SubsetFault.TooManyStates →
+            IsPast self.entry.nfa.now found.old.starts self.entry.least.now found.old.limit }
+    {
+        let from = found.keys.members(found.alloc, state)?;
+        for byte in self.least {
+            self.lead(found, into, &from, *byte)?;
+        }
+        Ok(())
     }
-    from.step(found.alloc, nfa, byte, into)?;
-    found.enter(into)
+
+    /// Enters what may come after some rising positions once the byte is read.
+    fn lead(
+        self,
+        found: &mut Found,
+        into: &mut PositionSet,
+        from: &Members,
+        byte: u8,
+    ) -> Result<(), SubsetFault>
+        requires steps { AreSteps self }
+        requires from { All (λ p. p < length self.nfa.now.positions) (listed from.now) }
+        requires rising { AllPairs (λ p q. p < q) (listed from.now) }
+        requires room { IsRoomFor self.nfa.now into.old }
+        requires kept { AreKept (length self.nfa.now.positions) found.old.limit found.old.keys }
+        ensures room { IsRoomFor self.entry.nfa.now into.new }
+        ensures led { OnOk result (IsLed self.entry.nfa.now (listed from.now) byte found.old found.new) }
+        ensures kept { OnOk result
+            (AreKept (length self.entry.nfa.now.positions) found.new.limit found.new.keys) }
+        ensures starts { found.new.starts ≡ found.old.starts }
+        ensures limit { found.new.limit ≡ found.old.limit }
+        ensures full { IsErrOf result SubsetFault.TooManyStates
+            → IsLedPast self.entry.nfa.now (listed from.now) byte found.old.limit found.old.keys }
+    {
+        let Some(last) = last_reader(self.nfa, from, byte, self.unread) else {
+            return found.enter_none();
+        };
+        if let Some(span) = span_after(self.nfa, self.firsts, from, byte, last) {
+            return found.enter_span(span);
+        }
+        from.step(found.alloc, self.nfa, byte, into)?;
+        found.enter(into)
+    }
 }

@@ -1,5 +1,5 @@
 //! Where what a fault of both files names stands in a yacc file.
-use crate::join_mending::{is_name, is_terminal};
+use crate::join_mending::is_name;
 use ly_base::{Location, OutOfMemory, locate};
 use ly_join::{JoinFault, TerminalName};
 use ly_yaccread::{DeclarationKind, SymbolName, YaccFault, YaccFile, read_yacc, word_spans};
@@ -98,7 +98,7 @@ fn offset_given_again(file: &YaccFile, terminal: &TerminalName) -> Option<usize>
     for declaration in &file.declarations {
         for symbol in &declaration.symbols {
             let offset = offsets.next()?;
-            if declaration.kind == DeclarationKind::Token || !is_terminal(symbol, terminal) {
+            if declaration.kind == DeclarationKind::Token || !terminal.is_symbol(symbol) {
                 continue;
             }
             if given {
