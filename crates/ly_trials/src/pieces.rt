@@ -6,7 +6,7 @@ ghost use Rattle.std.specs.Prelude.{◌<◌};
 use crate::answers::table_set;
 use crate::memory::{TRIES, give_back, hog, small_blocks};
 use ly_base::OutOfMemory;
-use ly_engine::{Feed, FeedFault, Need, Outcome, TableSet};
+use ly_engine::{AnswerForm, Feed, FeedFault, Need, Outcome, TableSet};
 use std::alloc::Global;
 use std::test::Fail;
 
@@ -25,7 +25,7 @@ type Answer = (Outcome, Vec<u8>);
 
 /// A feed to which nothing has come.
 fn new_feed(alloc: Global, set: &TableSet) -> Result<Feed<'_>, OutOfMemory> {
-    Feed::new(alloc, set)
+    Feed::new(alloc, set, AnswerForm::Plain)
 }
 
 /// The answer to a piece that settles the text, if it does.
@@ -121,6 +121,48 @@ fn sums_are_fed(alloc: Global) -> Result<bool, Fail> {
 #[test]
 fn what_is_not_decided_is_held_up_to_the_answer(rt: HostRuntime) -> Result<(), Fail> {
     assert!(rt; sums_are_fed(rt.alloc())? && FeedFault::Over.number() == Some(91));
+    Ok(())
+}
+
+/// The same answer as JSON.
+const JSON_REFUSAL: &[u8] =
+    b"{\"error\":\"refused\",\"number\":2,\"byte\":2,\"token\":\"$undef\",\"text\":\"a\",\"expected\":[\"$end\",\"'+'\",\"'*'\"]}\n";
+
+/// Whether an answer says as JSON that the second token of `REFUSED`, which has one byte, is refused.
+fn is_json_refusal(answer: &Answer) -> bool {
+    let (outcome, line) = answer;
+    matches!(outcome, Outcome::Syntax { length: 1, .. })
+        && refuses(outcome, 2, 2)
+        && line.as_slice() == JSON_REFUSAL
+}
+
+/// Whether a feed of JSON says so.
+fn tells_of_the_refusal_as_json(feed: &mut Feed<'_>) -> bool {
+    match settled(feed, REFUSED) {
+        Ok(Some(answer)) => is_json_refusal(&answer),
+        _ => false,
+    }
+}
+
+/// Whether a feed of JSON refuses what one of plain text does, as soon.
+fn sums_are_fed_as_json(alloc: Global) -> Result<bool, Fail> {
+    let set = table_set(alloc, WORDS, SUMS)?;
+    let told = json_told(alloc, &set);
+    drop(set);
+    Ok(told?)
+}
+
+/// Whether a new feed of JSON says so.
+fn json_told(alloc: Global, set: &TableSet) -> Result<bool, OutOfMemory> {
+    let mut feed = Feed::new(alloc, set, AnswerForm::Json)?;
+    let told = tells_of_the_refusal_as_json(&mut feed);
+    drop(feed);
+    Ok(told)
+}
+
+#[test]
+fn a_refused_token_is_told_as_json(rt: HostRuntime) -> Result<(), Fail> {
+    assert!(rt; sums_are_fed_as_json(rt.alloc())?);
     Ok(())
 }
 
