@@ -15,27 +15,28 @@ use crate::answer_fault::AnswerFault;
 use ly_base::{Limits, Version};
 use ly_drive::{Outcome, TextFault, run};
 use ly_generate::{Report, file_tables};
-use ly_print::{Sink, Source};
+use ly_print::{AnswerForm, Sink, Source};
 use std::alloc::Global;
 
-/// Answers the text that a reader gives by a lex file and a yacc file (POSIX, XCU lex and yacc), and writes the answer.
-/// Nothing is read before the tables are made, and at most 4,096 bytes at a time; nothing is written before the outcome
-/// is known, and nothing is asked of the reader after it is, so only at a tree the reader is known to be at its end,
-/// and a read that fails was one that had to be made.
+/// Answers the text that a reader gives by a lex file and a yacc file (POSIX, XCU lex and yacc), and writes the answer
+/// in a form. Nothing is read before the tables are made, and at most 4,096 bytes at a time; nothing is written before
+/// the outcome is known, and nothing is asked of the reader after it is, so only at a tree the reader is known to be at
+/// its end, and a read that fails was one that had to be made.
 ///
 /// Its faults are those of `AnswerFault`.
 pub fn answer<R: Source, W: Sink>(
     alloc: Global,
     lex: &[u8],
     yacc: &[u8],
+    form: AnswerForm,
     reader: &mut R,
     writer: &mut W,
 ) -> Result<Outcome, AnswerFault>
     ensures answered { IfOk result (λ o. (s : Tables) × IsGenerated V2 version_2 lex.now yacc.now s
-        × IsAnsweredBy s (R.remaining reader.old) (W.contents writer.old) (W.contents writer.new) o) }
+        × IsAnsweredBy form s (R.remaining reader.old) (W.contents writer.old) (W.contents writer.new) o) }
     ensures beginning { (written : ℕ) → result ≡ Err (AnswerFault.Text (TextFault.Write written)) → (s : Tables)
         × IsGenerated V2 version_2 lex.now yacc.now s
-        × IsBegunBy s (R.remaining reader.old) (W.contents writer.old) (W.contents writer.new) written }
+        × IsBegunBy form s (R.remaining reader.old) (W.contents writer.old) (W.contents writer.new) written }
     ensures refused { (fault : code.GenFault) → result ≡ Err (AnswerFault.Gen fault)
         → (fault ≢ gen.OutOfMemory) × IsRefusedFor version_2 lex.now yacc.now fault }
     ensures never_faulty { result ≢ Err (AnswerFault.Text TextFault.FaultyTables) }
@@ -57,7 +58,7 @@ pub fn answer<R: Source, W: Sink>(
     ensures untouched { IfErr result (λ e. IsBeforeWriting e → writer.new ≡ writer.old) }
 {
     let generated = file_tables(alloc, lex, yacc, &Limits::V2, Version::V2, Report::Unwanted)?;
-    let answered = run(alloc, &generated.set, reader, writer);
+    let answered = run(alloc, &generated.set, form, reader, writer);
     drop(generated);
     Ok(answered?)
 }

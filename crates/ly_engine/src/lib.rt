@@ -25,7 +25,7 @@ pub use ly_generate::{
     GenFault, Report, Specification, parser_tables, read_specification, refusal_is_exact,
     sentences_are_answered, settle, tables_answer_as_specified,
 };
-pub use ly_print::{Counted, MemSink, MemSource, Sink, Source};
+pub use ly_print::{AnswerForm, Counted, MemSink, MemSource, Sink, Source};
 pub use ly_report::ConflictCounts;
 pub use ly_tables::{
     FormatFault, SetCounts, TableFault, TableSet, counts, read_tables, write_tables,

@@ -212,9 +212,9 @@ pub tables_answer : TablesAnswerAsSpecified
 tables_answer version file w s set g text v h = verdict_follows version file w s set g text v h
 
 pub answers_follow : AnswersAreOfSpecification
-answers_follow version file w s set g text o answer (v, h, outcome, bytes) = (
+answers_follow version file w s set g form text o answer (v, h, outcome, bytes) = (
   v,
   verdict_follows version file w s set g text v h,
   outcome,
-  bytes ∙ same_words (scanning_of file) w s g.automaton file.rules.items g.walk set g.joined g.is_set v,
+  bytes ∙ same_words (scanning_of file) w s g.automaton file.rules.items g.walk set g.joined g.is_set form v,
 )

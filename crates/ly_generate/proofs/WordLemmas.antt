@@ -1,14 +1,11 @@
--- Terms are printed by the same words.
-use Rattle.std.proofs.Common.{◌≡◌, ◌∙◌, ◌≤◌, ◌-◌, ℕ, zero, suc, List, [], ◌∷◌, ◌++◌, Option, Some, None}
-use Rattle.std.proofs.Common.{ap, ap₂, arith, length, map, refl, slice_get, sym}
-use Rattle.std.specs.List.{flat_map}
-use Rattle.std.specs.Prelude.{codes, option_map, unwrap_or}
+-- Answers are written by the same words.
+use Rattle.std.proofs.Common.{◌≡◌, ◌∙◌, ◌≤◌, ◌-◌, ℕ, zero, suc, List, [], ◌∷◌, Option, Some, None, ap, arith}
+use Rattle.std.proofs.Common.{length, map, refl, slice_get, sym}
+use Rattle.std.specs.Prelude.{option_map, unwrap_or}
 use Rattle.std.proofs.lemmas.List.{length-map}
 use Rattle.std.proofs.lemmas.Option.{slice_get-map, slice_get_past}
-use Rattle.ly_base.specs.Bytes.{newline}
-use Rattle.ly_base.specs.Lexed.{Token}
-use Rattle.ly_print.specs.Text.{leaf_of, token}
-use Rattle.ly_feed.specs.Verdict.{Verdict, accepted, expected_line, faulty, printed, refused, syntax_line, unmatched}
+use Rattle.ly_print.specs.declared.answer_form.AnswerForm.{AnswerForm}
+use Rattle.ly_feed.specs.Verdict.{Verdict, written_in}
 use Rattle.ly_feed.specs.Vocabularies.{constructor_in, constructor_of, name_in, vocabulary_of}
 use Rattle.ly_emit.specs.SetOf.{IsSetOf}
 use Rattle.ly_emit.specs.Tables.{AreTables, shape_from, shape_in}
@@ -23,43 +20,15 @@ use Rattle.ly_pack.specs.Machine.{TableRule}
 use Rattle.ly_report.specs.Report.{terminal_name}
 use Rattle.ly_subset.specs.Automaton as scanner
 use Rattle.ly_tables.specs.TableSet.{TableSet}
-use Rattle.ly_tree.specs.Shown.{Vocabulary, shown, shown_all}
-use Rattle.ly_tree.specs.Term.{Term, Terms, built, leaf, more, none, nothing}
+use Rattle.ly_tree.specs.Shown.{Vocabulary}
 use Rattle.ly_yaccread.specs.File.{Written}
 use Rattle.ly_yaccread.specs.Rules.{Ruling}
 
-module _ (v w : Vocabulary) (terminals : (t : ℕ) → v.terminal t ≡ w.terminal t)
-    (constructors : (p : ℕ) → v.constructor p ≡ w.constructor p) where
-  mutual
-    shown_alike : (t : Term) → shown v t ≡ shown w t
-    shown_alike nothing = refl
-    shown_alike (leaf t bytes) = ap (λ name. leaf_of (token name) bytes) (terminals t)
-    shown_alike (built p ts) = ap₂ (λ name inner. name ++ codes "(" ++ inner ++ codes ")") (constructors p)
-        (all_alike ts)
-
-    all_alike : (ts : Terms) → shown_all v ts ≡ shown_all w ts
-    all_alike none = refl
-    all_alike (more t none) = shown_alike t
-    all_alike (more t (more u ts)) = ap₂ (λ first others. first ++ codes "," ++ others) (shown_alike t)
-        (all_alike (more u ts))
-
-  line_alike : (k : ℕ) (t : Token ℕ) → syntax_line v k t ≡ syntax_line w k t
-  line_alike k t = rw (terminals t.terminal) refl
-
-  names_alike : (ts : List ℕ)
-      → flat_map (λ t. codes " " ++ v.terminal t) ts ≡ flat_map (λ t. codes " " ++ w.terminal t) ts
-  names_alike [] = refl
-  names_alike (t ∷ ts) = ap₂ (λ name others. (codes " " ++ name) ++ others) (terminals t) (names_alike ts)
-
-  expected_alike : (ts : List ℕ) → expected_line v ts ≡ expected_line w ts
-  expected_alike ts = ap (λ names. codes "expected:" ++ names ++ newline ∷ []) (names_alike ts)
-
-  -- verdicts are printed alike
-  pub printed_alike : (x : Verdict) → printed v x ≡ printed w x
-  printed_alike (accepted t) = ap (λ text. text ++ newline ∷ []) (shown_alike t)
-  printed_alike (refused k t ts) = ap₂ (λ line expected. line ++ expected) (line_alike k t) (expected_alike ts)
-  printed_alike (unmatched byte) = refl
-  printed_alike faulty = refl
+-- vocabularies of the same words are one
+one_vocabulary : (v w : Vocabulary) → ((t : ℕ) → v.terminal t ≡ w.terminal t)
+    → ((p : ℕ) → v.constructor p ≡ w.constructor p) → v ≡ w
+one_vocabulary v w terminals constructors =
+    λ i. record { terminal = λ t. terminals t i; constructor = λ p. constructors p i }
 
 -- where nothing stands the list has ended
 none_past : {X : Type 0} (xs : List X) (k : ℕ) → slice_get xs k ≡ None → length xs ≤ k
@@ -137,6 +106,8 @@ module _ (x : Scanning) (w : Written) (s : Spec) (M : Lr0Automaton) (patterns : 
   same_constructors zero = sym (ap (λ notes. constructor_of (shape_from (slice_get notes 0))) joined.all_notes)
   same_constructors (suc p) = by_place p (slice_get all_rules (suc p)) refl
 
-  -- what the table set says is printed as what the specification says
-  pub same_words : (v : Verdict) → printed (vocabulary_of set) v ≡ printed (words_of s) v
-  same_words = printed_alike (vocabulary_of set) (words_of s) same_terminals same_constructors
+  -- what the table set says is written as what the specification says, in each form
+  pub same_words : (form : AnswerForm) (v : Verdict)
+      → written_in form (vocabulary_of set) v ≡ written_in form (words_of s) v
+  same_words form v = ap (λ x. written_in form x v)
+      (one_vocabulary (vocabulary_of set) (words_of s) same_terminals same_constructors)

@@ -5,6 +5,7 @@ use Rattle.ly_base.specs.declared.version.Version.{Version}
 use Rattle.ly_feed.specs.TableAnswer.{IsVerdict, TableAnswer}
 use Rattle.ly_feed.specs.Verdict.{faulty}
 use Rattle.ly_feed.specs.declared.outcome.Outcome.{Outcome}
+use Rattle.ly_print.specs.declared.answer_form.AnswerForm.{AnswerForm}
 use Rattle.ly_generate.specs.Accepted.{IsFit, Specifies}
 use Rattle.ly_generate.specs.Headline.{IsGeneratedSet}
 use Rattle.ly_generate.specs.SpecAnswer.{SpecAnswer}
@@ -39,7 +40,7 @@ pub record HasFormOf (file : LexFile) (A : Automaton) : Type 0 where
 
 -- The files are accepted, and the set is theirs, within the ranges of a version: its scanner is the smallest of the lex
 -- file's rules, its states numbered breadth first, its classes and conditions are the file's, and what it answers to
--- any text is the specification's answer to it.
+-- any text, in each form, is the specification's answer to it.
 pub record IsGenerated (v : Version) (limits : Sizes) (lex yacc : List ℕ) (set : TableSet) : Type 0 where
   pub spec : Spec
   pub specifies : Specifies limits lex yacc spec
@@ -48,6 +49,7 @@ pub record IsGenerated (v : Version) (limits : Sizes) (lex yacc : List ℕ) (set
   pub smallest : IsReducedAutomaton generated.walk
   pub order : IsBreadthFirst generated.walk
   pub form : HasFormOf specifies.file generated.walk
-  pub answers : (text : List ℕ) (o : Outcome) (answer : List ℕ) → TableAnswer set text o answer
-      → SpecAnswer specifies.file spec generated.automaton.grammar text o answer
+  pub answers : (form : AnswerForm) (text : List ℕ) (o : Outcome) (answer : List ℕ)
+      → TableAnswer form set text o answer
+      → SpecAnswer form specifies.file spec generated.automaton.grammar text o answer
   pub never_faulty : (text : List ℕ) → IsVerdict set text faulty → ⊥

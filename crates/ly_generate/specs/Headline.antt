@@ -4,6 +4,7 @@ use Rattle.ly_base.specs.declared.version.Version.{Version}
 use Rattle.ly_feed.specs.TableAnswer.{IsVerdict, TableAnswer}
 use Rattle.ly_feed.specs.Verdict.{Verdict}
 use Rattle.ly_feed.specs.declared.outcome.Outcome.{Outcome}
+use Rattle.ly_print.specs.declared.answer_form.AnswerForm.{AnswerForm}
 use Rattle.ly_emit.specs.SetOf.{IsSetOf}
 use Rattle.ly_tokens.specs.Agreement.{Agrees}
 use Rattle.ly_tokens.specs.RowWalk.{cut_in, row_walk}
@@ -42,8 +43,8 @@ TablesAnswerAsSpecified = (version : Version) (file : LexFile) (w : Written) (s 
     (g : IsGeneratedSet version file w s set) (text : List ℕ) (v : Verdict) → IsVerdict set text v
     → IsSpecVerdict file s g.automaton.grammar text v
 
--- So its answer to a text is the specification's.
+-- So its answer to a text is the specification's, in each form.
 abbrev pub AnswersAreOfSpecification : Type 0
 AnswersAreOfSpecification = (version : Version) (file : LexFile) (w : Written) (s : Spec) (set : TableSet)
-    (g : IsGeneratedSet version file w s set) (text : List ℕ) (o : Outcome) (answer : List ℕ)
-    → TableAnswer set text o answer → SpecAnswer file s g.automaton.grammar text o answer
+    (g : IsGeneratedSet version file w s set) (form : AnswerForm) (text : List ℕ) (o : Outcome) (answer : List ℕ)
+    → TableAnswer form set text o answer → SpecAnswer form file s g.automaton.grammar text o answer

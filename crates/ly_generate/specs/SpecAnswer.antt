@@ -4,12 +4,13 @@ use Rattle.std.specs.List.{AllZip}
 use Rattle.ly_base.specs.Lexed.{Token, start_of, tokens_from}
 use Rattle.ly_base.specs.Shape.{Shape}
 use Rattle.ly_print.specs.Text.{Terminal, literal, token}
+use Rattle.ly_print.specs.declared.answer_form.AnswerForm.{AnswerForm}
 use Rattle.ly_base.specs.Trees.{Tree}
 use Rattle.ly_base.specs.declared.lexeme.End.{End}
 use Rattle.ly_base.specs.declared.lexeme.End.TheVariants.{Clean, Stuck}
 use Rattle.ly_base.specs.declared.lexeme.Lexeme.{Lexeme}
 use Rattle.ly_feed.specs.TableAnswer.{end_of, fed_with}
-use Rattle.ly_feed.specs.Verdict.{Verdict, IsOutcome, accepted, faulty, printed, refused, unmatched}
+use Rattle.ly_feed.specs.Verdict.{Verdict, IsOutcome, accepted, faulty, refused, unmatched, written_in}
 use Rattle.ly_feed.specs.Vocabularies.{constructor_of}
 use Rattle.ly_feed.specs.declared.outcome.Outcome.{Outcome}
 use Rattle.ly_emit.specs.Tables.{shape_in}
@@ -80,7 +81,7 @@ words_of s = record {
   constructor = λ p. constructor_of (shape_in s p);
 }
 
--- the text is answered with this outcome and these bytes
-abbrev pub SpecAnswer : LexFile → Spec → Grammar → List ℕ → Outcome → List ℕ → Type 0
-SpecAnswer file s useful text outcome answer = (v : Verdict) × IsSpecVerdict file s useful text v × IsOutcome v outcome
-    × (answer ≡ printed (words_of s) v)
+-- the text is answered with this outcome and, in a form, these bytes
+abbrev pub SpecAnswer : AnswerForm → LexFile → Spec → Grammar → List ℕ → Outcome → List ℕ → Type 0
+SpecAnswer form file s useful text outcome answer = (v : Verdict) × IsSpecVerdict file s useful text v
+    × IsOutcome v outcome × (answer ≡ written_in form (words_of s) v)

@@ -9,7 +9,8 @@ pub fn refusal_is_exact()
     ensures { RefusalIsExact }
 {}
 
-/// What tables that are generated say of a text is what the specification says of it, and so are the answers.
+/// What tables that are generated say of a text is what the specification says of it, and so are the answers, in each
+/// form.
 pub fn tables_answer_as_specified()
     ensures verdicts { TablesAnswerAsSpecified }
     ensures answers { AnswersAreOfSpecification }
