@@ -1,5 +1,6 @@
 -- Lemmas on bytes in JSON.
-use Rattle.std.proofs.Common.{◌≡◌, ◌∙◌, ◌<◌, ◌≤◌, ◌+◌, ◌*◌, ◌++◌, ◌∷◌, [], suc, List, ℕ, Bool, true, false, Result, Ok, Err, MatchResult}
+use Rattle.std.proofs.Common.{◌≡◌, ◌∙◌, ◌<◌, ◌≤◌, ◌+◌, ◌*◌, ◌++◌, ◌∷◌, [], suc, List, ℕ, Bool}
+use Rattle.std.proofs.Common.{true, false, Result, Ok, Err, MatchResult}
 use Rattle.std.proofs.Common.{ap, append_assoc, arith, codes, get_or, length, length-append, refl, sym, take}
 use Rattle.std.proofs.lemmas.Fmt.{length-decimal-le}
 use Rattle.std.specs.Fmt.{decimal}

@@ -1,6 +1,7 @@
 -- A JSON text that begins with a term says which one.
 use Rattle.std.proofs.Common.{◌≡◌, ◌∙◌, ◌<◌, ◌≤◌, ◌+◌, ◌-◌, ◌*◌, ◌^◌, ◌%◌, ◌++◌, ◌∷◌, [], ℕ, zero, suc, List}
-use Rattle.std.proofs.Common.{true, false, Bool, subst, length, sym, ap, ap₂, refl, arith, append_assoc, append-nil, get_or}
+use Rattle.std.proofs.Common.{true, false, Bool, subst, length, sym, ap, ap₂, refl, arith}
+use Rattle.std.proofs.Common.{append_assoc, append-nil, get_or}
 use Rattle.std.proofs.Math.Nat.{eq-or-lt_of_le}
 use Rattle.std.specs.Char.{encode_utf8}
 use Rattle.std.specs.Fmt.{decimal}
@@ -59,80 +60,21 @@ one_below P (suc n) all b less =
 abbrev Reads : ℕ → Type 0
 Reads b = (r : List ℕ) → first_byte (string_byte b ++ r) ≡ (b, r)
 
+first_eight : AllBelow Reads 8
+first_eight =
+    ((((((((tt, λ r. refl), λ r. refl), λ r. refl), λ r. refl), λ r. refl), λ r. refl), λ r. refl), λ r. refl)
+
+first_sixteen : AllBelow Reads 16
+first_sixteen =
+    ((((((((first_eight, λ r. refl), λ r. refl), λ r. refl), λ r. refl), λ r. refl), λ r. refl), λ r. refl), λ r. refl)
+
+first_twenty_four : AllBelow Reads 24
+first_twenty_four =
+    ((((((((first_sixteen, λ r. refl), λ r. refl), λ r. refl), λ r. refl), λ r. refl), λ r. refl), λ r. refl), λ r. refl)
+
 controls_read : AllBelow Reads 32
-controls_read = (
-  (
-    (
-      (
-        (
-          (
-            (
-              (
-                (
-                  (
-                    (
-                      (
-                        (
-                          (
-                            (
-                              (
-                                (
-                                  (
-                                    (
-                                      (
-                                        (
-                                          (
-                                            (
-                                              (
-                                                ((((((((tt, λ r. refl), λ r. refl), λ r. refl), λ r. refl), λ r. refl), λ r. refl), λ r. refl), λ r. refl),
-                                                λ r. refl,
-                                              ),
-                                              λ r. refl,
-                                            ),
-                                            λ r. refl,
-                                          ),
-                                          λ r. refl,
-                                        ),
-                                        λ r. refl,
-                                      ),
-                                      λ r. refl,
-                                    ),
-                                    λ r. refl,
-                                  ),
-                                  λ r. refl,
-                                ),
-                                λ r. refl,
-                              ),
-                              λ r. refl,
-                            ),
-                            λ r. refl,
-                          ),
-                          λ r. refl,
-                        ),
-                        λ r. refl,
-                      ),
-                      λ r. refl,
-                    ),
-                    λ r. refl,
-                  ),
-                  λ r. refl,
-                ),
-                λ r. refl,
-              ),
-              λ r. refl,
-            ),
-            λ r. refl,
-          ),
-          λ r. refl,
-        ),
-        λ r. refl,
-      ),
-      λ r. refl,
-    ),
-    λ r. refl,
-  ),
-  λ r. refl,
-)
+controls_read =
+    ((((((((first_twenty_four, λ r. refl), λ r. refl), λ r. refl), λ r. refl), λ r. refl), λ r. refl), λ r. refl), λ r. refl)
 
 -- a byte in a string is read by what it is written as
 reads : (b : ℕ) → Reads b
@@ -286,7 +228,8 @@ numbers_one : (a b r q : List ℕ) → AreBytes a → AreBytes b → numbers a +
     → (a ≡ b) × (r ≡ q)
 numbers_one [] [] r q f g e = (refl, tails 93 93 r q e)
 numbers_one [] (y ∷ b) r q f g e = absurd (begins_number (decimal y) (other_numbers b ++ 93 ∷ q) (93 ∷ r)
-    (all_figures y (front y b g)) (decimal_nonempty y (front y b g)) refl (e ∙ append_assoc (decimal y) (other_numbers b) (93 ∷ q)))
+    (all_figures y (front y b g)) (decimal_nonempty y (front y b g)) refl
+    (e ∙ append_assoc (decimal y) (other_numbers b) (93 ∷ q)))
 numbers_one (x ∷ a) [] r q f g e = absurd (begins_number (decimal x) (other_numbers a ++ 93 ∷ r) (93 ∷ q)
     (all_figures x (front x a f)) (decimal_nonempty x (front x a f)) refl
     (sym (sym (append_assoc (decimal x) (other_numbers a) (93 ∷ r)) ∙ e)))

@@ -15,7 +15,8 @@ use Rattle.ly_tree.proofs.StandLemmas.{known_front, known_rest}
 use Rattle.ly_tree.specs.Costs.{cost}
 use Rattle.ly_tree.specs.Forest.{terms_of, Grown, StandsFor}
 use Rattle.ly_tree.specs.Private.Grown.{AllKnown}
-use Rattle.ly_tree.specs.Private.Printing.{all_left_of, begun, left_of, left_text, next_text, opening, tail_text, terms_left}
+use Rattle.ly_tree.specs.Private.Printing.{all_left_of, begun, left_of, left_text, next_text, opening, tail_text}
+use Rattle.ly_tree.specs.Private.Printing.{terms_left}
 use Rattle.ly_tree.specs.Private.Printing.{term_at, term_text, waiting_text, AllWaitingKnown, HasChildren, IsAlone}
 use Rattle.ly_tree.specs.Private.Printing.{IsOpen, IsPrinted}
 use Rattle.ly_tree.specs.Term.{Term, nothing, leaf, built}
