@@ -6,16 +6,16 @@ use ly_yaccread::{YaccFault, read_yacc};
 use std::alloc::Global;
 
 /// Says that both files seem to be exchanged, where neither is what it stands for and one of them is what the other
-/// stands for.
+/// stands for, and answers whether that is so.
 pub(crate) fn say_exchanged(
     alloc: Global,
     page: &mut Page,
     lex: Named<'_>,
     yacc: Named<'_>,
     limits: &Limits,
-) -> Result<(), OutOfMemory> {
+) -> Result<bool, OutOfMemory> {
     if is_lex(alloc, lex.bytes, limits)? || is_yacc(alloc, yacc.bytes)? {
-        return Ok(());
+        return Ok(false);
     }
     let first_is_yacc = is_yacc(alloc, lex.bytes)?;
     let second_is_lex = is_lex(alloc, yacc.bytes, limits)?;
@@ -27,11 +27,12 @@ pub(crate) fn say_exchanged(
         page.say(yacc.name.as_bytes());
         page.say(b": this reads as a lex file\n");
     }
-    if first_is_yacc || second_is_lex {
+    let are_exchanged = first_is_yacc || second_is_lex;
+    if are_exchanged {
         page.say(MARGIN);
         page.say(b"are both exchanged? the lex file comes first\n");
     }
-    Ok(())
+    Ok(are_exchanged)
 }
 
 /// Whether bytes are those of a lex file.

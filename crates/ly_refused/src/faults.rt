@@ -53,7 +53,7 @@ pub fn say_lex_faults(
     Ok(())
 }
 
-/// The faults of two files, as they are said.
+/// The faults of two files, as they are said, or that both are exchanged.
 fn told_faults(
     alloc: Global,
     lex: Named<'_>,
@@ -61,10 +61,11 @@ fn told_faults(
     limits: &Limits,
     fault: &GenFault,
 ) -> Result<Vec<u8>, OutOfMemory> {
-    let findings = findings_in(alloc, lex.bytes, yacc.bytes, limits)?;
     let mut page = Page::new(alloc);
-    say_exchanged(alloc, &mut page, lex, yacc, limits)?;
-    page.say(&told(alloc, lex, yacc, &findings, fault)?);
+    if !say_exchanged(alloc, &mut page, lex, yacc, limits)? {
+        let findings = findings_in(alloc, lex.bytes, yacc.bytes, limits)?;
+        page.say(&told(alloc, lex, yacc, &findings, fault)?);
+    }
     page.finish()
 }
 
