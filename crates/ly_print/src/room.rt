@@ -251,10 +251,8 @@ pub(crate) fn put_bytes(room: &mut [u8], at: usize, bytes: &[u8]) -> usize
     ensures end { result ≡ at + length bytes.now }
     ensures room { length room.new ≡ length room.old }
 {
-    let mut end = at;
-    for byte in bytes {
-        end = put(room, end, *byte);
-    }
+    let end = at + bytes.len();
+    room[at..end].copy_from_slice(bytes);
     end
 }
 

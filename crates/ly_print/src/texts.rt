@@ -2,7 +2,7 @@ ghost use Rattle.std.specs.Prelude.{◌≡◌, ◌<◌, ◌≤◌, ◌+◌, [], 
 
 use crate::front::{BLOCK, Front};
 use crate::laws::are_bytes;
-use crate::room::put_front_of;
+use crate::room::{put_bytes, put_front_of};
 use std::alloc::{AllocError, Global};
 use std::marker::Model;
 
@@ -84,7 +84,7 @@ impl Texts {
     {
         let text = &bytes[..count];
         if count <= self.bytes.len() - self.used {
-            self.used = copy(&mut self.bytes, self.used, text);
+            self.used = put_bytes(&mut self.bytes, self.used, text);
             return Ok(());
         }
         self.bytes.truncate(self.used);
@@ -94,16 +94,4 @@ impl Texts {
         self.used = end;
         Ok(())
     }
-}
-
-/// Copies bytes to a place, and answers where they end.
-fn copy(room: &mut [u8], at: usize, bytes: &[u8]) -> usize
-    requires within { at + length bytes.now ≤ length room.old }
-    ensures bytes { take result room.new ≡ take at room.old ++ bytes.now }
-    ensures end { result ≡ at + length bytes.now }
-    ensures room { length room.new ≡ length room.old }
-{
-    let end = at + bytes.len();
-    room[at..end].copy_from_slice(bytes);
-    end
 }
