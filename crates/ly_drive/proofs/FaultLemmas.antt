@@ -1,5 +1,5 @@
 -- Which fault a call hands on.
-use Rattle.std.proofs.Common.{◌≡◌, ◌∙◌, ◌<◌, ℕ, Err, List, Ok, Option, ap, length, subst, take}
+use Rattle.std.proofs.Common.{◌≡◌, ◌∙◌, ◌<◌, ℕ, Err, List, Ok, Option, ap, length, subst, sym, take}
 use Rattle.std.specs.Io.KnownBytes.{Appends}
 use Rattle.std.specs.Prelude.{IsErrAnd, IsErrOf, Result}
 use Rattle.ly_print.specs.TextWriter.{IsCutShort}
@@ -27,3 +27,8 @@ pub cut_short : (b n : Option (List ℕ)) (count written : ℕ) (bytes text : Li
 cut_short b n count written bytes text same is within out =
     subst (λ k. IsCutShort b n k text) same
     (subst (IsCutShort b n count) is (record { within = within; went_out = out }))
+
+-- what a fault that is handed on comes to
+pub handed_on : {A E : Type 0} (r : Result A E) (e : E) → IsErrAnd r (λ x. x ≡ e) → Err e ≡ r
+handed_on (Ok x) e h = absurd h
+handed_on (Err x) e h = ap Err (sym h)

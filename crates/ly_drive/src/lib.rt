@@ -10,10 +10,15 @@
 
 mod driving;
 mod fault;
+mod line;
+mod lines;
+mod lines_outcome;
 mod reading;
 
 pub use driving::{drive, run};
 pub use fault::DriveFault;
+pub use lines::run_lines;
+pub use lines_outcome::LinesOutcome;
 pub use ly_feed::{
     Feed, FeedFault, Need, Outcome, TextFault, a_beginning_says_it, a_text_has_a_verdict,
     a_text_has_one_verdict, decided_matches_change_nothing,
