@@ -1,11 +1,15 @@
 -- Which fault a call hands on.
-use Rattle.std.proofs.Common.{◌≡◌, ◌∙◌, ◌<◌, ℕ, Err, List, Ok, Option, ap, length, subst, take}
+use Rattle.std.proofs.Common.{◌≡◌, ◌∙◌, ◌<◌, ℕ, Err, List, Ok, Option, ap, length, subst, sym, take}
 use Rattle.std.specs.Io.KnownBytes.{Appends}
 use Rattle.std.specs.Prelude.{IsErrAnd, IsErrOf, Result}
 use Rattle.ly_print.specs.TextWriter.{IsCutShort}
 use Rattle.ly_drive.specs.declared.fault.DriveFault.{DriveFault}
-use Rattle.ly_drive.specs.declared.fault.DriveFault.TheVariants.{Text}
+use Rattle.ly_drive.specs.DriveFault.{fault_of_tables}
+use Rattle.ly_drive.specs.declared.fault.DriveFault.TheVariants.{Tables, Text}
 use Rattle.ly_feed.specs.declared.text_fault.TextFault.{TextFault}
+use Rattle.ly_feed.specs.declared.text_fault.TextFault.TheVariants as answering
+use Rattle.ly_tables.specs.declared.fault.TableFault.{TableFault}
+use Rattle.ly_tables.specs.declared.fault.TableFault.TheVariants as file
 
 -- one that isn't answered wasn't handed on
 pub other_fault : {A E : Type 0} (r : Result A E) (e fault : E) → IsErrAnd r (λ x. x ≡ e) → (IsErrOf r fault → ⊥)
@@ -27,3 +31,21 @@ pub cut_short : (b n : Option (List ℕ)) (count written : ℕ) (bytes text : Li
 cut_short b n count written bytes text same is within out =
     subst (λ k. IsCutShort b n k text) same
     (subst (IsCutShort b n count) is (record { within = within; went_out = out }))
+
+-- what a fault that is handed on comes to
+pub handed_on : {A E : Type 0} (r : Result A E) (e : E) → IsErrAnd r (λ x. x ≡ e) → Err e ≡ r
+handed_on (Ok x) e h = absurd h
+handed_on (Err x) e h = ap Err (sym h)
+
+apart : (f : TableFault) (fault : TextFault) → Tables f ≡ Text fault → ⊥
+apart f fault is = cc
+
+-- of the faults of reading a table file one alone is told as one of the text
+pub only_memory : (f : TableFault) (fault : TextFault) → fault_of_tables f ≡ Text fault → fault ≡ answering.OutOfMemory
+only_memory file.BadMagic fault is = absurd (apart file.BadMagic fault is)
+only_memory file.BadVersion fault is = absurd (apart file.BadVersion fault is)
+only_memory file.Truncated fault is = absurd (apart file.Truncated fault is)
+only_memory file.Trailing fault is = absurd (apart file.Trailing fault is)
+only_memory (file.OutOfRange section) fault is = absurd (apart (file.OutOfRange section) fault is)
+only_memory file.Endless fault is = absurd (apart file.Endless fault is)
+only_memory file.OutOfMemory fault is = sym (same_text answering.OutOfMemory fault is)

@@ -1,2 +1,4 @@
 pub mod FaultLemmas
+pub mod LineLemmas
 pub mod SoFarLemmas
+pub mod WholeLemmas

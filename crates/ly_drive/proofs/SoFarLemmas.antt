@@ -22,12 +22,12 @@ use Rattle.ly_scan.specs.Pieces.{IsUndecided}
 use Rattle.ly_tables.specs.TableSet.{TableSet, machine_of}
 
 -- what a reader is known to give still; nothing where that isn't known
-left : Option (List ℕ) → List ℕ
+pub left : Option (List ℕ) → List ℕ
 left None = []
 left (Some bytes) = bytes
 
 -- what was taken, a piece, and what is left are all that a reader gave
-all_given : (given before after : Option (List ℕ)) (taken piece : List ℕ) → Consumes given before taken
+pub all_given : (given before after : Option (List ℕ)) (taken piece : List ℕ) → Consumes given before taken
     → Consumes before after piece → IfSome given (λ bytes. taken ++ (piece ++ left after) ≡ bytes)
 unfolding left
 all_given None before after taken piece a b = tt

@@ -1,3 +1,4 @@
 pub mod Answering
 pub mod DriveFault
+pub mod Lines
 pub mod Private

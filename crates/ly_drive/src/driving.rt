@@ -63,7 +63,7 @@ pub fn drive<R: Source, W: Sink>(
 }
 
 /// How many bytes are asked for at a time.
-const PIECE: usize = 4_096;
+pub(crate) const PIECE: usize = 4_096;
 
 /// Answers the text that a reader gives by a table set, and writes the answer in a form. Nothing is written before the outcome is
 /// known, and nothing is asked of the reader after it is, so only at a tree the reader is known to be at its end, and a

@@ -1,0 +1,231 @@
+ghost use Rattle.std.specs.Prelude.{◌≡◌, ◌≢◌, ◌<◌, Err, ℕ, [], ◌∷◌, ◌++◌, List, Option, IfErr, IfOk, IsErrOf, OnErr, OnOk, length};
+ghost use Rattle.std.specs.Io.KnownBytes.{IsAtEnd};
+ghost use Rattle.ly_print.specs.Device.{next_count};
+ghost use Rattle.ly_drive.specs.Answering.{IsDriven, IsTooLong};
+ghost use Rattle.ly_drive.specs.DriveFault as drive;
+ghost use Rattle.ly_drive.specs.DriveFault.{IsOfFile};
+ghost use Rattle.ly_drive.specs.Lines.{AreAnsweredBehind, AreLinesAnswered, AreLinesStopped, IsAnsweredSoFar};
+ghost use Rattle.ly_drive.specs.Lines.{AreAnswered, lines_of};
+ghost use Rattle.ly_drive.specs.Private.Lines.{AreEnded, AreTaken};
+ghost use Rattle.ly_drive.specs.declared.lines_outcome.LinesOutcome.TheVariants.{AllTrees};
+ghost use Rattle.ly_feed.specs.TextFault.{IsOfEnding, IsWrite};
+ghost use Rattle.ly_feed.specs.declared.text_fault.TextFault as text;
+ghost use Rattle.ly_feed.specs.declared.text_fault.TextFault.TheVariants.{OutOfMemory};
+ghost use Rattle.ly_tables.specs.Refusal.{IsRefusedAs};
+ghost use Rattle.ly_tables.specs.TableSet.{TableSet as Tables};
+ghost use Rattle.ly_tables.specs.declared.fault.TableFault as file;
+ghost use Rattle.ly_tables.specs.declared.fault.TableFault.TheVariants.{OutOfMemory as NoMemory};
+
+use crate::driving::PIECE;
+use crate::fault::DriveFault;
+use crate::line::answer_line;
+use crate::lines_outcome::LinesOutcome;
+use ly_feed::TextFault;
+use ly_print::{AnswerForm, Sink, Source};
+use ly_tables::{TableSet, a_file_has_one_set, read_tables};
+use std::alloc::Global;
+
+/// Answers each line of the text that a reader gives as a text of its own, by the bytes of a table file, and writes its
+/// answer in a form. Nothing is read before the table file is read, and at most 4,096 bytes at a time; a line that has
+/// come whole is answered before the reader is asked for more.
+///
+/// Its faults are those of `DriveFault`. What was written before one is the answers of the lines in front.
+pub fn drive_lines<R: Source, W: Sink>(
+    alloc: Global,
+    tables: &[u8],
+    form: AnswerForm,
+    reader: &mut R,
+    writer: &mut W,
+) -> Result<LinesOutcome, DriveFault>
+    ensures answered { IfOk result (λ o. (s : Tables) × IsDriven tables.now s
+        × AreLinesAnswered form s (R.remaining reader.old) (W.contents writer.old) (W.contents writer.new) o) }
+    ensures ended { OnOk result (IsAtEnd (R.remaining reader.new)) }
+    ensures stopped { (s : Tables) → IsDriven tables.now s → (fault : text.TextFault)
+        → result ≡ Err (DriveFault.Text fault)
+        → AreLinesStopped form s (R.remaining reader.old) (W.contents writer.old) (W.contents writer.new) fault }
+    ensures spelled { (fault : text.TextFault) → result ≡ Err (DriveFault.Text fault) → fault ≢ OutOfMemory
+        → (s : Tables) × IsDriven tables.now s }
+    ensures refused { (fault : file.TableFault) → result ≡ Err (DriveFault.Tables fault)
+        → (fault ≢ NoMemory) × IsRefusedAs tables.now fault }
+    ensures long { result ≡ Err (DriveFault.Text TextFault.TooLong) → IsTooLong (R.remaining reader.old) }
+    ensures unread { IfErr result (λ e. IsOfFile e → reader.new ≡ reader.old) }
+    ensures unwritten { IfErr result (λ e. IsOfFile e → writer.new ≡ writer.old) }
+    ensures asked { (s : Tables) → IsDriven tables.now s → IsErrOf result (DriveFault.Text TextFault.Read)
+        → AreAnsweredBehind form s (R.remaining reader.old) (R.remaining reader.new) (W.contents writer.old)
+        (W.contents writer.new) }
+    ensures read { IsErrOf result (DriveFault.Text TextFault.Read)
+        → R.failures reader.new ≡ next_count (R.failures reader.old) }
+    ensures reader_held { (IsErrOf result (DriveFault.Text TextFault.Read) → ⊥)
+        → R.failures reader.new ≡ R.failures reader.old }
+    ensures write { IfErr result (λ e. drive.IsWrite e → W.failures writer.new ≡ next_count (W.failures writer.old)) }
+    ensures writer_held { OnOk result (W.failures writer.new ≡ W.failures writer.old) }
+{
+    a_file_has_one_set();
+    let (set, _version) = read_tables(alloc, tables)?;
+    let answered = run_lines(alloc, &set, form, reader, writer);
+    drop(set);
+    Ok(answered?)
+}
+
+/// Answers each line of the text that a reader gives as a text of its own, by a table set, and writes its answer in a
+/// form. A line that has come whole is answered before the reader is asked for more.
+///
+/// Its faults are those of `TextFault`. What was written before one is the answers of the lines in front.
+pub fn run_lines<R: Source, W: Sink>(
+    alloc: Global,
+    set: &TableSet,
+    form: AnswerForm,
+    reader: &mut R,
+    writer: &mut W,
+) -> Result<LinesOutcome, TextFault>
+    ensures answered { IfOk result (AreLinesAnswered form set.now (R.remaining reader.old) (W.contents writer.old)
+        (W.contents writer.new)) }
+    ensures ended { OnOk result (IsAtEnd (R.remaining reader.new)) }
+    ensures stopped { IfErr result (AreLinesStopped form set.now (R.remaining reader.old) (W.contents writer.old)
+        (W.contents writer.new)) }
+    ensures long { result ≡ Err TextFault.TooLong → IsTooLong (R.remaining reader.old) }
+    ensures asked { IsErrOf result TextFault.Read → AreAnsweredBehind form set.now (R.remaining reader.old)
+        (R.remaining reader.new) (W.contents writer.old) (W.contents writer.new) }
+    ensures read { IsErrOf result TextFault.Read → R.failures reader.new ≡ next_count (R.failures reader.old) }
+    ensures reader_held { (IsErrOf result TextFault.Read → ⊥) → R.failures reader.new ≡ R.failures reader.old }
+    ensures write { IfErr result (λ e. IsWrite e → W.failures writer.new ≡ next_count (W.failures writer.old)) }
+    ensures writer_held { OnOk result (W.failures writer.new ≡ W.failures writer.old) }
+{
+    let mut room = vec![in alloc; 0u8; PIECE]?;
+    answer_all(alloc, set, form, &mut room, reader, writer)
+}
+
+/// Answers the lines of what a reader gives, so much at a time as there is room for, until the text ends.
+fn answer_all<R: Source, W: Sink>(
+    alloc: Global,
+    set: &TableSet,
+    form: AnswerForm,
+    room: &mut [u8],
+    reader: &mut R,
+    writer: &mut W,
+) -> Result<LinesOutcome, TextFault>
+    requires { 0 < length room.old }
+    ensures answered { IfOk result (AreLinesAnswered form set.now (R.remaining reader.old) (W.contents writer.old)
+        (W.contents writer.new)) }
+    ensures ended { OnOk result (IsAtEnd (R.remaining reader.new)) }
+    ensures stopped { IfErr result (AreLinesStopped form set.now (R.remaining reader.old) (W.contents writer.old)
+        (W.contents writer.new)) }
+    ensures long { result ≡ Err TextFault.TooLong → IsTooLong (R.remaining reader.old) }
+    ensures asked { IsErrOf result TextFault.Read → AreAnsweredBehind form set.now (R.remaining reader.old)
+        (R.remaining reader.new) (W.contents writer.old) (W.contents writer.new) }
+    ensures read { IsErrOf result TextFault.Read → R.failures reader.new ≡ next_count (R.failures reader.old) }
+    ensures reader_held { (IsErrOf result TextFault.Read → ⊥) → R.failures reader.new ≡ R.failures reader.old }
+    ensures write { IfErr result (λ e. IsWrite e → W.failures writer.new ≡ next_count (W.failures writer.old)) }
+    ensures writer_held { OnOk result (W.failures writer.new ≡ W.failures writer.old) }
+{
+    let mut lines = Lines::new(alloc);
+    let mut seen = 0u64;
+    loop {
+        let count = match reader.pull(room) {
+            Ok(0) => return lines.end(alloc, set, form, writer),
+            Ok(count) => count,
+            Err(_) => return Err(TextFault::Read),
+        };
+        seen = match seen.checked_add(count as u64) {
+            Some(seen) => seen,
+            None => return Err(TextFault::TooLong),
+        };
+        lines.take(alloc, set, form, &room[..count], writer)?;
+    }
+}
+
+/// What is known of lines while their text comes.
+#[derive(Drop)]
+struct Lines {
+    /// The bytes of the line that hasn't ended.
+    part: Vec<u8>,
+    /// What is said of the lines before it, which are answered.
+    outcome: LinesOutcome,
+}
+
+impl Lines {
+    /// Those of a text of which nothing has come.
+    fn new(alloc: Global) -> Lines
+        ensures part { result.part.items ≡ [] }
+        ensures outcome { result.outcome ≡ AllTrees }
+    {
+        Lines {
+            part: Vec::new(alloc),
+            outcome: LinesOutcome::AllTrees,
+        }
+    }
+
+    /// Takes the next bytes of the text, and answers each line that ends in them.
+    fn take<W: Sink>(
+        &mut self,
+        alloc: Global,
+        set: &TableSet,
+        form: AnswerForm,
+        bytes: &[u8],
+        writer: &mut W,
+    ) -> Result<(), TextFault>
+        ensures taken { (front : List ℕ) (before : Option (List ℕ))
+            → IsAnsweredSoFar form set.now front before (W.contents writer.old) self.old.part.items self.old.outcome
+            → AreTaken form set.now (front ++ bytes.now) before (W.contents writer.new) self.new.part.items
+            self.new.outcome result }
+        ensures ending { IfErr result IsOfEnding }
+        ensures write { IfErr result (λ e. IsWrite e → W.failures writer.new ≡ next_count (W.failures writer.old)) }
+        ensures writer_held { OnOk result (W.failures writer.new ≡ W.failures writer.old) }
+    {
+        for &byte in bytes {
+            self.take_byte(alloc, set, form, byte, writer)?;
+        }
+        Ok(())
+    }
+
+    /// Takes the next byte of the text. A newline ends the line, which is answered.
+    fn take_byte<W: Sink>(
+        &mut self,
+        alloc: Global,
+        set: &TableSet,
+        form: AnswerForm,
+        byte: u8,
+        writer: &mut W,
+    ) -> Result<(), TextFault>
+        ensures taken { (front : List ℕ) (before : Option (List ℕ))
+            → IsAnsweredSoFar form set.now front before (W.contents writer.old) self.old.part.items self.old.outcome
+            → AreTaken form set.now (front ++ byte ∷ []) before (W.contents writer.new) self.new.part.items
+            self.new.outcome result }
+        ensures ending { IfErr result IsOfEnding }
+        ensures write { IfErr result (λ e. IsWrite e → W.failures writer.new ≡ next_count (W.failures writer.old)) }
+        ensures writer_held { OnOk result (W.failures writer.new ≡ W.failures writer.old) }
+    {
+        if byte != b'\n' {
+            return match self.part.push(byte) {
+                Ok(()) => Ok(()),
+                Err(_) => Err(TextFault::OutOfMemory),
+            };
+        }
+        let outcome = answer_line(alloc, set, form, &self.part, writer)?;
+        self.outcome = self.outcome.with(&outcome);
+        self.part.clear();
+        Ok(())
+    }
+
+    /// Tells that the text has ended: what stands behind the last newline is a line where it isn't empty.
+    fn end<W: Sink>(
+        self,
+        alloc: Global,
+        set: &TableSet,
+        form: AnswerForm,
+        writer: &mut W,
+    ) -> Result<LinesOutcome, TextFault>
+        ensures ended { (text : List ℕ) (before : Option (List ℕ))
+            → IsAnsweredSoFar form set.now text before (W.contents writer.old) self.part.items self.outcome
+            → AreEnded form set.now text before (W.contents writer.new) result }
+        ensures ending { IfErr result IsOfEnding }
+        ensures write { IfErr result (λ e. IsWrite e → W.failures writer.new ≡ next_count (W.failures writer.old)) }
+        ensures writer_held { OnOk result (W.failures writer.new ≡ W.failures writer.old) }
+    {
+        if self.part.is_empty() {
+            return Ok(self.outcome);
+        }
+        let outcome = answer_line(alloc, set, form, &self.part, writer)?;
+        Ok(self.outcome.with(&outcome))
+    }
+}
