@@ -20,7 +20,9 @@ pub use answer_fault::AnswerFault;
 pub use answering::answer;
 pub use generating::{Built, build, generate};
 pub use ly_base::{Limits, Version};
-pub use ly_drive::{DriveFault, Feed, FeedFault, Need, Outcome, TextFault, drive};
+pub use ly_drive::{
+    DriveFault, Feed, FeedFault, LinesOutcome, Need, Outcome, TextFault, drive, drive_lines,
+};
 pub use ly_generate::{
     GenFault, Report, Specification, parser_tables, read_specification, refusal_is_exact,
     sentences_are_answered, settle, tables_answer_as_specified,
