@@ -1,6 +1,6 @@
 -- The lines of a text of which a part has come.
 use Rattle.std.proofs.Common.{◌≡◌, ◌≢◌, ◌∙◌, ◌<◌, ℕ, List, [], ◌∷◌, ◌++◌, Option, Ok, Err, Result, ap, append_assoc}
-use Rattle.std.proofs.Common.{append-nil, drop, get_or, if◌then◌else◌, length, nat_eq, refl, subst, suc, sym, take, take-append-drop}
+use Rattle.std.proofs.Common.{append-nil, drop, get_or, if◌then◌else◌, length, refl, subst, suc, sym, take, take-append-drop}
 use Rattle.std.specs.Io.KnownBytes.{Appends, Consumes, IsAtEnd}
 use Rattle.std.specs.Prelude.{IfErr, IfOk, IfSome}
 use Rattle.std.proofs.KnownBytes.{Appends-nil, Appends-trans, Consumes-nil, Consumes-trans, Consumes-whole}
