@@ -1,6 +1,7 @@
 -- The lines of a text of which a part has come.
 use Rattle.std.proofs.Common.{◌≡◌, ◌≢◌, ◌∙◌, ◌<◌, ℕ, List, [], ◌∷◌, ◌++◌, Option, Ok, Err, Result, ap, append_assoc}
-use Rattle.std.proofs.Common.{append-nil, drop, get_or, if◌then◌else◌, length, nat_eq, refl, subst, suc, sym, take, take-append-drop}
+use Rattle.std.proofs.Common.{append-nil, drop, get_or, if◌then◌else◌, length, refl, subst, suc, sym, take}
+use Rattle.std.proofs.Common.{take-append-drop}
 use Rattle.std.specs.Io.KnownBytes.{Appends, Consumes, IsAtEnd}
 use Rattle.std.specs.Prelude.{IfErr, IfOk, IfSome}
 use Rattle.std.proofs.KnownBytes.{Appends-nil, Appends-trans, Consumes-nil, Consumes-trans, Consumes-whole}
@@ -25,7 +26,8 @@ use Rattle.ly_tables.specs.TableSet.{TableSet}
 -- what stands behind a byte of a piece
 pub rest_of : (front bytes rest : List ℕ) (i : ℕ) → i < length bytes
     → ((front ++ take i bytes) ++ get_or bytes i 0 ∷ []) ++ (drop (suc i) bytes ++ rest) ≡ (front ++ bytes) ++ rest
-rest_of front bytes rest i less = append_assoc (front ++ take i bytes) (get_or bytes i 0 ∷ []) (drop (suc i) bytes ++ rest)
+rest_of front bytes rest i less =
+    append_assoc (front ++ take i bytes) (get_or bytes i 0 ∷ []) (drop (suc i) bytes ++ rest)
     ∙ ap (λ l. (front ++ take i bytes) ++ (l ++ rest)) (sym (drop-cons bytes i 0 less))
     ∙ append_assoc front (take i bytes) (drop i bytes ++ rest)
     ∙ ap (λ l. front ++ l) (sym (append_assoc (take i bytes) (drop i bytes) rest)
@@ -35,7 +37,8 @@ rest_of front bytes rest i less = append_assoc (front ++ take i bytes) (get_or b
 pub nothing_came : (before after : Option (List ℕ)) (n : ℕ) (buf : List ℕ) → n ≡ 0 → 0 < length buf
     → Consumes before after (take n buf) × (n ≡ 0 → 0 < length buf → IsAtEnd after)
     → Consumes before after [] × IsAtEnd after
-nothing_came before after n buf is some read = (subst (λ k. Consumes before after (take k buf)) is read.0, read.1 is some)
+nothing_came before after n buf is some read =
+    (subst (λ k. Consumes before after (take k buf)) is read.0, read.1 is some)
 
 -- bytes that a reader gave are a beginning of its text
 pub unread_text : (given now : Option (List ℕ)) (bytes : List ℕ) → Consumes given now bytes
@@ -51,7 +54,8 @@ whole_more : (lines : List (List ℕ)) (line : List ℕ) → AreUnbroken lines �
 whole_more [] line h last = (last, tt)
 whole_more (first ∷ lines) line h last = (h.0, whole_more lines line h.1 last)
 
-ended_more : (lines : List (List ℕ)) (line : List ℕ) → ended (lines ++ line ∷ []) ≡ ended lines ++ (line ++ newline ∷ [])
+ended_more : (lines : List (List ℕ)) (line : List ℕ)
+    → ended (lines ++ line ∷ []) ≡ ended lines ++ (line ++ newline ∷ [])
 ended_more [] line = refl
 ended_more (first ∷ lines) line = ap (λ l. first ++ newline ∷ l) (ended_more lines line)
     ∙ sym (append_assoc first (newline ∷ ended lines) (line ++ newline ∷ []))
@@ -87,7 +91,8 @@ refused_stays (Syntax token byte length expected) = refl
 refused_stays (NoRule byte) = refl
 
 -- it is all one which of two lines comes first
-with_both : (o p : Outcome) (all : LinesOutcome) → outcome_with p (outcome_with o all) ≡ outcome_with o (outcome_with p all)
+with_both : (o p : Outcome) (all : LinesOutcome)
+    → outcome_with p (outcome_with o all) ≡ outcome_with o (outcome_with p all)
 with_both o Tree all = refl
 with_both o (Syntax token byte length expected) all = sym (refused_stays o)
 with_both o (NoRule byte) all = sym (refused_stays o)

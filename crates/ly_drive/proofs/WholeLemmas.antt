@@ -1,11 +1,9 @@
 -- A line that is answered as a text of its own, by a feed to which it comes whole.
-use Rattle.std.proofs.Common.{◌≡◌, ◌<◌, ℕ, List, [], ◌++◌, Option, Some, Ok, Err, Result, append-nil, length, refl, subst, sym}
-use Rattle.std.proofs.Common.{take}
+use Rattle.std.proofs.Common.{◌≡◌, ℕ, List, [], ◌++◌, Option, Some, Ok, Err, Result, append-nil, refl, subst, sym}
 use Rattle.std.specs.Io.KnownBytes.{Appends}
 use Rattle.std.specs.Prelude.{IfErr, IfOk}
 use Rattle.std.proofs.KnownBytes.{Appends-nil}
-use Rattle.ly_drive.proofs.SoFarLemmas.{answered, at_fault, begins, ended_so, ends, goes_on, settles}
-use Rattle.ly_drive.specs.Answering.{IsAnsweredBy}
+use Rattle.ly_drive.proofs.SoFarLemmas.{at_fault, begins, ended_so, ends, goes_on, settles}
 use Rattle.ly_drive.specs.Private.Lines.{IsLineAnswered, IsLineStopped}
 use Rattle.ly_drive.specs.Private.Reading.{IsReadSoFar}
 use Rattle.ly_feed.specs.Held.{Held, IsAnswerOf, IsOnward, IsRestOf, IsSettledBy, nothing_read}

@@ -1,11 +1,10 @@
-ghost use Rattle.std.specs.Prelude.{◌≡◌, ◌≢◌, ◌<◌, Err, ℕ, [], ◌∷◌, ◌++◌, List, Option, IfErr, IfOk, IsErrOf, OnErr, OnOk, length};
+ghost use Rattle.std.specs.Prelude.{◌≡◌, ◌≢◌, ◌<◌, ℕ, [], ◌∷◌, ◌++◌, length, List, Option, Err, IfErr, IfOk, IsErrOf, OnOk};
 ghost use Rattle.std.specs.Io.KnownBytes.{IsAtEnd};
 ghost use Rattle.ly_print.specs.Device.{next_count};
 ghost use Rattle.ly_drive.specs.Answering.{IsDriven, IsTooLong};
 ghost use Rattle.ly_drive.specs.DriveFault as drive;
 ghost use Rattle.ly_drive.specs.DriveFault.{IsOfFile};
 ghost use Rattle.ly_drive.specs.Lines.{AreAnsweredBehind, AreLinesAnswered, AreLinesStopped, IsAnsweredSoFar};
-ghost use Rattle.ly_drive.specs.Lines.{AreAnswered, lines_of};
 ghost use Rattle.ly_drive.specs.Private.Lines.{AreEnded, AreTaken};
 ghost use Rattle.ly_drive.specs.declared.lines_outcome.LinesOutcome.TheVariants.{AllTrees};
 ghost use Rattle.ly_feed.specs.TextFault.{IsOfEnding, IsWrite};

@@ -1,4 +1,4 @@
-use Rattle.std.proofs.Common.{◌∙◌, Err, IfErr, Ok, ap, refl, subst, take}
+use Rattle.std.proofs.Common.{◌∙◌, Err, IfErr, Ok, ap, refl, subst}
 use Rattle.std.specs.Io.KnownBytes.{Appends}
 use Rattle.std.proofs.KnownBytes.{Appends-nil}
 use Rattle.ly_drive.proofs.FaultLemmas.{cut_short, handed_on}

@@ -1,4 +1,4 @@
-use Rattle.std.proofs.Common.{◌∙◌, ◌++◌, IfErr, arith, length, length-append, subst, take}
+use Rattle.std.proofs.Common.{◌∙◌, ◌++◌, IfErr, arith, length-append, subst, take}
 use Rattle.std.proofs.KnownBytes.{Consumes-trans}
 use Rattle.ly_drive.proofs.FaultLemmas.{handed_on}
 use Rattle.ly_drive.proofs.LineLemmas.{all_ended, nothing_came, stopped_reading, unread_text}
