@@ -70,7 +70,8 @@ pub fn answer_text<'a, F: Files, R: Source + Recall, W: Sink>(
 {
     match text {
         Some(path) => {
-            let mut file = Remembering::new(Counted::new(open(files, path, notes)?));
+            let file = Counted::new(open(files, path, notes)?);
+            let mut file = Remembering::new(alloc, file, notes.are_wanted());
             let ended = answer_by(alloc, rules, path, &mut file, output, notes);
             notes.look_at_text(files, path, &ended);
             ended
@@ -100,9 +101,6 @@ fn answer_by<'a, R: Source + Recall, W: Sink>(
         (R.remaining reader.new) }
     ensures ended { result ≡ Ok completion.Done → IsAtEnd (R.remaining reader.new) }
 {
-    if notes.are_wanted() {
-        reader.remember(alloc);
-    }
     match rules {
         Rules::Tokens(lex) => print_tokens(alloc, lex, path, reader, writer, notes),
         Rules::Tables { tables, form } => {

@@ -1,7 +1,7 @@
 //! The command `check`.
 ghost use Rattle.std.specs.Prelude.{◌≡◌, ◌++◌, IfErr, IfOk, OnOk, string_bytes};
 ghost use Rattle.std.specs.Fmt.{decimal};
-ghost use Rattle.lytab.specs.CarriedOut.{counts_text, HasCounts, IsCheckTold, set_json, set_line};
+ghost use Rattle.lytab.specs.CarriedOut.{counts_json, counts_text, HasCounts, IsCheckTold, set_json, set_line};
 ghost use Rattle.lytab.specs.CarriedOut.{set_told, version_number};
 ghost use Rattle.lytab.specs.Devices.{IsOutputTold};
 ghost use Rattle.lytab.specs.Refusal.{IsRefusalOfCheck};
@@ -34,10 +34,7 @@ pub fn check_tables<'a, F: Files, W: Sink>(
 {
     let bytes = read_file(files, alloc, path, notes)?;
     let (counts, version) = counts_of(alloc, &bytes)?;
-    let line = match form {
-        AnswerForm::Plain => line_of(alloc, &counts, version)?,
-        AnswerForm::Json => json_of(alloc, &counts, version)?,
-    };
+    let line = line_in(alloc, form, &counts, version)?;
     Completion::Done.said(output, line.as_bytes())
 }
 
@@ -50,6 +47,21 @@ fn counts_of(alloc: Global, bytes: &[u8]) -> Result<(SetCounts, Version), TableF
     let counted = counts(&set);
     drop(set);
     Ok((counted, version))
+}
+
+/// The line that says how many there are, and the version of the file, in a form.
+fn line_in(
+    alloc: Global,
+    form: AnswerForm,
+    counts: &SetCounts,
+    version: Version,
+) -> Result<String, AllocError>
+    ensures { IfOk result (λ line. string_bytes line ≡ set_told form counts.now version) }
+{
+    match form {
+        AnswerForm::Plain => line_of(alloc, counts, version),
+        AnswerForm::Json => json_of(alloc, counts, version),
+    }
 }
 
 /// The line that says how many there are, and the version of the file.
@@ -79,6 +91,15 @@ fn text_of(alloc: Global, counts: &SetCounts) -> Result<String, AllocError>
 fn json_of(alloc: Global, counts: &SetCounts, version: Version) -> Result<String, AllocError>
     ensures { IfOk result (λ line. string_bytes line ≡ set_json counts.now version) }
 {
+    let mut line = json_text_of(alloc, counts)?;
+    push_count(&mut line, number_of(version), "}\n")?;
+    Ok(line)
+}
+
+/// That JSON up to the number of the version.
+fn json_text_of(alloc: Global, counts: &SetCounts) -> Result<String, AllocError>
+    ensures { IfOk result (λ line. string_bytes line ≡ counts_json counts.now) }
+{
     let mut line = String::from_str(alloc, "{\"terminals\":")?;
     push_count(&mut line, counts.terminals, ",\"nonterminals\":")?;
     push_count(&mut line, counts.nonterminals, ",\"scanner_rules\":")?;
@@ -86,7 +107,6 @@ fn json_of(alloc: Global, counts: &SetCounts, version: Version) -> Result<String
     push_count(&mut line, counts.scanner_states, ",\"rules\":")?;
     push_count(&mut line, counts.rules, ",\"parser_states\":")?;
     push_count(&mut line, counts.parser_states, ",\"version\":")?;
-    push_count(&mut line, number_of(version), "}\n")?;
     Ok(line)
 }
 

@@ -31,9 +31,19 @@ fn main(rt: HostRuntime) -> ExitCode {
         &rt,
         alloc,
         words.as_slice(),
-        &mut Remembering::new(Counted::new(rt.stdin())),
+        &mut Remembering::new(alloc, Counted::new(rt.stdin()), may_point(&words)),
         &mut Counted::new(rt.stdout()),
         &mut rt.stderr(),
     );
     ExitCode::from(status)
+}
+
+/// Whether words may ask to point into a text, which has to be remembered for that from its first byte on.
+fn may_point(words: &[String]) -> bool {
+    for word in words {
+        if word.as_str() == "--where" {
+            return true;
+        }
+    }
+    false
 }

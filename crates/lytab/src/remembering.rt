@@ -7,11 +7,7 @@ use std::marker::Model;
 
 /// A reader that can show what it gave.
 pub trait Recall {
-    /// Remembers what is read from here on.
-    fn remember(&mut self, alloc: Global)
-        ensures { self.new ≡ self.old };
-
-    /// What was read since it is remembered; nothing where it isn't, or where no memory was left for it.
+    /// What was read; nothing where it isn't remembered, or where no memory was left for it.
     fn recalled(&self) -> Option<&[u8]>;
 }
 
@@ -34,11 +30,16 @@ impl<R> Model for Remembering<R> {
 }
 
 impl<R> Remembering<R> {
-    /// A reader of which nothing is remembered so far.
-    pub fn new(reader: R) -> Self
+    /// A reader that remembers what it gives, where that is wanted.
+    pub fn new(alloc: Global, reader: R, is_wanted: bool) -> Self
         ensures { result ≡ reader }
     {
-        Remembering { reader, text: None }
+        let text = if is_wanted {
+            Some(Vec::new(alloc))
+        } else {
+            None
+        };
+        Remembering { reader, text }
     }
 
     /// Adds what was read to what is remembered, which ends where memory does.
@@ -68,10 +69,6 @@ impl<R: Source> Source for Remembering<R> {
 }
 
 impl<R> Recall for Remembering<R> {
-    fn remember(&mut self, alloc: Global) {
-        self.text = Some(Vec::new(alloc));
-    }
-
     fn recalled(&self) -> Option<&[u8]> {
         match &self.text {
             Some(text) => Some(text),

@@ -11,7 +11,8 @@ pub returns-in-Ok-clause-needed : goal.returns-in-Ok-clause-needed
 returns-in-Ok-clause-needed g c = unfailed (λ failed. failed) (c.in-Ok.ensures.needed (search rules))
 
 pub returns-in-Err-Gen-clause-needed : goal.returns-in-Err-Gen-clause-needed
-returns-in-Err-Gen-clause-needed g c = unfailed (λ failed. failed) (c.in-Err-Gen.ensures.needed (search rules))
+returns-in-Err-Gen-clause-needed g c =
+    rw c.of_files.ensures (unfailed (λ failed. failed) (c.in-Err-Gen.ensures.needed (search rules)))
 
 pub returns-in-Err-Text-FaultyTables-clause-needed : goal.returns-in-Err-Text-FaultyTables-clause-needed
 returns-in-Err-Text-FaultyTables-clause-needed g c = unfailed (λ failed. failed) (c.in-Err-Text-FaultyTables.ensures.needed (search rules))

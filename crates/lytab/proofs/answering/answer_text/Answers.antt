@@ -3,8 +3,8 @@ use Rattle.lytab.proofs.answering.answer_text.Goals as goal
 
 pub returns-in_ok-open-in-Some-clause-answered : goal.returns-in_ok-open-in-Some-clause-answered
 returns-in_ok-open-in-Some-clause-answered g c =
-    rw c.in-Some.is (if_answered c.args.rules _ _ _ c.answer_by.result c.answer_by.ensures.answered)
+    rw c.in-Some.is (if_answered c.args.rules _ _ _ c.answer_by-ended.result c.answer_by-ended.ensures.answered)
 
 pub returns-in_ok-open-in-Some-clause-beginning : goal.returns-in_ok-open-in-Some-clause-beginning
 returns-in_ok-open-in-Some-clause-beginning g c =
-    rw c.in-Some.is (if_begun c.args.rules _ _ _ c.answer_by.result c.answer_by.ensures.beginning)
+    rw c.in-Some.is (if_begun c.args.rules _ _ _ c.answer_by-ended.result c.answer_by-ended.ensures.beginning)

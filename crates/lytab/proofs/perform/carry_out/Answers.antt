@@ -3,29 +3,29 @@ use Rattle.ly_print.specs.declared.counted.Counted.{Counted}
 use Rattle.lytab.proofs.CarriedLemmas.{carried_build, carried_explain, carried_run, carried_tokens, carried_try}
 use Rattle.lytab.proofs.perform.carry_out.Goals as goal
 
-pub returns-in_ok-lex-in-Tokens-clause-carried_out : goal.returns-in_ok-lex-in-Tokens-clause-carried_out
-returns-in_ok-lex-in-Tokens-clause-carried_out g c =
-    let r = c.answer_text.ensures in
+pub returns-in_ok-bytes-in-Tokens-clause-carried_out : goal.returns-in_ok-bytes-in-Tokens-clause-carried_out
+returns-in_ok-bytes-in-Tokens-clause-carried_out g c =
+    let r = c.answer_text-ended.ensures in
     rw c.in-Tokens.is (carried_tokens
     (λ (d : Counted g.row.F-File.Denot). g.F.File.Write.contents d.inner) (λ s. s.now)
-    c.in-Tokens.lex.now _ c.in-Tokens.text c.in-Tokens.points c.answer_text.result _ r.answered r.refused r.unread
+    c.in-Tokens.lex.now _ c.in-Tokens.text c.in-Tokens.points c.answer_text-ended.result _ r.answered r.refused r.unread
     (λ no. (r.needed no).unread) (λ no. (r.needed no).needed))
 
-pub returns-in_ok-tables-in-Run-clause-carried_out : goal.returns-in_ok-tables-in-Run-clause-carried_out
-returns-in_ok-tables-in-Run-clause-carried_out g c =
-    let r = c.answer_text-in-Run.ensures in
+pub returns-in_ok-bytes-in-Run-clause-carried_out : goal.returns-in_ok-bytes-in-Run-clause-carried_out
+returns-in_ok-bytes-in-Run-clause-carried_out g c =
+    let r = c.answer_text-ended-in-Run.ensures in
     rw c.in-Run.is (carried_run
     (λ (d : Counted g.row.F-File.Denot). g.F.File.Write.contents d.inner) (λ s. s.now)
-    c.in-Run.tables.now _ c.in-Run.text c.in-Run.by c.answer_text-in-Run.result _ r.answered r.refused r.unread
+    c.in-Run.tables.now _ c.in-Run.text c.in-Run.by c.answer_text-ended-in-Run.result _ r.answered r.refused r.unread
     (λ no. (r.needed no).unread) (λ no. (r.needed no).needed))
 
-pub returns-in_ok-yacc-in-Try-clause-carried_out : goal.returns-in_ok-yacc-in-Try-clause-carried_out
-returns-in_ok-yacc-in-Try-clause-carried_out g c =
-    let r = c.answer_text-in-Try.ensures in
+pub returns-in_ok-yacc_bytes-in-Try-clause-carried_out : goal.returns-in_ok-yacc_bytes-in-Try-clause-carried_out
+returns-in_ok-yacc_bytes-in-Try-clause-carried_out g c =
+    let r = c.answer_text-ended-in-Try.ensures in
     rw c.in-Try.is (carried_try
     (λ (d : Counted g.row.F-File.Denot). g.F.File.Write.contents d.inner) (λ s. s.now)
     c.in-Try.lex.now c.in-Try.yacc.now _ _ c.in-Try.text c.in-Try.by
-    c.answer_text-in-Try.result _ r.answered r.refused r.unread
+    c.answer_text-ended-in-Try.result _ r.answered r.refused r.unread
     (λ no. (r.needed no).unread) (λ no. (r.needed no).needed))
 
 pub returns-in-Build-clause-carried_out : goal.returns-in-Build-clause-carried_out

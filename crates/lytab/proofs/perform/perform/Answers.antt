@@ -9,11 +9,11 @@ use Rattle.lytab.specs.declared.files.FileFault.TheVariants.{OutOfMemory as no_m
 use Rattle.lytab.proofs.CarriedLemmas.{failed_first, told_of_known}
 use Rattle.lytab.proofs.perform.perform.Goals as goal
 
-pub returns-in-Ok-carry_out-clause-performed : goal.returns-in-Ok-carry_out-clause-performed
-returns-in-Ok-carry_out-clause-performed g c = λ request mean. record {
-  result = Ok c.in-Ok-carry_out.completion;
+pub returns-in-Ok-clause-performed : goal.returns-in-Ok-clause-performed
+returns-in-Ok-clause-performed g c = λ request mean. record {
+  result = c.carry_out.result;
   carried_out = subst (λ (q : Request). IsCarriedOut
-      (λ (d : Counted g.row.F-File.Denot). g.F.File.Write.contents d.inner) q (Ok c.in-Ok-carry_out.completion)
+      (λ (d : Counted g.row.F-File.Denot). g.F.File.Write.contents d.inner) q c.carry_out.result
       (record {
         input_before = c.args.input.now;
         input_after = c.carry_out.new.input;
@@ -22,14 +22,13 @@ returns-in-Ok-carry_out-clause-performed g c = λ request mean. record {
         before = g.W.Sink.contents c.args.output.now;
         after = g.W.Sink.contents c.carry_out.new.output;
       }))
-      (c.in-Ok.ensures.taken request mean) c.in-Ok-carry_out.ensures.carried_out;
-  is_status = c.status.ensures;
-  output = told_of_known g.W.Sink.contents (Ok c.in-Ok-carry_out.completion) _ _ _ _
-      c.in-Ok-carry_out.ensures.devices;
+      (c.in-Ok.ensures.taken request mean) c.carry_out.ensures.carried_out;
+  is_status = c.concluded.ensures.status;
+  output = told_of_known g.W.Sink.contents c.carry_out.result _ _ _ _ c.carry_out.ensures.devices;
 }
 
-pub returns-in-Ok-said-clause-performed : goal.returns-in-Ok-said-clause-performed
-returns-in-Ok-said-clause-performed g c = λ request mean.
+pub returns-in-Err-Help-clause-performed : goal.returns-in-Err-Help-clause-performed
+returns-in-Err-Help-clause-performed g c = λ request mean.
     let memory : c.in-Err-Help.field-0 ≡ NoMemory = c.in-Err-Help.ensures.taken request mean in
     let help : c.in-Err-Help.field-0 ≡ Help c.in-Err-Help.text = c.in-Err-Help.field-0-is in
     absurd cc
@@ -46,11 +45,11 @@ returns-in-Err-Bad-clause-performed g c = λ request mean.
     let bad : c.in-Err-Bad.field-0 ≡ Bad c.in-Err-Bad.text = c.in-Err-Bad.field-0-is in
     absurd cc
 
-pub returns-clause-performed : goal.returns-clause-performed
-returns-clause-performed g c = λ request mean. record {
+pub returns-in-Err-OutOfMemory-clause-performed : goal.returns-in-Err-OutOfMemory-clause-performed
+returns-in-Err-OutOfMemory-clause-performed g c = λ request mean. record {
   result = Err OutOfMemory;
   carried_out = failed_first
       (λ (d : Counted g.row.F-File.Denot). g.F.File.Write.contents d.inner) request no_memory _ refl;
-  is_status = c.told-in-Err-OutOfMemory.ensures.status;
+  is_status = c.concluded-in-Err-OutOfMemory.ensures.status;
   output = record { failed = inl (refl, refl); held = tt };
 }
