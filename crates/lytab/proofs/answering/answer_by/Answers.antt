@@ -1,5 +1,8 @@
 use Rattle.lytab.proofs.answering.answer_by.Goals as goal
 
+pub returns-in-Tables-clause-beginning : goal.returns-in-Tables-clause-beginning
+returns-in-Tables-clause-beginning g c = rw c.in-Tables.is c.answer_by_tables.ensures.beginning
+
 pub returns-in-Both-clause-answered : goal.returns-in-Both-clause-answered
 returns-in-Both-clause-answered g c = rw c.in-Both.is c.answer_by_files.ensures.answered
 

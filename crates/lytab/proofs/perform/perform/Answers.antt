@@ -11,20 +11,20 @@ use Rattle.lytab.proofs.perform.perform.Goals as goal
 
 pub returns-in-Ok-clause-performed : goal.returns-in-Ok-clause-performed
 returns-in-Ok-clause-performed g c = λ request mean. record {
-  result = c.carry_out.result;
+  result = c.carry_out-ended.result;
   carried_out = subst (λ (q : Request). IsCarriedOut
-      (λ (d : Counted g.row.F-File.Denot). g.F.File.Write.contents d.inner) q c.carry_out.result
+      (λ (d : Counted g.row.F-File.Denot). g.F.File.Write.contents d.inner) q c.carry_out-ended.result
       (record {
         input_before = c.args.input.now;
-        input_after = c.carry_out.new.input;
+        input_after = c.carry_out-ended.new.input;
         given = g.R.Source.remaining c.args.input.now;
-        left = g.R.Source.remaining c.carry_out.new.input;
+        left = g.R.Source.remaining c.carry_out-ended.new.input;
         before = g.W.Sink.contents c.args.output.now;
-        after = g.W.Sink.contents c.carry_out.new.output;
+        after = g.W.Sink.contents c.carry_out-ended.new.output;
       }))
-      (c.in-Ok.ensures.taken request mean) c.carry_out.ensures.carried_out;
-  is_status = c.concluded.ensures.status;
-  output = told_of_known g.W.Sink.contents c.carry_out.result _ _ _ _ c.carry_out.ensures.devices;
+      (c.in-Ok.ensures.taken request mean) c.carry_out-ended.ensures.carried_out;
+  is_status = c.concluded-status.ensures.status;
+  output = told_of_known g.W.Sink.contents c.carry_out-ended.result _ _ _ _ c.carry_out-ended.ensures.devices;
 }
 
 pub returns-in-Err-Help-clause-performed : goal.returns-in-Err-Help-clause-performed
