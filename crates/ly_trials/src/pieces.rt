@@ -125,7 +125,8 @@ fn what_is_not_decided_is_held_up_to_the_answer(rt: HostRuntime) -> Result<(), F
 }
 
 /// The same answer as JSON.
-const JSON_REFUSAL: &[u8] = b"{\"error\":\"refused\",\"number\":2,\"byte\":2,\"token\":\"$undef\",\"text\":\"a\",\
+const JSON_REFUSAL: &[u8] =
+    b"{\"error\":\"refused\",\"number\":2,\"byte\":2,\"token\":\"$undef\",\"text\":\"a\",\
     \"expected\":[\"$end\",\"'+'\",\"'*'\"]}\n";
 
 /// Whether an answer says as JSON that the second token of `REFUSED`, which has one byte, is refused.

@@ -73,4 +73,4 @@ pub unfailed : {R : Type 0} {lex yacc : List ℕ} {result : Result Completion Fa
     → IsReadByFiles lex yacc result old new before after
 unfailed not (inl same) = inl same
 unfailed not (inr read) =
-    inr (read.0, read.1, record { needed = λ _. read.2; asked = λ failed. absurd (not failed); })
+    inr (read.0, read.1, record { needed = λ _. read.2; asked = λ failed. absurd (not failed) })

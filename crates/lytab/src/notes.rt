@@ -97,7 +97,8 @@ impl Notes {
         let at = locate(text.bytes, start);
         self.page.say_location_in(text, at);
         self.page.say(b"no rule matches ");
-        self.page.say_byte(text.bytes.get(start).copied().unwrap_or(0));
+        self.page
+            .say_byte(text.bytes.get(start).copied().unwrap_or(0));
         self.page.say(b"\n");
         self.page.say_excerpt(text, at);
     }
@@ -133,7 +134,12 @@ impl Notes {
     /// Why a table file by which a command ended is refused, or at fault on a text.
     pub fn explain_tables(&mut self, path: &str, ended: &Result<Completion, Failure<'_>>) {
         match ended {
-            Err(Failure::Tables(fault)) => self.say_fault(path, fault.number(), fault.name(), fault),
+            Err(Failure::Tables(fault)) => self.say_fault(
+                path,
+                fault.number(),
+                fault.name(),
+                fault,
+            ),
             Err(Failure::FaultyTables) => {
                 let fault = TextFault::FaultyTables;
                 self.say_fault(path, fault.number(), fault.name(), &fault);

@@ -77,11 +77,7 @@ pub fn perform<F: Files, R: Source + Recall, W: Sink, E: Write>(
 }
 
 /// The exit status of a command that ended so. Where it failed, the line that says why is written.
-fn concluded<E: Write>(
-    alloc: Global,
-    ended: Result<Completion, Failure<'_>>,
-    faults: &mut E,
-) -> u8
+fn concluded<E: Write>(alloc: Global, ended: Result<Completion, Failure<'_>>, faults: &mut E) -> u8
     ensures range { result ≤ 3 }
     ensures status { IsStatusOf result ended.entry }
 {
@@ -114,7 +110,15 @@ fn carry_out<'a, F: Files, R: Source + Recall, W: Sink>(
     match command {
         Command::Tokens { lex, text, .. } => {
             let bytes = read_file(files, alloc, lex, notes)?;
-            let ended = answer_text(files, alloc, Rules::Tokens(&bytes), text, input, output, notes);
+            let ended = answer_text(
+                files,
+                alloc,
+                Rules::Tokens(&bytes),
+                text,
+                input,
+                output,
+                notes,
+            );
             notes.explain_lex(alloc, Named::new(lex, &bytes), &ended);
             ended
         }

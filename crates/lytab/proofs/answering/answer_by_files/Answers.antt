@@ -29,7 +29,7 @@ returns-in-Err-Text-OutOfMemory-clause-needed g c = unfailed (λ failed. failed)
 pub returns-in-Err-Text-Read-clause-needed : goal.returns-in-Err-Text-Read-clause-needed
 returns-in-Err-Text-Read-clause-needed g c =
     let asked = c.in-Err-Text-Read.ensures.asked (search rules) in
-    inr (asked.0, asked.1, record { needed = λ not. absurd (not tt); asked = λ failed. asked.2; })
+    inr (asked.0, asked.1, record { needed = λ not. absurd (not tt); asked = λ failed. asked.2 })
 
 pub returns-in-Err-Text-FaultyTables-clause-refused : goal.returns-in-Err-Text-FaultyTables-clause-refused
 returns-in-Err-Text-FaultyTables-clause-refused g c = c.in-Err-Text-FaultyTables.ensures.never_faulty (search rules)
