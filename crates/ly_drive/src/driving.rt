@@ -18,10 +18,10 @@ use ly_print::{AnswerForm, Sink, Source, write_whole};
 use ly_tables::{TableSet, a_file_has_one_set, read_tables};
 use std::alloc::Global;
 
-/// Answers the text that a reader gives by the bytes of a table file, and writes the answer in a form. Nothing is read before the
-/// table file is read, and at most 4,096 bytes at a time; nothing is written before the outcome is known, and nothing
-/// is asked of the reader after it is, so only at a tree the reader is known to be at its end, and a read that fails
-/// was one that had to be made.
+/// Answers the text that a reader gives by the bytes of a table file, and writes the answer in a form. Nothing is read
+/// before the table file is read, and at most 4,096 bytes at a time; nothing is written before the outcome is known,
+/// and nothing is asked of the reader after it is, so only at a tree the reader is known to be at its end, and a read
+/// that fails was one that had to be made.
 ///
 /// Its faults are those of `DriveFault`.
 pub fn drive<R: Source, W: Sink>(
@@ -65,9 +65,9 @@ pub fn drive<R: Source, W: Sink>(
 /// How many bytes are asked for at a time.
 pub(crate) const PIECE: usize = 4_096;
 
-/// Answers the text that a reader gives by a table set, and writes the answer in a form. Nothing is written before the outcome is
-/// known, and nothing is asked of the reader after it is, so only at a tree the reader is known to be at its end, and a
-/// read that fails was one that had to be made.
+/// Answers the text that a reader gives by a table set, and writes the answer in a form. Nothing is written before the
+/// outcome is known, and nothing is asked of the reader after it is, so only at a tree the reader is known to be at its
+/// end, and a read that fails was one that had to be made.
 ///
 /// Its faults are those of `TextFault`.
 pub fn run<R: Source, W: Sink>(

@@ -7,8 +7,8 @@ use ly_base::OutOfMemory;
 use std::alloc::{AllocError, AllocFailed};
 use thiserror::Error;
 
-/// Why a lex file and a yacc file don't make a specification. Nothing is handed out then. It is printed in words, without
-/// the symbol or the limit that is at fault.
+/// Why a lex file and a yacc file don't make a specification. Nothing is handed out then. It is printed in words,
+/// without the symbol or the limit that is at fault.
 #[derive(Debug, Drop, Error)]
 pub enum JoinFault {
     /// A symbol of a body is neither a token nor the left side of a rule.

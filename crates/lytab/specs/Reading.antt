@@ -23,8 +23,8 @@ IsOfRules (Refused fault line) = Unit {0}
 IsOfRules (Tables fault) = Unit {0}
 IsOfRules _ = ⊥
 
--- What is read for the answer that a table set gives: no more than it asks for, and at most 4,096 bytes behind, where no
--- read failed; and where one did no answer was known, so that it had to be made.
+-- What is read for the answer that a table set gives: no more than it asks for, and at most 4,096 bytes behind, where
+-- no read failed; and where one did no answer was known, so that it had to be made.
 pub record IsReadFor (s : TableSet) (result : Result Completion Failure) (before after : Option (List ℕ)) : Type 0 where
   pub needed : (HasReadFailed result → ⊥) → IsReadAsNeeded 4096 s before after
   pub asked : HasReadFailed result → IsOpenBehind s before after

@@ -103,8 +103,8 @@ impl Notes {
         self.page.say_excerpt(text, at);
     }
 
-    /// All faults of a lex file and a yacc file by which a command ended that are refused within limits, as `explain` says
-    /// them.
+    /// All faults of a lex file and a yacc file by which a command ended that are refused within limits, as `explain`
+    /// says them.
     pub fn explain(
         &mut self,
         alloc: Global,
