@@ -78,6 +78,46 @@ def tree(text):
         at += 1
 
 
+def location(text, at):
+    """An offset of a text, with its line and its column."""
+    line = text.rfind(b"\n", 0, at) + 1
+    return b"[%d,%d,%d]" % (at, text.count(b"\n", 0, at) + 1, at - line + 1)
+
+
+def extent(text, start, end):
+    return b',"start":' + location(text, start) + b',"end":' + location(text, end)
+
+
+def tokens(plain, text, starts):
+    """The lines of tokens as JSON, which begin at these bytes of a text."""
+    out = []
+    for line, start in zip(plain.splitlines(), starts):
+        stuck = NO_RULE.fullmatch(line + b"\n")
+        if stuck:
+            byte = int(stuck[1])
+            out.append(b'{"error":"unmatched","byte":%d' % byte + extent(text, byte, byte) + b"}\n")
+        else:
+            found = LEAF.fullmatch(line)
+            bytes_ = unescaped(found[2])
+            end = start + len(bytes_)
+            if text[start:end] != bytes_:
+                raise ValueError(f"no {bytes_} at {start}")
+            out.append(b'{"token":' + name(found[1]) + extent(text, start, end) + b"," + content(bytes_) + b"}\n")
+    return b"".join(out)
+
+
+def starts(lines):
+    """Where tokens begin by their lines of JSON; they have to follow one another."""
+    found, behind = [], 0
+    for line in lines.splitlines():
+        said = json.loads(line)
+        if said["start"][0] < behind:
+            raise ValueError(f"a token before the end of the one before it: {said}")
+        found.append(said["start"][0])
+        behind = said["end"][0]
+    return found
+
+
 def expected(line):
     """The names of an `expected:` line."""
     return b'"expected":[' + b",".join(name(it) for it in EXPECTED.findall(line[len(b"expected:") :])) + b"]"

@@ -189,7 +189,8 @@ module _ (form : AnswerForm) (s : TableSet) (given : Option (List ℕ)) where
 
     -- and this is its answer
     pub ended_so : (g : Held) (o : Outcome) (answer : List ℕ) → g ≡ f → Consumes before after [] → IsAtEnd after
-        → IsAnswerOf g o answer → (text : List ℕ) × IfSome given (λ bytes. text ≡ bytes) × TableAnswer form s text o answer
+        → IsAnswerOf g o answer
+        → (text : List ℕ) × IfSome given (λ bytes. text ≡ bytes) × TableAnswer form s text o answer
     ended_so g o answer same took end a =
         let h = subst (λ x. IsAnswerOf x o answer) same a in
         let text = ends h.0 took end h.1 in (

@@ -111,10 +111,11 @@ fn feed_all<R: Source, W: Sink>(
 ) -> Result<Outcome, TextFault>
     requires begins { feed.old ≡ nothing_read feed.old.form feed.old.set }
     requires room { 0 < length room.old }
-    ensures answered { IfOk result (IsAnsweredBy feed.old.form feed.old.set (R.remaining reader.old) (W.contents writer.old)
-        (W.contents writer.new)) }
+    ensures answered { IfOk result (IsAnsweredBy feed.old.form feed.old.set (R.remaining reader.old)
+        (W.contents writer.old) (W.contents writer.new)) }
     ensures beginning { (written : ℕ) → result ≡ Err (TextFault.Write written)
-        → IsBegunBy feed.old.form feed.old.set (R.remaining reader.old) (W.contents writer.old) (W.contents writer.new) written }
+        → IsBegunBy feed.old.form feed.old.set (R.remaining reader.old) (W.contents writer.old) (W.contents writer.new)
+        written }
     ensures faulty { result ≡ Err TextFault.FaultyTables → IsFaultyOn feed.old.set (R.remaining reader.old) }
     ensures long { result ≡ Err TextFault.TooLong → IsTooLong (R.remaining reader.old) }
     ensures ended { result ≡ Ok Outcome.Tree → IsAtEnd (R.remaining reader.new) }

@@ -1,4 +1,5 @@
-ghost use Rattle.std.specs.Prelude.{◌≡◌, ◌≢◌, ◌<◌, ℕ, [], ◌∷◌, ◌++◌, length, List, Option, Err, IfErr, IfOk, IsErrOf, OnOk};
+ghost use Rattle.std.specs.Prelude.{◌≡◌, ◌≢◌, ◌<◌, ℕ, [], ◌∷◌, ◌++◌, length, List, Option, Err};
+ghost use Rattle.std.specs.Prelude.{IfErr, IfOk, IsErrOf, OnOk};
 ghost use Rattle.std.specs.Io.KnownBytes.{IsAtEnd};
 ghost use Rattle.ly_print.specs.Device.{next_count};
 ghost use Rattle.ly_drive.specs.Answering.{IsDriven, IsTooLong};
@@ -7,7 +8,7 @@ ghost use Rattle.ly_drive.specs.DriveFault.{IsOfFile};
 ghost use Rattle.ly_drive.specs.Lines.{AreAnsweredBehind, AreLinesAnswered, AreLinesStopped, IsAnsweredSoFar};
 ghost use Rattle.ly_drive.specs.Private.Lines.{AreEnded, AreTaken};
 ghost use Rattle.ly_drive.specs.declared.lines_outcome.LinesOutcome.TheVariants.{AllTrees};
-ghost use Rattle.ly_feed.specs.TextFault.{IsOfEnding, IsWrite};
+ghost use Rattle.ly_feed.specs.TextFault.{IsBeforeWriting, IsOfEnding, IsWrite};
 ghost use Rattle.ly_feed.specs.declared.text_fault.TextFault as text;
 ghost use Rattle.ly_feed.specs.declared.text_fault.TextFault.TheVariants.{OutOfMemory};
 ghost use Rattle.ly_tables.specs.Refusal.{IsRefusedAs};
@@ -58,6 +59,7 @@ pub fn drive_lines<R: Source, W: Sink>(
         → R.failures reader.new ≡ R.failures reader.old }
     ensures write { IfErr result (λ e. drive.IsWrite e → W.failures writer.new ≡ next_count (W.failures writer.old)) }
     ensures writer_held { OnOk result (W.failures writer.new ≡ W.failures writer.old) }
+    ensures kept { IfErr result (λ e. drive.IsBeforeWriting e → W.failures writer.new ≡ W.failures writer.old) }
 {
     a_file_has_one_set();
     let (set, _version) = read_tables(alloc, tables)?;
@@ -89,6 +91,7 @@ pub fn run_lines<R: Source, W: Sink>(
     ensures reader_held { (IsErrOf result TextFault.Read → ⊥) → R.failures reader.new ≡ R.failures reader.old }
     ensures write { IfErr result (λ e. IsWrite e → W.failures writer.new ≡ next_count (W.failures writer.old)) }
     ensures writer_held { OnOk result (W.failures writer.new ≡ W.failures writer.old) }
+    ensures kept { IfErr result (λ e. IsBeforeWriting e → W.failures writer.new ≡ W.failures writer.old) }
 {
     let mut room = vec![in alloc; 0u8; PIECE]?;
     answer_all(alloc, set, form, &mut room, reader, writer)
@@ -116,6 +119,7 @@ fn answer_all<R: Source, W: Sink>(
     ensures reader_held { (IsErrOf result TextFault.Read → ⊥) → R.failures reader.new ≡ R.failures reader.old }
     ensures write { IfErr result (λ e. IsWrite e → W.failures writer.new ≡ next_count (W.failures writer.old)) }
     ensures writer_held { OnOk result (W.failures writer.new ≡ W.failures writer.old) }
+    ensures kept { IfErr result (λ e. IsBeforeWriting e → W.failures writer.new ≡ W.failures writer.old) }
 {
     let mut lines = Lines::new(alloc);
     let mut seen = 0u64;
@@ -170,6 +174,7 @@ impl Lines {
         ensures ending { IfErr result IsOfEnding }
         ensures write { IfErr result (λ e. IsWrite e → W.failures writer.new ≡ next_count (W.failures writer.old)) }
         ensures writer_held { OnOk result (W.failures writer.new ≡ W.failures writer.old) }
+        ensures kept { IfErr result (λ e. IsBeforeWriting e → W.failures writer.new ≡ W.failures writer.old) }
     {
         for &byte in bytes {
             self.take_byte(alloc, set, form, byte, writer)?;
@@ -193,6 +198,7 @@ impl Lines {
         ensures ending { IfErr result IsOfEnding }
         ensures write { IfErr result (λ e. IsWrite e → W.failures writer.new ≡ next_count (W.failures writer.old)) }
         ensures writer_held { OnOk result (W.failures writer.new ≡ W.failures writer.old) }
+        ensures kept { IfErr result (λ e. IsBeforeWriting e → W.failures writer.new ≡ W.failures writer.old) }
     {
         if byte != b'\n' {
             return match self.part.push(byte) {
@@ -220,6 +226,7 @@ impl Lines {
         ensures ending { IfErr result IsOfEnding }
         ensures write { IfErr result (λ e. IsWrite e → W.failures writer.new ≡ next_count (W.failures writer.old)) }
         ensures writer_held { OnOk result (W.failures writer.new ≡ W.failures writer.old) }
+        ensures kept { IfErr result (λ e. IsBeforeWriting e → W.failures writer.new ≡ W.failures writer.old) }
     {
         if self.part.is_empty() {
             return Ok(self.outcome);

@@ -13,6 +13,7 @@
 mod answer_fault;
 mod answering;
 mod generating;
+mod placing;
 mod reporting;
 mod reporting_fault;
 
@@ -27,11 +28,13 @@ pub use ly_generate::{
     GenFault, Report, Specification, parser_tables, read_specification, refusal_is_exact,
     sentences_are_answered, settle, tables_answer_as_specified,
 };
+pub use ly_places::{drive_placed, run_placed};
 pub use ly_print::{AnswerForm, Counted, MemSink, MemSource, Sink, Source};
 pub use ly_report::ConflictCounts;
 pub use ly_tables::{
     FormatFault, SetCounts, TableFault, TableSet, counts, read_tables, write_tables,
 };
 pub use ly_tokens::{TokenEnd, TokensFault, tokens};
+pub use placing::answer_placed;
 pub use reporting::generate_report;
 pub use reporting_fault::ReportingFault;

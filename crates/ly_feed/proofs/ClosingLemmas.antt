@@ -6,8 +6,9 @@ use Rattle.ly_feed.proofs.OnwardLemmas.{settled_on}
 use Rattle.ly_feed.proofs.SettledLemmas.{nothing_more, settled_at_end}
 use Rattle.ly_feed.proofs.StopLemmas.{accepts_last, fails_last, refuses_last}
 use Rattle.ly_feed.specs.Onward.{IsSettled, Onward}
-use Rattle.ly_feed.specs.Private.Flaw.{verdict_of}
-use Rattle.ly_feed.specs.Private.Running.{IsClosed, IsLast, IsRunOn, end_token, progress_of}
+use Rattle.ly_feed.specs.Flaw.{verdict_of}
+use Rattle.ly_feed.specs.Closed.{IsClosed, progress_of}
+use Rattle.ly_feed.specs.Private.Running.{IsLast, IsRunOn, end_token}
 use Rattle.ly_feed.specs.ScanPart.{ScanPart}
 use Rattle.ly_feed.specs.TableAnswer.{IsRest, Progress, end_at}
 use Rattle.ly_feed.specs.Verdict.{Verdict, accepted, faulty, refused}

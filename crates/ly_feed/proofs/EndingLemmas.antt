@@ -6,7 +6,7 @@ use Rattle.ly_base.specs.Lexed.{Place}
 use Rattle.ly_feed.proofs.SettledLemmas.{nothing_more}
 use Rattle.ly_feed.specs.Held.{Held, IsAnswerOf, IsRestOf}
 use Rattle.ly_feed.specs.Private.Feeding.{held_from}
-use Rattle.ly_feed.specs.Private.Running.{IsClosed, IsVerdictOf, progress_of}
+use Rattle.ly_feed.specs.Closed.{IsClosed, IsVerdictOf, progress_of}
 use Rattle.ly_feed.specs.ScanPart.{ScanPart, scan_part_of}
 use Rattle.ly_feed.specs.TableAnswer.{IsRest, Progress}
 use Rattle.ly_feed.specs.TextFault.{IsOfEnding, IsOfWriting}

@@ -11,8 +11,9 @@ use Rattle.ly_feed.proofs.PieceLemmas.{same_end, same_rest, settled_rest}
 use Rattle.ly_feed.specs.Held.{Held, IsOnward, IsOver, IsPiece, TakesPiece, seen}
 use Rattle.ly_feed.specs.Onward.{Onward, and_passes, and_reads, none_yet}
 use Rattle.ly_feed.specs.Private.Feeding.{held_from}
-use Rattle.ly_feed.specs.Private.Flaw.{verdict_of}
-use Rattle.ly_feed.specs.Private.Running.{IsRunOn, progress_of}
+use Rattle.ly_feed.specs.Flaw.{verdict_of}
+use Rattle.ly_feed.specs.Closed.{progress_of}
+use Rattle.ly_feed.specs.Private.Running.{IsRunOn}
 use Rattle.ly_feed.specs.ScanPart.{ScanPart, condition_in, scan_part_of, scanner_in}
 use Rattle.ly_feed.specs.TableAnswer.{Progress}
 use Rattle.ly_feed.specs.Verdict.{IsOutcome, faulty, written_in}
@@ -78,6 +79,11 @@ given_up q r at line condition h same_at same_line same_condition =
     let count : at - q.at ≡ h.passed = omega (arith, same_at, h.at) in
     let rest : drop (at - q.at) q.rest ≡ r.rest = ap (λ n. drop n q.rest) count ∙ sym h.rest in
     λ i. record { line = same_line i; condition = same_condition i; at = same_at i; rest = rest i }
+
+-- a run of a parser over a set's tables is one over these
+pub run_of_set : (p : ScanPart) (w : Progress) (r : Parse) {m k : Machine} → k ≡ m
+    → (result : Result Halt TextFault) → IsRunOn false p k w r result → IsRunOn false p m w r result
+run_of_set p w r same result run = subst (λ x. IsRunOn false p x w r result) same run
 
 -- of a flaw no tree is told
 no_tree : (flaw : Flaw) (o : Outcome) → IsOutcome (verdict_of flaw) o → o ≡ out.Tree → ⊥

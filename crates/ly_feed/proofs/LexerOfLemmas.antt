@@ -14,7 +14,7 @@ use Rattle.ly_base.specs.declared.numbers.RuleNo.{RuleNo}
 use Rattle.ly_base.specs.declared.numbers.StateNo.{StateNo}
 use Rattle.ly_base.specs.declared.scan_action.Emitted.{Emitted}
 use Rattle.ly_base.specs.declared.scan_action.Emitted.TheVariants.{FirstByte, Nothing, Terminal}
-use Rattle.ly_feed.specs.Private.Passing.{ArePassedOver, IsPassedOver}
+use Rattle.ly_feed.specs.Passing.{ArePassedOver, IsPassedOver}
 use Rattle.ly_feed.specs.Private.ScannerOf.{IsScannerOf, is_no_effect, is_passed}
 use Rattle.ly_feed.specs.ScanPart.{cut_in, next_in, scan_part_of, scanner_in, start_in, states_from, states_in}
 use Rattle.ly_feed.specs.ScanPart as part

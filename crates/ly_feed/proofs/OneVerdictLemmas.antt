@@ -16,7 +16,8 @@ use Rattle.ly_parse.specs.FeedingLaws.{FeedsInOneWay}
 use Rattle.ly_parse.proofs.ExpectedListLemmas.{one_list}
 use Rattle.ly_scan.proofs.OneLexingLemmas.{one_lexing}
 
-one_tokens : (p : ScanPart) (q : Place) (ts us : List (Token ℕ)) (e d : End) → AreTokens p q ts e
+-- a text is taken apart into one list of tokens
+pub one_tokens : (p : ScanPart) (q : Place) (ts us : List (Token ℕ)) (e d : End) → AreTokens p q ts e
     → AreTokens p q us d → (ts ≡ us) × (e ≡ d)
 one_tokens p q ts us e d a b =
     let on = one_lexing (scanner_in p) (condition_in p) q a.lexemes b.lexemes e d a.lexed b.lexed in

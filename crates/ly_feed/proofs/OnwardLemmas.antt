@@ -9,7 +9,7 @@ use Rattle.ly_base.specs.declared.lexeme.Lexeme.{Lexeme}
 use Rattle.ly_feed.proofs.RestLemmas.{IsStep, passing, reading, said_back, said_front, token_here}
 use Rattle.ly_feed.specs.Onward.{AreAlike, IsSettled, Onward, and_passes, and_reads, none_yet, passed_on}
 use Rattle.ly_feed.specs.Onward.{read_on}
-use Rattle.ly_feed.specs.Private.Passing.{ArePassedOver}
+use Rattle.ly_feed.specs.Passing.{ArePassedOver}
 use Rattle.ly_feed.specs.ScanPart.{ScanPart, condition_in, scanner_in, terminal_in}
 use Rattle.ly_feed.specs.TableAnswer.{IsRest, IsSaidFrom, IsVerdictBy, Progress, begun, end_at, end_of, with_more}
 use Rattle.ly_feed.specs.Verdict.{Verdict}

@@ -6,7 +6,7 @@ use Rattle.ly_base.specs.declared.scan_action.Emitted.{Emitted}
 use Rattle.ly_base.specs.declared.scan_action.Emitted.TheVariants.{FirstByte, Nothing, Terminal}
 use Rattle.ly_base.proofs.ListLemmas.{All-at}
 use Rattle.ly_base.specs.declared.version.Version.TheVariants.{V2}
-use Rattle.ly_feed.specs.Private.Running.{CanRun}
+use Rattle.ly_feed.specs.Closed.{CanRun}
 use Rattle.ly_feed.specs.ScanPart.{scan_part_of, terminal_by, terminal_in}
 use Rattle.ly_pack.specs.Steady.{IsSteady}
 use Rattle.ly_tables.specs.Ranges.{Counts, IsEmittedWithin, IsScanRule, IsWithinRanges, IsWithinVersion, counts_of}

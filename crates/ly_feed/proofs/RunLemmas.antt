@@ -10,8 +10,9 @@ use Rattle.ly_feed.proofs.OnwardLemmas.{onward_on, passed_onward, settled_on}
 use Rattle.ly_feed.proofs.PieceLemmas.{anything_follows}
 use Rattle.ly_feed.proofs.SettledLemmas.{settled_cut, settled_stuck}
 use Rattle.ly_feed.specs.Onward.{IsSettled, Onward}
-use Rattle.ly_feed.specs.Private.LexerOf.{IsLexerOf}
-use Rattle.ly_feed.specs.Private.Running.{Halts, IsRunOn, progress_of}
+use Rattle.ly_feed.specs.LexerOf.{IsLexerOf}
+use Rattle.ly_feed.specs.Closed.{progress_of}
+use Rattle.ly_feed.specs.Private.Running.{Halts, IsRunOn}
 use Rattle.ly_feed.specs.ScanPart.{ScanPart, scanner_in}
 use Rattle.ly_feed.specs.TableAnswer.{Progress}
 use Rattle.ly_feed.specs.Verdict.{Verdict, faulty, unmatched}
@@ -81,7 +82,8 @@ module _ (ended : Bool) (p : ScanPart) (m : Machine) (w : Progress) where
   settled_there q s v on settled = settled_on ended p m v fed_in_one_way on settled
 
 -- where a run halts before the end of the text
-pub halts_here : (p : ScanPart) (m : Machine) (w : Progress) (r : Parse) (h : Halt) (q : Place)
-    → IsRunOn false p m w r (Ok h) → h ≡ At q
+pub halts_here : (p : ScanPart) (m : Machine) (w : Progress) (r : Parse) (h : Halt) (q : Place) {k : Machine}
+    → k ≡ m → IsRunOn false p k w r (Ok h) → h ≡ At q
     → Onward false p m w (progress_of q r) × IsUndecided (scanner_in p) q × (r.over ≡ false)
-halts_here p m w r h q run is = subst (λ x. IsRunOn false p m w r (Ok x)) is run
+halts_here p m w r h q {k} same run is =
+    subst (λ x. IsRunOn false p m w r (Ok x)) is (subst (λ x. IsRunOn false p x w r (Ok h)) same run)

@@ -11,7 +11,7 @@ use Rattle.ly_feed.proofs.FeedingLemmas.{accepts_end}
 use Rattle.ly_scan.proofs.LexingLemmas.{lexes}
 use Rattle.ly_feed.proofs.RestLemmas.{fed_behind}
 use Rattle.ly_feed.specs.Laws.{HasSomeVerdict}
-use Rattle.ly_feed.specs.Private.Running.{CanRun}
+use Rattle.ly_feed.specs.Closed.{CanRun}
 use Rattle.ly_feed.specs.ScanPart.{ScanPart, condition_in, scan_part_of, scanner_in, terminal_in}
 use Rattle.ly_feed.specs.TableAnswer.{AreTokens, Comes, IsSaidFrom, Progress, begun, end_of, fed_with}
 use Rattle.ly_feed.specs.Verdict.{Verdict, accepted, faulty, refused, unmatched}

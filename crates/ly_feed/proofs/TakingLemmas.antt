@@ -9,8 +9,9 @@ use Rattle.ly_feed.proofs.FeedingLemmas.{not_accepted}
 use Rattle.ly_feed.proofs.RestLemmas.{one_token}
 use Rattle.ly_feed.proofs.SettledLemmas.{settled_fault, settled_refused}
 use Rattle.ly_feed.specs.Onward.{Onward, IsSettled, IsTokenAt, and_passes, and_reads, none_yet}
-use Rattle.ly_feed.specs.Private.Flaw.{verdict_of}
-use Rattle.ly_feed.specs.Private.Running.{IsRefusalAt, IsTaken, progress_of}
+use Rattle.ly_feed.specs.Flaw.{verdict_of}
+use Rattle.ly_feed.specs.Closed.{progress_of}
+use Rattle.ly_feed.specs.Private.Running.{IsRefusalAt, IsTaken}
 use Rattle.ly_feed.specs.ScanPart.{ScanPart, condition_in, scanner_in, terminal_in}
 use Rattle.ly_feed.specs.TableAnswer.{Progress}
 use Rattle.ly_feed.specs.declared.flaw.Flaw.{Flaw}

@@ -36,3 +36,12 @@ json_refused_line v k t ts = json_refusal k t.at ++ json_token v t ++ json_expec
 -- no rule matches at a byte
 abbrev pub json_unmatched_line : ℕ → List ℕ
 json_unmatched_line byte = codes "{\"error\":\"unmatched\",\"byte\":" ++ decimal byte ++ codes "}" ++ newline ∷ []
+
+-- Both with members behind the byte, which tell where it is.
+abbrev pub json_refused_with : Vocabulary → ℕ → Token ℕ → List ℕ → List ℕ → List ℕ
+json_refused_with v k t places ts = json_refusal k t.at ++ (places ++ (json_token v t ++ (json_expected v ts
+    ++ (codes "}" ++ newline ∷ []))))
+
+abbrev pub json_unmatched_with : ℕ → List ℕ → List ℕ
+json_unmatched_with byte places = codes "{\"error\":\"unmatched\",\"byte\":" ++ (decimal byte ++ (places ++ (codes "}"
+    ++ newline ∷ [])))

@@ -1,8 +1,13 @@
+pub mod Closed
 pub mod FeedFaultNames
+pub mod Flaw
 pub mod Held
 pub mod JsonLines
 pub mod Laws
+pub mod LexerOf
+pub mod NameMembers
 pub mod Onward
+pub mod Passing
 pub mod Private
 pub mod ScanPart
 pub mod TableAnswer

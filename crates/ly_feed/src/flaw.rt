@@ -1,4 +1,4 @@
-ghost use Rattle.ly_feed.specs.Private.Flaw.{verdict_of};
+ghost use Rattle.ly_feed.specs.Flaw.{verdict_of};
 ghost use Rattle.ly_feed.specs.Verdict.{IsOutcome};
 
 use crate::outcome::Outcome;
@@ -7,7 +7,7 @@ use ly_parse::Token;
 
 /// The first thing that is wrong with a text.
 #[derive(Drop)]
-pub(crate) enum Flaw<'t> {
+pub enum Flaw<'t> {
     /// A token is refused, or the end, which is a token of terminal 0.
     Refused {
         /// Its number, counted from 1; at the end the number of tokens and 1.
@@ -26,7 +26,7 @@ pub(crate) enum Flaw<'t> {
 
 impl Flaw<'_> {
     /// The outcome that says so.
-    pub(crate) fn into_outcome(self) -> Outcome
+    pub fn into_outcome(self) -> Outcome
         ensures { IsOutcome (verdict_of self.entry) result }
     {
         match self {

@@ -1,15 +1,17 @@
 ghost use Rattle.std.specs.Prelude.{◌≡◌, ◌++◌, IfOk, OnOk, map};
-ghost use Rattle.ly_feed.specs.JsonLines.{behind_commas, json_expected, json_names, json_refusal, json_token};
-ghost use Rattle.ly_feed.specs.JsonLines.{json_unmatched_line};
-ghost use Rattle.ly_feed.specs.Private.Flaw.{token_of, verdict_of};
+ghost use Rattle.ly_feed.specs.JsonLines.{behind_commas, json_expected, json_names, json_refusal, json_refused_with};
+ghost use Rattle.ly_feed.specs.JsonLines.{json_token, json_unmatched_with};
+ghost use Rattle.ly_feed.specs.Flaw.{token_of, verdict_of};
 ghost use Rattle.ly_feed.specs.Private.Running.{words_of};
 ghost use Rattle.ly_feed.specs.Verdict.{json_printed};
+ghost use Rattle.ly_feed.specs.Vocabularies.{vocabulary_of};
 
 use crate::flaw::Flaw;
 use crate::names::Names;
 use ly_base::{OutOfMemory, Sym};
 use ly_parse::Token;
 use ly_print::{push_json_content, push_json_name};
+use ly_tables::TableSet;
 use std::alloc::Global;
 use std::io::Write;
 
@@ -26,15 +28,60 @@ pub(crate) fn json_line(
             number,
             token,
             expected,
-        } => {
-            let mut line = refusal(alloc, *number, token.at)?;
-            push_token(&mut line, names, token)?;
-            push_expected(&mut line, names, expected)?;
-            line.extend_from_slice(b"}\n")?;
-            Ok(line)
-        }
-        Flaw::NoRule { byte } => unmatched_line(alloc, *byte),
+        } => refused_line(alloc, names, *number, token, b"", expected),
+        Flaw::NoRule { byte } => json_unmatched_line(alloc, *byte, b""),
     }
+}
+
+/// The line of JSON that says that a token is refused, or the end, by its number, which counts from 1. These members
+/// stand behind its byte, and tell where it is.
+///
+/// It fails where memory runs out.
+pub fn json_refused_line(
+    alloc: Global,
+    set: &TableSet,
+    number: u64,
+    token: &Token<'_>,
+    places: &[u8],
+    expected: &[Sym],
+) -> Result<Vec<u8>, OutOfMemory>
+    ensures { IfOk result (λ line. line.items ≡ json_refused_with (vocabulary_of set.now) number (token_of token.now)
+        places.now (map (λ t. t.0) expected.now)) }
+{
+    refused_line(alloc, &Names::of(set), number, token, places, expected)
+}
+
+/// The line of JSON that says at which byte no rule matches. These members stand behind it, and tell where it is.
+///
+/// It fails where memory runs out.
+pub fn json_unmatched_line(alloc: Global, byte: u64, places: &[u8]) -> Result<Vec<u8>, OutOfMemory>
+    ensures { IfOk result (λ line. line.items ≡ json_unmatched_with byte places.now) }
+{
+    let mut line = Vec::new(alloc);
+    write!(line, "{{\"error\":\"unmatched\",\"byte\":{byte}").map_err(|_| OutOfMemory)?;
+    line.extend_from_slice(places)?;
+    line.extend_from_slice(b"}\n")?;
+    Ok(line)
+}
+
+/// The line of a token that is refused, by these names.
+fn refused_line(
+    alloc: Global,
+    names: &Names<'_>,
+    number: u64,
+    token: &Token<'_>,
+    places: &[u8],
+    expected: &[Sym],
+) -> Result<Vec<u8>, OutOfMemory>
+    ensures { IfOk result (λ line. line.items ≡ json_refused_with (words_of names.now) number (token_of token.now)
+        places.now (map (λ t. t.0) expected.now)) }
+{
+    let mut line = refusal(alloc, number, token.at)?;
+    line.extend_from_slice(places)?;
+    push_token(&mut line, names, token)?;
+    push_expected(&mut line, names, expected)?;
+    line.extend_from_slice(b"}\n")?;
+    Ok(line)
 }
 
 /// What says that a token is refused, or the end, by its number, which counts from 1, and its byte.
@@ -105,13 +152,4 @@ fn push_behind_commas(
         push_json_name(line, names.of_terminal(terminal))?;
     }
     Ok(())
-}
-
-/// The line of JSON that says at which byte no rule matches.
-fn unmatched_line(alloc: Global, byte: u64) -> Result<Vec<u8>, OutOfMemory>
-    ensures { IfOk result (λ line. line.items ≡ json_unmatched_line byte) }
-{
-    let mut line = Vec::new(alloc);
-    writeln!(line, "{{\"error\":\"unmatched\",\"byte\":{byte}}}").map_err(|_| OutOfMemory)?;
-    Ok(line)
 }

@@ -3,23 +3,24 @@ ghost use Rattle.std.proofs.Props.{props};
 ghost use Rattle.ly_base.specs.Shape.{shape_of};
 ghost use Rattle.ly_feed.specs.Private.Labels.{constructors_of, leaf_label, node_label, AreLabels};
 ghost use Rattle.ly_feed.specs.Vocabularies.{constructor_in, constructor_of, name_in};
+ghost use Rattle.ly_feed.specs.declared.label_form.LabelForm as form;
+ghost use Rattle.ly_feed.specs.declared.label_form.LabelForm.TheVariants.{Json, Plain};
 ghost use Rattle.ly_feed.specs.declared.names.Names as names;
 ghost use Rattle.ly_pack.specs.Values.{rule_from};
-ghost use Rattle.ly_print.specs.declared.answer_form.AnswerForm as form;
-ghost use Rattle.ly_print.specs.declared.answer_form.AnswerForm.TheVariants.{Json, Plain};
 ghost use Rattle.ly_print.specs.Json.{json_name};
 ghost use Rattle.ly_tree.specs.Json.{as_json};
 
+use crate::label_form::LabelForm;
 use crate::names::Names;
 use ly_base::{OutOfMemory, RuleNo, RuleTree, Sym};
 use ly_pack::TableRule;
-use ly_print::{AnswerForm, Front, Label, Sink, Terminal, TextWriter, WriteFault, push_json_name};
+use ly_print::{Front, Label, Sink, Terminal, TextWriter, WriteFault, push_json_name};
 use ly_tree::{MostBytes, TermNotation, Words};
 use std::alloc::Global;
 
-/// What stands before the texts of leaves and the children of nodes, in an answer of some form.
+/// What stands before the texts of leaves and the children of nodes, in some form.
 #[derive(Drop)]
-struct Labels {
+pub(crate) struct Labels {
     /// The label of each terminal's leaves.
     leaves: Vec<Label>,
     /// The label of each rule's nodes. That of rule 0, which has no constructor, is the first.
@@ -32,7 +33,11 @@ struct Labels {
 
 impl Labels {
     /// The labels of these names. It fails where memory runs out.
-    fn new(alloc: Global, names: Names<'_>, form: AnswerForm) -> Result<Labels, OutOfMemory>
+    pub(crate) fn new(
+        alloc: Global,
+        names: Names<'_>,
+        form: LabelForm,
+    ) -> Result<Labels, OutOfMemory>
         ensures { IfOk result (AreLabels form names.entry) }
     {
         Ok(Labels {
@@ -44,8 +49,8 @@ impl Labels {
     }
 
     /// The label of a terminal's leaves.
-    fn leaf(&self, terminal: Sym) -> &Label
-        ensures { (form : form.AnswerForm) (names : names.Names) → AreLabels form names self.now
+    pub(crate) fn leaf(&self, terminal: Sym) -> &Label
+        ensures { (form : form.LabelForm) (names : names.Names) → AreLabels form names self.now
             → result.now ≡ leaf_label form (name_in (map (λ name. name.items) names.terminals.now) terminal.0) }
     {
         match self.leaves.get(terminal.0 as usize) {
@@ -55,8 +60,8 @@ impl Labels {
     }
 
     /// The label of a rule's nodes.
-    fn node(&self, rule: RuleNo) -> &Label
-        ensures { (form : form.AnswerForm) (names : names.Names) → AreLabels form names self.now
+    pub(crate) fn node(&self, rule: RuleNo) -> &Label
+        ensures { (form : form.LabelForm) (names : names.Names) → AreLabels form names self.now
             → result.now ≡ node_label form (constructor_in (map rule_from names.rules.now) rule.0) }
     {
         match self.nodes.get(rule.0 as usize) {
@@ -66,10 +71,10 @@ impl Labels {
     }
 
     /// A length that none of them passes.
-    fn longest(&self) -> usize
-        ensures leaves { (form : form.AnswerForm) (names : names.Names) → AreLabels form names self.now → (t : ℕ)
+    pub(crate) fn longest(&self) -> usize
+        ensures leaves { (form : form.LabelForm) (names : names.Names) → AreLabels form names self.now → (t : ℕ)
             → length (leaf_label form (name_in (map (λ name. name.items) names.terminals.now) t)) ≤ result }
-        ensures nodes { (form : form.AnswerForm) (names : names.Names) → AreLabels form names self.now → (p : ℕ)
+        ensures nodes { (form : form.LabelForm) (names : names.Names) → AreLabels form names self.now → (p : ℕ)
             → length (node_label form (constructor_in (map rule_from names.rules.now) p)) ≤ result }
     {
         let named = longest_of(&self.leaves).max(longest_of(&self.nodes));
@@ -97,7 +102,7 @@ impl<'a> TermLabels<'a> {
     {
         Ok(TermLabels {
             names,
-            labels: Labels::new(alloc, names, AnswerForm::Plain)?,
+            labels: Labels::new(alloc, names, LabelForm::Plain)?,
         })
     }
 }
@@ -138,7 +143,7 @@ impl<'a> JsonLabels<'a> {
     {
         Ok(JsonLabels {
             names,
-            labels: Labels::new(alloc, names, AnswerForm::Json)?,
+            labels: Labels::new(alloc, names, LabelForm::Json)?,
         })
     }
 }
@@ -181,11 +186,7 @@ impl TermNotation for JsonLabels<'_> {
 }
 
 /// The label of each terminal's leaves. It fails where memory runs out.
-fn leaf_labels(
-    alloc: Global,
-    names: &[Vec<u8>],
-    form: AnswerForm,
-) -> Result<Vec<Label>, OutOfMemory>
+fn leaf_labels(alloc: Global, names: &[Vec<u8>], form: LabelForm) -> Result<Vec<Label>, OutOfMemory>
     ensures { IfOk result (λ labels. labels.items ≡ map (leaf_label form) (map (λ name. name.items) names.now)) }
 {
     let mut labels = Vec::with_capacity(alloc, names.len())?;
@@ -199,7 +200,7 @@ fn leaf_labels(
 fn node_labels(
     alloc: Global,
     rules: &[TableRule],
-    form: AnswerForm,
+    form: LabelForm,
 ) -> Result<Vec<Label>, OutOfMemory>
     ensures { IfOk result (λ labels. labels.items ≡ map (node_label form) (constructors_of (map rule_from rules.now))) }
 {
@@ -211,27 +212,29 @@ fn node_labels(
 }
 
 /// The label of a terminal's leaves, by its name. It fails where memory runs out.
-fn leaf_label(alloc: Global, name: &[u8], form: AnswerForm) -> Result<Label, OutOfMemory>
+fn leaf_label(alloc: Global, name: &[u8], form: LabelForm) -> Result<Label, OutOfMemory>
     ensures { IfOk result (λ label. label ≡ leaf_label form name.now) }
 {
     match form {
-        AnswerForm::Plain => Ok(Label::before_leaf(alloc, Terminal::Token(name))?),
-        AnswerForm::Json => json_label(alloc, b"{\"token\":", name, b","),
+        LabelForm::Plain => Ok(Label::before_leaf(alloc, Terminal::Token(name))?),
+        LabelForm::Json => json_label(alloc, b"{\"token\":", name, b","),
+        LabelForm::Name => json_label(alloc, b"{\"token\":", name, b""),
     }
 }
 
 /// The label of a constructor's nodes. It fails where memory runs out.
-fn node_label(alloc: Global, constructor: &[u8], form: AnswerForm) -> Result<Label, OutOfMemory>
+fn node_label(alloc: Global, constructor: &[u8], form: LabelForm) -> Result<Label, OutOfMemory>
     ensures { IfOk result (λ label. label ≡ node_label form constructor.now) }
 {
     match form {
-        AnswerForm::Plain => {
+        LabelForm::Plain => {
             let mut text = Vec::new(alloc);
             text.extend_from_slice(constructor)?;
             text.push(b'(')?;
             Ok(Label::new(text)?)
         }
-        AnswerForm::Json => json_label(alloc, b"{\"node\":", constructor, b",\"children\":["),
+        LabelForm::Json => json_label(alloc, b"{\"node\":", constructor, b",\"children\":["),
+        LabelForm::Name => json_label(alloc, b"{\"node\":", constructor, b""),
     }
 }
 

@@ -5,7 +5,7 @@ ghost use Rattle.std.specs.Prelude.{None, Some};
 ghost use Rattle.ly_base.specs.declared.numbers.StateNo as number;
 ghost use Rattle.ly_base.specs.declared.version.Version.TheVariants.{V2};
 ghost use Rattle.ly_feed.specs.ScanPart.{scan_part_of, scanner_in, states_from};
-ghost use Rattle.ly_feed.specs.Private.LexerOf.{IsLexerOf};
+ghost use Rattle.ly_feed.specs.LexerOf.{IsLexerOf};
 ghost use Rattle.ly_feed.specs.Private.ScannerOf.{is_passed, IsScannerOf};
 ghost use Rattle.ly_pack.specs.Rows.{comb_entry, Used};
 ghost use Rattle.ly_scan.specs.Lexers.{scanner_of};
@@ -20,7 +20,7 @@ use ly_tables::{ScanRule, TableSet};
 use std::alloc::Global;
 
 /// The lexer of a table set. It fails where memory runs out.
-pub(crate) fn lexer_of(alloc: Global, set: &TableSet) -> Result<Lexer, OutOfMemory>
+pub fn lexer_of(alloc: Global, set: &TableSet) -> Result<Lexer, OutOfMemory>
     ensures { IfOk result (IsLexerOf (scan_part_of set.now)) }
 {
     let scanner = scanner_of(alloc, set)?;

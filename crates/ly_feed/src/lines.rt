@@ -4,8 +4,9 @@ ghost use Rattle.ly_base.specs.Bytes.{newline};
 ghost use Rattle.ly_print.specs.Device.{next_count};
 ghost use Rattle.ly_print.specs.Text.{no_rule_line};
 ghost use Rattle.ly_print.specs.TextWriter.{IsCutShort};
-ghost use Rattle.ly_feed.specs.Private.Flaw.{token_of, verdict_of};
-ghost use Rattle.ly_feed.specs.Private.Running.{words_of, IsThere, IsVerdictOf};
+ghost use Rattle.ly_feed.specs.Flaw.{token_of, verdict_of};
+ghost use Rattle.ly_feed.specs.Closed.{IsThere, IsVerdictOf};
+ghost use Rattle.ly_feed.specs.Private.Running.{words_of};
 ghost use Rattle.ly_feed.specs.TextFault.{IsBeforeWriting, IsOfWriting, IsWrite};
 ghost use Rattle.ly_feed.specs.Verdict.{accepted, expected_line, printed, syntax_line, written_in, IsOutcome, Verdict};
 ghost use Rattle.ly_feed.specs.Vocabularies.{vocabulary_of};
@@ -45,7 +46,8 @@ pub(crate) fn write_ended<W: Sink>(
         × Appends (W.contents writer.old) (W.contents writer.new) (written_in form (vocabulary_of set.now) v)) }
     ensures beginning { (written : ℕ) (v : Verdict) → result ≡ Err (TextFault.Write written)
         → IsVerdictOf forest.now ended.entry v
-        → IsCutShort (W.contents writer.old) (W.contents writer.new) written (written_in form (vocabulary_of set.now) v) }
+        → IsCutShort (W.contents writer.old) (W.contents writer.new) written
+        (written_in form (vocabulary_of set.now) v) }
     ensures of_writing { IfErr result IsOfWriting }
     ensures write { IfErr result (λ e. IsWrite e → W.failures writer.new ≡ next_count (W.failures writer.old)) }
     ensures writer_held { OnOk result (W.failures writer.new ≡ W.failures writer.old) }

@@ -6,7 +6,7 @@ use ly_base::{Emitted, RuleNo, ScanAction, Sym};
 use ly_tables::TableSet;
 
 /// What happens where a rule matches: nothing, if there is no such rule.
-pub(crate) fn action(set: &TableSet, rule: RuleNo) -> ScanAction
+pub fn action(set: &TableSet, rule: RuleNo) -> ScanAction
     ensures begin { result.begin ≡ condition_in (scan_part_of set.now) rule.0 }
     ensures emits { (bytes : List ℕ) → terminal_by (scan_part_of set.now) bytes result.emits
         ≡ terminal_in (scan_part_of set.now) rule.0 bytes }
@@ -21,7 +21,7 @@ pub(crate) fn action(set: &TableSet, rule: RuleNo) -> ScanAction
 }
 
 /// The terminal of a token of these bytes, if one comes of them.
-pub(crate) fn terminal(set: &TableSet, emits: Emitted, bytes: &[u8]) -> Option<Sym>
+pub fn terminal(set: &TableSet, emits: Emitted, bytes: &[u8]) -> Option<Sym>
     requires { 0 < length bytes.now }
     ensures { option_map (λ t. t.0) result ≡ terminal_by (scan_part_of set.now) bytes.now emits }
 {

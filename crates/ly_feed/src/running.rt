@@ -1,11 +1,11 @@
 ghost use Rattle.std.specs.Prelude.{◌≡◌, ◌<◌, ◌≤◌, ℕ, List, [], Bool, IfOk, length, false};
-ghost use Rattle.ly_feed.specs.Private.LexerOf.{IsLexerOf};
-ghost use Rattle.ly_feed.specs.Private.Running.{progress_of, CanRun, HasToken, IsClosed, IsLast, IsRefusalAt};
+ghost use Rattle.ly_feed.specs.LexerOf.{IsLexerOf};
+ghost use Rattle.ly_feed.specs.Closed.{progress_of, CanRun, IsClosed};
+ghost use Rattle.ly_feed.specs.Private.Running.{HasToken, IsLast, IsRefusalAt};
 ghost use Rattle.ly_feed.specs.Private.Running.{IsRunOn, IsTaken};
 ghost use Rattle.ly_feed.specs.ScanPart.{scan_part_of, scanner_in, terminal_by, terminal_in};
 ghost use Rattle.ly_parse.specs.Parse.{IsTellable};
 ghost use Rattle.ly_scan.specs.Pieces.{StandsFast};
-ghost use Rattle.ly_tables.specs.TableSet.{machine_of};
 
 use crate::flaw::Flaw;
 use crate::meaning::{action, terminal};
@@ -19,8 +19,8 @@ use ly_tables::TableSet;
 use ly_tree::TermRef;
 use std::alloc::Global;
 
-/// The parser of a table set.
-pub(crate) type TableParser<'a> = Parser<'a, Comb<TableAction>, Comb<StateNo>>;
+/// A parser over the tables of a table set; its rules may make other terms than the set's.
+pub type TableParser<'a> = Parser<'a, Comb<TableAction>, Comb<StateNo>>;
 
 /// How far a run over what has come of a text gets.
 #[derive(Drop)]
@@ -43,10 +43,9 @@ pub(crate) fn run_on<'t>(
     ended: bool,
 ) -> Result<Halt<'t>, TextFault>
     requires lexer { IsLexerOf (scan_part_of set.now) lexer.now }
-    requires runs { CanRun (scan_part_of set.now) (machine_of set.now) }
-    requires machine { parser.old.machine ≡ machine_of set.now }
+    requires runs { CanRun (scan_part_of set.now) parser.old.machine }
     requires goes_on { parser.old.over ≡ false }
-    ensures runs { IsRunOn ended (scan_part_of set.now) (machine_of set.now) (progress_of place.entry parser.old)
+    ensures runs { IsRunOn ended (scan_part_of set.now) parser.old.machine (progress_of place.entry parser.old)
         parser.new result }
     ensures machine { parser.new.machine ≡ parser.old.machine }
 {
@@ -84,15 +83,14 @@ fn take(
     lexeme: Lexeme,
     emits: Emitted,
 ) -> Answer
-    requires runs { CanRun (scan_part_of set.now) (machine_of set.now) }
-    requires machine { parser.old.machine ≡ machine_of set.now }
+    requires runs { CanRun (scan_part_of set.now) parser.old.machine }
     requires goes_on { parser.old.over ≡ false }
     requires some { 1 ≤ lexeme.taken }
     requires within { lexeme.taken ≤ length place.now.rest }
     requires emits { (bytes : List ℕ) → terminal_by (scan_part_of set.now) bytes emits
         ≡ terminal_in (scan_part_of set.now) lexeme.rule.0 bytes }
     ensures taken { (ended : Bool) → StandsFast ended (scanner_in (scan_part_of set.now)) place.now lexeme
-        → IsTaken ended (scan_part_of set.now) (machine_of set.now) (progress_of place.now parser.old) lexeme parser.new
+        → IsTaken ended (scan_part_of set.now) parser.old.machine (progress_of place.now parser.old) lexeme parser.new
         result }
     ensures machine { parser.new.machine ≡ parser.old.machine }
 {
@@ -134,15 +132,18 @@ fn refusal<'t>(
 
 /// What comes of a text that has ended.
 #[derive(Drop)]
-pub(crate) enum Ended<'t> {
+pub enum Ended<'t> {
     /// It has this term in the parser's forest.
     Accepted(TermRef),
     /// This is wrong with it.
     Refused(Flaw<'t>),
 }
 
-/// Runs scanner and parser from a place to the end of the text, which stands behind the bytes that are left there.
-pub(crate) fn run_to_end<'t>(
+/// Runs scanner and parser from a place to the end of the text, which stands behind the bytes that are left there. What
+/// is said of the text is what the parser's tables say.
+///
+/// It fails with `FaultyTables`, and with `OutOfMemory`.
+pub fn run_to_end<'t>(
     alloc: Global,
     set: &TableSet,
     lexer: &Lexer,
@@ -150,10 +151,9 @@ pub(crate) fn run_to_end<'t>(
     place: Place<'t>,
 ) -> Result<Ended<'t>, TextFault>
     requires lexer { IsLexerOf (scan_part_of set.now) lexer.now }
-    requires runs { CanRun (scan_part_of set.now) (machine_of set.now) }
-    requires machine { parser.old.machine ≡ machine_of set.now }
+    requires runs { CanRun (scan_part_of set.now) parser.old.machine }
     requires goes_on { parser.old.over ≡ false }
-    ensures closed { IsClosed (scan_part_of set.now) (machine_of set.now) (progress_of place.entry parser.old)
+    ensures closed { IsClosed (scan_part_of set.now) parser.old.machine (progress_of place.entry parser.old)
         parser.new.forest result }
     ensures machine { parser.new.machine ≡ parser.old.machine }
 {

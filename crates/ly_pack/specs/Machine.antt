@@ -27,6 +27,10 @@ pub record Machine : Type 0 where
   pub gotos : Grid ℕ
   pub rules : List TableRule
 
+-- the same tables with other rules
+abbrev pub with_rules : Machine → List TableRule → Machine
+with_rules m rules = record m { rules = rules }
+
 -- how many states there are
 abbrev pub states_of : Machine → ℕ
 states_of m = length m.defaults

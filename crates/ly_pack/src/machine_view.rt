@@ -1,6 +1,6 @@
 ghost use Rattle.std.specs.Prelude.{◌≡◌, ◌<◌, length, map, slice_get, Some, option_map};
 ghost use Rattle.ly_pack.specs.Machine.{action_of, entry_at, goto_at, states_of, IsMachine, IsRuleNumber, IsTableRule};
-ghost use Rattle.ly_pack.specs.Machine.{HaveSizes, AreEntriesWithin};
+ghost use Rattle.ly_pack.specs.Machine.{with_rules, HaveSizes, AreEntriesWithin};
 ghost use Rattle.ly_pack.specs.Rows.{grid_of};
 ghost use Rattle.ly_pack.specs.Values.{action_from, actions_from, gotos_from, machine_from, rule_from};
 
@@ -69,6 +69,21 @@ impl<'a, A: Rows<TableAction> + Drop, G: Rows<StateNo> + Drop> MachineView<'a, A
             actions,
             gotos,
             defaults,
+            rules,
+        }
+    }
+
+    /// The same tables with other rules.
+    pub fn with_rules(&self, rules: &'a [TableRule]) -> Self
+        requires { IsMachine (with_rules self.now (map rule_from rules.now)) }
+        ensures { result ≡ with_rules self.now (map rule_from rules.now) }
+    {
+        MachineView {
+            terminals: self.terminals,
+            nonterminals: self.nonterminals,
+            actions: self.actions,
+            gotos: self.gotos,
+            defaults: self.defaults,
             rules,
         }
     }

@@ -42,6 +42,11 @@ abbrev pub numbers : List ℕ → List ℕ
 numbers [] = []
 numbers (n ∷ ns) = decimal n ++ flat_map other_number ns
 
+-- an offset of a text, with its line and its column, as `[4,1,5]`
+abbrev pub json_located : ℕ → ℕ → ℕ → List ℕ
+json_located offset line column = codes "[" ++ (decimal offset ++ (codes "," ++ (decimal line ++ (codes ","
+    ++ (decimal column ++ codes "]")))))
+
 -- a text as the member of an object, and bytes
 abbrev pub text_member : List ℕ → List ℕ
 text_member text = codes "\"text\":" ++ json_string text

@@ -1,13 +1,14 @@
-ghost use Rattle.std.specs.Prelude.{◌≡◌, ◌<◌, ◌≤◌, ◌+◌, ◌*◌, ◌++◌, ◌∷◌, [], length, take, OnOk};
+ghost use Rattle.std.specs.Prelude.{◌≡◌, ◌<◌, ◌≤◌, ◌+◌, ◌*◌, ◌++◌, ◌∷◌, [], length, take, OnErr, OnOk};
 ghost use Rattle.std.specs.Bool.{OnTrue};
 ghost use Rattle.std.specs.Fmt.{decimal};
 ghost use Rattle.std.specs.Str.{is_utf8};
-ghost use Rattle.ly_print.specs.Json.{control_escape, json_content, json_name, json_string, numbers, other_number};
-ghost use Rattle.ly_print.specs.Json.{string_body, string_byte};
+ghost use Rattle.ly_print.specs.Json.{control_escape, json_content, json_located, json_name, json_string, numbers};
+ghost use Rattle.ly_print.specs.Json.{other_number, string_body, string_byte};
 
 use crate::front::BLOCK;
 use crate::room::{hex_digit, put, put_bytes, put_plain};
 use itoa::Buffer;
+use ly_base::Location;
 use std::alloc::AllocError;
 
 /// How many bytes of a string are written at a time.
@@ -15,6 +16,9 @@ const STRETCH: usize = 64;
 
 /// How much room so many bytes of a string take at most, with a block behind them.
 const STRETCH_ROOM: usize = 400;
+
+/// How many bytes an offset with its location takes at most.
+pub(crate) const LOCATION_ROOM: usize = 64;
 
 /// Appends a name as a JSON string. Each of its bytes is the character of that number: one above 127 is two bytes of
 /// UTF-8.
@@ -49,6 +53,23 @@ pub fn push_json_content(out: &mut Vec<u8>, text: &[u8]) -> Result<(), AllocErro
         out.push(b']')?;
     }
     Ok(())
+}
+
+/// Appends an offset of a text with its location, as `[4,1,5]`.
+///
+/// It fails where memory runs out, and then nothing is appended.
+pub fn push_json_location(
+    out: &mut Vec<u8>,
+    offset: u64,
+    location: Location,
+) -> Result<(), AllocError>
+    ensures ok { OnOk result
+        (out.new.items ≡ out.old.items ++ json_located offset location.line location.column) }
+    ensures err { OnErr result (out.new.items ≡ out.old.items) }
+{
+    let mut room = [0u8; LOCATION_ROOM];
+    let end = put_location(&mut room, 0, offset, location);
+    out.extend_from_slice(&room[..end])
 }
 
 /// Whether bytes are UTF-8.
@@ -178,4 +199,30 @@ pub(crate) fn put_other_number(room: &mut [u8], at: usize, byte: u8) -> usize
 {
     let end = put(room, at, b',');
     put_number(room, end, byte)
+}
+
+/// Writes an offset of a text with its location from a place on, as `[4,1,5]`, and answers where it ends.
+pub(crate) fn put_location(room: &mut [u8], at: usize, offset: u64, location: Location) -> usize
+    requires { at + 64 ≤ length room.old }
+    ensures bytes { take result room.new
+        ≡ take at room.old ++ json_located offset location.line location.column }
+    ensures within { result ≤ at + 64 }
+    ensures room { length room.new ≡ length room.old }
+{
+    let counted = put_marked(room, at, b'[', offset);
+    let lined = put_marked(room, counted, b',', location.line);
+    let columned = put_marked(room, lined, b',', location.column);
+    put(room, columned, b']')
+}
+
+/// Writes a mark and a number behind it from a place on, and answers where they end.
+fn put_marked(room: &mut [u8], at: usize, mark: u8, number: u64) -> usize
+    requires { at + 21 ≤ length room.old }
+    ensures bytes { take result room.new ≡ take at room.old ++ mark ∷ decimal number }
+    ensures within { result ≤ at + 21 }
+    ensures room { length room.new ≡ length room.old }
+{
+    let mut digits = Buffer::new();
+    let marked = put(room, at, mark);
+    put_bytes(room, marked, digits.format(number).as_bytes())
 }

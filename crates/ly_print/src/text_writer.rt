@@ -3,7 +3,7 @@ ghost use Rattle.std.specs.Prelude.{IfOk, IfErr, OnOk, OnErr, MatchResult};
 ghost use Rattle.std.specs.Io.KnownBytes.{Appends};
 ghost use Rattle.std.specs.List.{flat_map};
 ghost use Rattle.ly_print.specs.Device.{next_count};
-ghost use Rattle.ly_print.specs.Json.{bytes_member, json_content, numbers, string_body, text_member};
+ghost use Rattle.ly_print.specs.Json.{bytes_member, json_content, json_located, numbers, string_body, text_member};
 ghost use Rattle.ly_print.specs.Private.ByteForm.{written_as};
 ghost use Rattle.ly_print.specs.Text.{no_rule_line, quoted, quoted_line};
 ghost use Rattle.ly_print.specs.TextWriter.{bytes_of, IsAppended, IsCutShort, IsUnderway};
@@ -11,13 +11,16 @@ ghost use Rattle.ly_print.specs.TextWriter.{bytes_of, IsAppended, IsCutShort, Is
 use crate::byte_form::{BYTE_ROOM, ByteForm, put_byte};
 use crate::device::Sink;
 use crate::front::Front;
-use crate::json::{fits_in_string, is_utf8, put_number, put_string_body};
+use crate::json::{
+    LOCATION_ROOM, fits_in_string, is_utf8, put_location, put_number, put_string_body,
+};
 use crate::label::Label;
 use crate::room::{
     NO_RULE_ROOM, SHORT_ROOM, fits, put, put_bytes, put_front_of, put_no_rule_line, put_quoted,
     put_short,
 };
 use crate::whole::{WriteFault, write_whole};
+use ly_base::Location;
 use std::alloc::{AllocError, Global};
 use std::marker::Model;
 
@@ -211,6 +214,28 @@ impl TextWriter {
         } else {
             self.push_json_bytes(writer, text.bytes())
         }
+    }
+
+    /// Appends an offset of a text with its location, as `[4,1,5]`.
+    ///
+    /// It fails where the writer does.
+    pub fn push_json_location<W: Sink>(
+        &mut self,
+        writer: &mut W,
+        offset: u64,
+        location: Location,
+    ) -> Result<(), WriteFault>
+        requires countable { bytes_of self.old + length (json_located offset location.line location.column) < 2 ^ 64 }
+        ensures text { IsAppended self.old self.new (W.contents writer.old) (W.contents writer.new)
+            (json_located offset location.line location.column) result }
+        ensures counted { OnOk result (bytes_of self.new
+            ≡ bytes_of self.old + length (json_located offset location.line location.column)) }
+        ensures no_failure { OnOk result (W.failures writer.new ≡ W.failures writer.old) }
+        ensures failed { OnErr result (W.failures writer.new ≡ next_count (W.failures writer.old)) }
+    {
+        let mut room = [0u8; LOCATION_ROOM];
+        let end = put_location(&mut room, 0, offset, location);
+        self.push_bytes(writer, &room[..end])
     }
 
     /// Appends the line that says at which byte no rule matches, counted from 0.

@@ -1,11 +1,16 @@
 -- A text has one answer under the bytes of a lex file.
 use Rattle.std.proofs.Common.{◌≡◌, ℕ, zero, suc, List, [], ◌∷◌, ◌++◌, Option, Some, None, refl, sym, ap, ap₂, ◌∙◌}
-use Rattle.std.proofs.Common.{◌+◌, subst, take, drop}
+use Rattle.std.proofs.Common.{◌+◌, option_map, subst, take, drop}
 use Rattle.std.specs.Prelude.{slice_index}
 use Rattle.ly_ere.specs.Names.{defined}
 use Rattle.ly_base.specs.Lexed.{start_of, token_if, tokens_from}
-use Rattle.ly_print.specs.Text.{Terminal}
+use Rattle.ly_listing.specs.Listings as listings
+use Rattle.ly_listing.specs.Listings.{token_lines}
+use Rattle.ly_print.specs.Text.{Terminal, name_of}
+use Rattle.ly_print.specs.declared.answer_form.AnswerForm.{AnswerForm}
+use Rattle.ly_print.specs.declared.answer_form.AnswerForm.TheVariants.{Json, Plain}
 use Rattle.ly_print.specs.Text as text
+use Rattle.ly_base.specs.declared.lexeme.End.{End}
 use Rattle.ly_base.specs.declared.lexeme.Lexeme.{Lexeme}
 use Rattle.ly_lexread.specs.Action.{Meaning, nothing, token, literal_of, first_byte, meaning_of}
 use Rattle.ly_lexread.specs.LexText.{AreSameActions}
@@ -15,7 +20,7 @@ use Rattle.ly_lexread.specs.declared.action.Returned.TheVariants.{Nothing, Token
 use Rattle.ly_lexread.proofs.FileLemmas.{lex_text_one, rules_cut}
 use Rattle.ly_lexread.proofs.LexingLaws.{lexing_one}
 use Rattle.ly_lexread.proofs.SameLemmas.{lexing_under}
-use Rattle.ly_tokens.specs.Answering.{IsAnswer}
+use Rattle.ly_tokens.specs.Answering.{IsAnswer, lines_in, names_by}
 use Rattle.ly_tokens.specs.Laws.{AnswerIsOne}
 use Rattle.ly_tokens.specs.Printing.{condition_set, end_line, naming, printed, terminal_for}
 
@@ -50,29 +55,38 @@ naming_same (x ∷ xs) (y ∷ ys) h zero bytes = terminal_by_meaning x.returns b
     ∙ (ap (λ m. terminal_meant m bytes) h.1 ∙ sym (terminal_by_meaning y.returns bytes))
 naming_same (x ∷ xs) (y ∷ ys) h (suc i) bytes = naming_same xs ys h.2 i bytes
 
-tokens_same : (xs ys : List LexAction) → AreSameActions xs ys → (at : ℕ) (rest : List ℕ) (ts : List Lexeme)
-    → tokens_from (naming xs) at rest ts ≡ tokens_from (naming ys) at rest ts
-tokens_same xs ys h at rest [] = refl
-tokens_same xs ys h at rest (t ∷ ts) = ap₂ ◌++◌
-    (ap (λ o. token_if o at (take t.taken rest)) (naming_same xs ys h t.rule.0 (take t.taken rest)))
-    (tokens_same xs ys h (at + t.taken) (drop t.taken rest) ts)
+-- tokens that are named alike are the same
+tokens_alike : {T : Type 0} (f g : ℕ → List ℕ → Option T) → ((i : ℕ) (bytes : List ℕ) → f i bytes ≡ g i bytes)
+    → (at : ℕ) (rest : List ℕ) (ts : List Lexeme) → tokens_from f at rest ts ≡ tokens_from g at rest ts
+tokens_alike f g h at rest [] = refl
+tokens_alike f g h at rest (t ∷ ts) = ap₂ ◌++◌
+    (ap (λ o. token_if o at (take t.taken rest)) (h t.rule.0 (take t.taken rest)))
+    (tokens_alike f g h (at + t.taken) (drop t.taken rest) ts)
+
+-- so are their lines
+lines_same : (form : AnswerForm) (xs ys : List LexAction) → AreSameActions xs ys → (text : List ℕ) (ts : List Lexeme)
+    (e : End) → lines_in form xs text ts e ≡ lines_in form ys text ts e
+lines_same Plain xs ys h text ts e = ap (λ l. printed l ++ end_line e)
+    (tokens_alike (naming xs) (naming ys) (naming_same xs ys h) 0 text ts)
+lines_same Json xs ys h text ts e = ap (λ l. token_lines Json text l ++ listings.end_line Json text e)
+    (tokens_alike (names_by xs) (names_by ys) (λ i bytes. ap (option_map name_of) (naming_same xs ys h i bytes))
+    0 text ts)
 
 pub answer_one : AnswerIsOne
-answer_one limits others lex text e f answer other a b =
+answer_one form limits others lex text e f answer other a b =
     let same = lex_text_one lex a.file b.file a.spelled b.spelled in
-    let here : IsAnswer (defined b.file.names) a.file.rules.items a.file.actions.items text e answer =
-    subst (λ t. IsAnswer (defined b.file.names) a.file.rules.items a.file.actions.items t e answer) a.is_text
-    (subst (λ names. IsAnswer (defined names) a.file.rules.items a.file.actions.items a.text e answer) same.names
+    let here : IsAnswer form (defined b.file.names) a.file.rules.items a.file.actions.items text e answer =
+    subst (λ t. IsAnswer form (defined b.file.names) a.file.rules.items a.file.actions.items t e answer) a.is_text
+    (subst (λ names. IsAnswer form (defined names) a.file.rules.items a.file.actions.items a.text e answer) same.names
     a.is_answer)
     in
-    let there : IsAnswer (defined b.file.names) b.file.rules.items b.file.actions.items text f other =
-    subst (λ t. IsAnswer (defined b.file.names) b.file.rules.items b.file.actions.items t f other) b.is_text
+    let there : IsAnswer form (defined b.file.names) b.file.rules.items b.file.actions.items text f other =
+    subst (λ t. IsAnswer form (defined b.file.names) b.file.rules.items b.file.actions.items t f other) b.is_text
     b.is_answer in
     let under = lexing_under (defined b.file.names) a.file.rules.items b.file.rules.items same.rules
     (condition_set a.file.actions.items) (condition_set b.file.actions.items)
     (conditions_same a.file.actions.items b.file.actions.items same.actions) (start_of text) here.0 e here.1 in
     let one = lexing_one (defined b.file.names) b.file.rules.items (condition_set b.file.actions.items)
     (start_of text) here.0 there.0 e f (rules_cut lex b.file b.spelled) under there.1 in
-    let tokens = tokens_same a.file.actions.items b.file.actions.items same.actions 0 text here.0
-    ∙ ap (tokens_from (naming b.file.actions.items) 0 text) one.0 in
-    (one.1, here.2 ∙ (ap₂ ◌++◌ (ap printed tokens) (ap end_line one.1) ∙ sym there.2))
+    (one.1, here.2 ∙ lines_same form a.file.actions.items b.file.actions.items same.actions text here.0 e
+    ∙ ap₂ (λ ts end. lines_in form b.file.actions.items text ts end) one.0 one.1 ∙ sym there.2)

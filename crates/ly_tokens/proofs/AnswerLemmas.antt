@@ -10,8 +10,10 @@ use Rattle.ly_lexread.specs.declared.action.LexAction.{LexAction}
 use Rattle.ly_lexread.specs.Lexing.{Lexing}
 use Rattle.ly_scan.specs.Lexer.{Scanner, IsLexemeAt, ScanEndsAt}
 use Rattle.ly_tokens.specs.Agreement.{Agrees}
-use Rattle.ly_tokens.specs.Answering.{IsAnswer}
-use Rattle.ly_tokens.specs.Printing.{condition_set, end_line, naming, printed, LeavesTokens}
+use Rattle.ly_listing.specs.Listings.{IsListing, LeavesTokens}
+use Rattle.ly_print.specs.declared.answer_form.AnswerForm.TheVariants.{Json, Plain}
+use Rattle.ly_tokens.specs.Answering.{IsAnswer, lines_in, names_by}
+use Rattle.ly_tokens.specs.Printing.{condition_set, end_line, naming, printed}
 use Rattle.ly_tokens.specs.Private.RunEnd.{EndsSo}
 use Rattle.ly_tokens.specs.Private.TokenLines.{AreLines}
 use Rattle.ly_tokens.proofs.AgreementLemmas.{lexing_of}
@@ -19,7 +21,7 @@ use Rattle.ly_tokens.proofs.AgreementLemmas.{lexing_of}
 -- the lines that a scanner's run gives are the answer
 pub answer_of : (names : List Expression) (rules : List Rule) (actions given : List LexAction) (s : Scanner)
     (text : List ℕ) (e : End) (lines : List ℕ) → Agrees names rules s → given ≡ actions
-    → AreLines s given (start_of text) e lines → IsAnswer names rules actions text e lines
+    → AreLines s given (start_of text) e lines → IsAnswer Plain names rules actions text e lines
 answer_of names rules actions given s text e lines agrees by h =
     let run : Lexed (IsLexemeAt s) (ScanEndsAt s) (condition_set actions) (start_of text) h.0 e =
     subst (λ (xs : List LexAction). Lexed (IsLexemeAt s) (ScanEndsAt s) (condition_set xs)
@@ -28,6 +30,29 @@ answer_of names rules actions given s text e lines agrees by h =
       lexing_of names rules s agrees (condition_set actions) (start_of text) h.0 e run,
       subst (λ (xs : List LexAction). lines ≡ printed (tokens_from (naming xs) 0 text h.0) ++ end_line e) by h.2,
     )
+
+-- so are those of a listing, as JSON
+pub listed_answer : (names : List Expression) (rules : List Rule) (actions given : List LexAction) (s : Scanner)
+    (text : List ℕ) (e : End) (lines : List ℕ) → Agrees names rules s → given ≡ actions
+    → IsListing Json s (names_by given) (condition_set given) text e lines
+    → IsAnswer Json names rules actions text e lines
+listed_answer names rules actions given s text e lines agrees by h =
+    let run : Lexed (IsLexemeAt s) (ScanEndsAt s) (condition_set actions) (start_of text) h.0 e =
+    subst (λ (xs : List LexAction). Lexed (IsLexemeAt s) (ScanEndsAt s) (condition_set xs)
+    (start_of text) h.0 e) by h.1 in (
+      h.0,
+      lexing_of names rules s agrees (condition_set actions) (start_of text) h.0 e run,
+      subst (λ (xs : List LexAction). lines ≡ lines_in Json xs text h.0 e) by h.2,
+    )
+
+-- a run that a listing is of ends so
+pub listing_ends : (actions given : List LexAction) (s : Scanner) (text : List ℕ) (e : End) (lines : List ℕ)
+    → given ≡ actions → IsListing Json s (names_by given) (condition_set given) text e lines
+    → EndsSo s actions text e
+listing_ends actions given s text e lines by h = (
+  h.0,
+  subst (λ (xs : List LexAction). Lexed (IsLexemeAt s) (ScanEndsAt s) (condition_set xs) (start_of text) h.0 e) by h.1,
+)
 
 -- each cut of a lexing leaves a token
 pub leaves_tokens : (names : List Expression) (rules : List Rule) (next : ℕ → Option ℕ) (p : Place) (ts : List Lexeme)

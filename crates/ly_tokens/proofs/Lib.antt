@@ -3,6 +3,7 @@ pub mod AnswerLaws
 pub mod AnswerLemmas
 pub mod LabelLemmas
 pub mod LineLemmas
+pub mod ListingLemmas
 pub mod PrintingLemmas
 pub mod RowAgreementLemmas
 pub mod RowTableLemmas

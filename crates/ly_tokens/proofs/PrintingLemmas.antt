@@ -70,7 +70,7 @@ no_effect None FirstByte h = absurd cc
 no_effect (Some c) r h = absurd cc
 
 -- a rule that is passed over sets no condition, and its lexemes have no line
-nothing_said : (actions : List LexAction) (i : ℕ) → slice_get (map is_passed actions) i ≡ Some true
+pub nothing_said : (actions : List LexAction) (i : ℕ) → slice_get (map is_passed actions) i ≡ Some true
     → (condition_set actions i ≡ None) × ((bytes : List ℕ) → naming actions i bytes ≡ None)
 nothing_said [] i h = absurd cc
 nothing_said (a ∷ actions) zero h = no_effect a.begin a.returns cc

@@ -13,7 +13,8 @@ use Rattle.ly_lexread.specs.declared.action.LexAction.{LexAction}
 use Rattle.ly_scan.proofs.LexingLemmas.{lexes}
 use Rattle.ly_scan.proofs.OneLexingLemmas.{one_lexing}
 use Rattle.ly_scan.specs.Lexer.{IsLexemeAt, ScanEndsAt, Scanner}
-use Rattle.ly_tokens.specs.Printing.{LeavesTokens, condition_set}
+use Rattle.ly_listing.specs.Listings.{LeavesTokens}
+use Rattle.ly_tokens.specs.Printing.{condition_set}
 use Rattle.ly_tokens.specs.Private.RunEnd.{AreSetBelow, BeginsEverywhere, EndsSo, HasRule}
 use Rattle.ly_tokens.specs.Private.TokenLines.{SoFar}
 

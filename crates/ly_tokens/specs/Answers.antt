@@ -6,6 +6,7 @@ use Rattle.ly_base.specs.declared.lexeme.End.{End}
 use Rattle.ly_lexread.specs.LexText.{IsLight, LexText}
 use Rattle.ly_lexread.specs.declared.file.LexFile.{LexFile}
 use Rattle.ly_position.specs.TotalWeight.{total_weight}
+use Rattle.ly_print.specs.declared.answer_form.AnswerForm.{AnswerForm}
 use Rattle.ly_subset.specs.RuleSets.{HaveMoreSets}
 use Rattle.ly_tokens.specs.Answering.{IsAnswer}
 
@@ -23,9 +24,10 @@ HaveTooManyStates limits lex =
     × (total_weight (defined file.names) file.rules.items ≤ limits.total_weight)
     × HaveMoreSets (defined file.names) file.rules.items file.conditions limits.scanner_states
 
--- The lex bytes are those of a lex file within the limits, and the answer is that to a text under it: to the
+-- The lex bytes are those of a lex file within the limits, and the answer is that to a text under it, in a form: to the
 -- bytes that the reader had left, where these are known.
-pub record Answers (limits : Sizes) (lex : List ℕ) (left : Option (List ℕ)) (e : End) (answer : List ℕ) : Type 0 where
+pub record Answers (form : AnswerForm) (limits : Sizes) (lex : List ℕ) (left : Option (List ℕ)) (e : End)
+    (answer : List ℕ) : Type 0 where
   pub file : LexFile
   pub spelled : LexText lex file
   pub light : IsLight limits.pattern_weight file
@@ -33,4 +35,4 @@ pub record Answers (limits : Sizes) (lex : List ℕ) (left : Option (List ℕ)) 
   pub few : HaveMoreSets (defined file.names) file.rules.items file.conditions limits.scanner_states → ⊥
   pub text : List ℕ
   pub is_text : IfSome left (λ bytes. text ≡ bytes)
-  pub is_answer : IsAnswer (defined file.names) file.rules.items file.actions.items text e answer
+  pub is_answer : IsAnswer form (defined file.names) file.rules.items file.actions.items text e answer

@@ -7,6 +7,7 @@ use Rattle.ly_lexread.specs.LexText.{LexText}
 use Rattle.ly_lexread.specs.declared.file.LexFile.{LexFile}
 use Rattle.ly_minim.specs.Smallest.{HaveSameRules}
 use Rattle.ly_position.specs.Nfa.{Nfa}
+use Rattle.ly_print.specs.declared.answer_form.AnswerForm.{AnswerForm}
 use Rattle.ly_position.specs.Patterns.{ArePositions}
 use Rattle.ly_subset.specs.Automaton.{Automaton}
 use Rattle.ly_subset.specs.Subsets.{AreSubsets}
@@ -14,10 +15,11 @@ use Rattle.ly_tokens.specs.Agreement.{Agrees}
 use Rattle.ly_tokens.specs.Answers.{Answers}
 use Rattle.ly_tokens.specs.RowWalk.{cut_in, row_walk}
 
--- under whatever limits, the bytes of a lex file and those of a text have one answer
+-- under whatever limits, the bytes of a lex file and those of a text have one answer in a form
 abbrev pub AnswerIsOne : Type 0
-AnswerIsOne = (limits others : Sizes) (lex text : List ℕ) (e f : End) (answer other : List ℕ)
-    → Answers limits lex (Some text) e answer → Answers others lex (Some text) f other → (e ≡ f) × (answer ≡ other)
+AnswerIsOne = (form : AnswerForm) (limits others : Sizes) (lex text : List ℕ) (e f : End) (answer other : List ℕ)
+    → Answers form limits lex (Some text) e answer → Answers form others lex (Some text) f other
+    → (e ≡ f) × (answer ≡ other)
 
 -- the walk over the rows of an automaton that has the same rules as the subsets of a lex file's positions agrees with
 -- its rules

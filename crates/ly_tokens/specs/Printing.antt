@@ -7,8 +7,6 @@ use Rattle.ly_base.specs.declared.lexeme.End.TheVariants.{Clean, Stuck, BadCut}
 use Rattle.ly_lexread.specs.declared.action.LexAction.{LexAction}
 use Rattle.ly_lexread.specs.declared.action.Returned.{Returned}
 use Rattle.ly_lexread.specs.declared.action.Returned.TheVariants.{Nothing, Token as TokenOf, Literal, FirstByte}
-use Rattle.ly_tokens.specs.declared.outcome.TokenEnd.{TokenEnd}
-use Rattle.ly_tokens.specs.declared.outcome.TokenEnd.TheVariants as token_end
 
 -- the terminal that is returned for these bytes, if one is
 abbrev pub terminal_for : Returned → List ℕ → Option Terminal
@@ -39,13 +37,3 @@ abbrev pub end_line : End → List ℕ
 end_line Clean = []
 end_line (Stuck byte) = no_rule_line byte
 end_line (BadCut byte) = []
-
--- the end that an outcome stands for
-abbrev pub end_of : TokenEnd → End
-end_of token_end.Clean = Clean
-end_of (token_end.Stuck byte) = Stuck byte
-
--- each cut of the run leaves a token
-abbrev pub LeavesTokens : End → Type 0
-LeavesTokens (BadCut byte) = ⊥
-LeavesTokens _ = Unit {0}

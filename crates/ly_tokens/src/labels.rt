@@ -1,11 +1,14 @@
 ghost use Rattle.std.specs.Prelude.{◌≡◌, ◌<◌, length, IfOk, option_map};
 ghost use Rattle.std.proofs.Props.{props};
 ghost use Rattle.ly_print.specs.Text.{before_leaf};
-ghost use Rattle.ly_tokens.specs.Printing.{naming};
+ghost use Rattle.ly_tokens.specs.Answering.{names_by};
+ghost use Rattle.ly_tokens.specs.Printing.{condition_set, naming};
 ghost use Rattle.ly_tokens.specs.Private.Labels.{label_for, AreLabels, AreLiteralLabels, AreRuleLabels};
 
+use crate::token_lines::condition_set;
 use ly_base::{OutOfMemory, RuleNo};
 use ly_lexread::{LexAction, Returned};
+use ly_listing::TokenNames;
 use ly_print::{Label, Terminal};
 use std::alloc::Global;
 
@@ -58,6 +61,22 @@ impl<'a> RuleLabels<'a> {
             RuleLabel::Own(label) => Some(label),
             RuleLabel::OfFirstByte => self.literals.get(usize::from(token[0])),
         }
+    }
+}
+
+impl TokenNames for RuleLabels<'_> {
+    ghost naming = { λ l i bytes. names_by l.actions.now i bytes };
+
+    ghost begins = { λ l i. condition_set l.actions.now i };
+
+    fn name(&self, rule: RuleNo, lexeme: &[u8]) -> Option<&[u8]> {
+        // the name's quote is no part of it
+        let (_, name) = self.get(rule, lexeme)?.bytes().split_last()?;
+        Some(name)
+    }
+
+    fn begin(&self, rule: RuleNo) -> Option<u32> {
+        condition_set(self.actions, rule)
     }
 }
 

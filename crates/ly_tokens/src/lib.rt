@@ -10,7 +10,6 @@ mod fault;
 mod file_lexer;
 mod labels;
 mod laws;
-mod outcome;
 mod run_end;
 mod scanner;
 mod scanner_fault;
@@ -19,7 +18,7 @@ mod write_tokens;
 
 pub use fault::TokensFault;
 pub use laws::{answer_is_one, row_walk_agrees};
-pub use outcome::TokenEnd;
+pub use ly_listing::TokenEnd;
 pub use scanner::subset_scanner;
 pub use scanner_fault::ScannerFault;
 pub use write_tokens::tokens;

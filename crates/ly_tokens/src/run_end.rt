@@ -4,7 +4,7 @@ ghost use Rattle.std.specs.Bool.{OnTrue};
 ghost use Rattle.ly_base.specs.declared.lexeme.End.{End};
 ghost use Rattle.ly_scan.specs.Lexer.{Scanner};
 ghost use Rattle.ly_scan.specs.Lexers.{scanner_of};
-ghost use Rattle.ly_tokens.specs.Printing.{LeavesTokens};
+ghost use Rattle.ly_listing.specs.Listings.{LeavesTokens};
 ghost use Rattle.ly_tokens.specs.Private.RunEnd.{AreSetBelow, BeginsEverywhere, EndsSo, HasRule};
 ghost use Rattle.ly_tokens.specs.Private.TokenLines.{is_passed};
 

@@ -4,6 +4,7 @@ ghost use Rattle.ly_ere.specs.Names.{defined};
 ghost use Rattle.ly_print.specs.Device.{next_count};
 ghost use Rattle.ly_base.specs.Limits.{version_2};
 ghost use Rattle.ly_print.specs.TextWriter.{IsCutShort};
+ghost use Rattle.ly_print.specs.declared.answer_form.AnswerForm.TheVariants.{Json, Plain};
 ghost use Rattle.ly_base.specs.declared.lexeme.End.{End};
 ghost use Rattle.ly_lexread.specs.Faults.{IsAtMost, IsTooHeavy};
 ghost use Rattle.ly_lexread.specs.LexText.{IsHeavyText, IsLight, LexText};
@@ -18,7 +19,7 @@ ghost use Rattle.ly_scan.specs.Lexers.{scanner_of};
 ghost use Rattle.ly_tokens.specs.Agreement.{Agrees};
 ghost use Rattle.ly_tokens.specs.Answering.{IsAnswer};
 ghost use Rattle.ly_tokens.specs.Answers.{Answers, AreTooHeavy, HaveTooManyStates};
-ghost use Rattle.ly_tokens.specs.Printing.{end_of, LeavesTokens};
+ghost use Rattle.ly_listing.specs.Listings.{end_of, LeavesTokens};
 ghost use Rattle.ly_tokens.specs.TokensFault.{HasNoTokens, IsBeforeReading, IsBeforeWriting, IsOfOutput, IsWrite};
 ghost use Rattle.ly_tokens.specs.Private.FileAnswers.{FileAnswers};
 ghost use Rattle.ly_tokens.specs.Private.RunEnd.{AreSetBelow};
@@ -27,31 +28,33 @@ ghost use Rattle.ly_tokens.specs.Private.TokenLines.{is_passed};
 use crate::fault::TokensFault;
 use crate::file_lexer::lexer_of;
 use crate::labels::RuleLabels;
-use crate::outcome::TokenEnd;
 use crate::run_end::run_end;
 use crate::token_lines::{are_countable, write_token_lines};
 use ly_base::{End, Limits};
 use ly_lexread::{LexFile, read_lex};
-use ly_print::{Sink, Source, TextWriter, read_whole};
+use ly_listing::{Listing, TokenEnd, list_tokens};
+use ly_print::{AnswerForm, Sink, Source, TextWriter, read_whole, write_whole};
 use ly_scan::Lexer;
 use std::alloc::Global;
 
-/// Writes the tokens of a text under a lex file (POSIX, XCU lex), a line for each, and a last line if no
-/// rule matches somewhere. The text is all that the reader gives. It is read whole, and how its tokens end is
-/// known, before a byte is written; then the lines are written while the tokens are found, and only a write can fail.
+/// Writes the tokens of a text under a lex file (POSIX, XCU lex) in a form, a line for each, and a last line if no rule
+/// matches somewhere. The text is all that the reader gives. It is read whole, and how its tokens end is known, before
+/// a byte is written, and then only a write can fail. Plain lines are written while the tokens are found; lines of
+/// JSON, which say where each token begins and ends, are all made before.
 ///
 /// Its faults are those of `TokensFault`.
 pub fn tokens<R: Source, W: Sink>(
     alloc: Global,
     lex: &[u8],
+    form: AnswerForm,
     reader: &mut R,
     writer: &mut W,
 ) -> Result<TokenEnd, TokensFault>
     ensures answered { IfOk result (λ end. (answer : List ℕ)
-        × Answers version_2 lex.now (R.remaining reader.old) (end_of end) answer
+        × Answers form version_2 lex.now (R.remaining reader.old) (end_of end) answer
         × Appends (W.contents writer.old) (W.contents writer.new) answer) }
     ensures beginning { (written : ℕ) → result ≡ Err (TokensFault.Write written) → (e : End) × ((answer : List ℕ)
-        × Answers version_2 lex.now (R.remaining reader.old) e answer × (written < length answer)
+        × Answers form version_2 lex.now (R.remaining reader.old) e answer × (written < length answer)
         × Appends (W.contents writer.old) (W.contents writer.new) (take written answer)) }
     ensures refused { (fault : LexFault) → result ≡ Err (TokensFault.Lex fault) → (IsTooHeavy fault → ⊥)
         → (file : LexFile) → LexText lex.now file → ⊥ }
@@ -75,7 +78,7 @@ pub fn tokens<R: Source, W: Sink>(
 {
     let limits = Limits::V2;
     let file = read_lex(alloc, lex, &limits)?;
-    write_answer(alloc, &file, &limits, reader, writer)
+    write_answer(alloc, &file, &limits, form, reader, writer)
 }
 
 /// Writes the answer to the text that a reader gives, under a lex file, and answers how its tokens end.
@@ -83,15 +86,16 @@ fn write_answer<R: Source, W: Sink>(
     alloc: Global,
     file: &LexFile,
     limits: &Limits,
+    form: AnswerForm,
     reader: &mut R,
     writer: &mut W,
 ) -> Result<TokenEnd, TokensFault>
     requires spelled { (bytes : List ℕ) × LexText bytes file.now }
     ensures answered { IfOk result (λ end. (answer : List ℕ)
-        × FileAnswers limits.now file.now (R.remaining reader.old) (end_of end) answer
+        × FileAnswers form limits.now file.now (R.remaining reader.old) (end_of end) answer
         × Appends (W.contents writer.old) (W.contents writer.new) answer) }
     ensures beginning { (written : ℕ) → result ≡ Err (TokensFault.Write written) → (e : End) × ((answer : List ℕ)
-        × FileAnswers limits.now file.now (R.remaining reader.old) e answer
+        × FileAnswers form limits.now file.now (R.remaining reader.old) e answer
         × IsCutShort (W.contents writer.old) (W.contents writer.new) written answer) }
     ensures refused { IfErr result (HasNoTokens limits.now file.now) }
     ensures ended { OnOk result (IsAtEnd (R.remaining reader.new)) }
@@ -104,11 +108,42 @@ fn write_answer<R: Source, W: Sink>(
 {
     let lexer = lexer_of(alloc, file, limits)?;
     let text = read_whole(alloc, reader)?;
-    write_answer_by(alloc, file, &lexer, &text, writer)
+    write_answer_by(alloc, file, &lexer, form, &text, writer)
 }
 
-/// Writes the answer to a text under a lex file, by any lexer whose scanner agrees with its rules.
+/// Writes the answer to a text under a lex file in a form, by any lexer whose scanner agrees with its rules.
 fn write_answer_by<W: Sink>(
+    alloc: Global,
+    file: &LexFile,
+    lexer: &Lexer,
+    form: AnswerForm,
+    text: &[u8],
+    writer: &mut W,
+) -> Result<TokenEnd, TokensFault>
+    requires agrees { Agrees (defined file.now.names) file.now.rules.items (scanner_of lexer.now.scanner) }
+    requires passed { lexer.now.passed ≡ map is_passed file.now.actions.items }
+    requires below { AreSetBelow file.now.actions.items file.now.conditions }
+    requires some { 0 < file.now.conditions }
+    ensures answered { IfOk result (λ end. (answer : List ℕ)
+        × IsAnswer form (defined file.now.names) file.now.rules.items file.now.actions.items text.now (end_of end)
+        answer
+        × Appends (W.contents writer.old) (W.contents writer.new) answer) }
+    ensures beginning { (written : ℕ) → result ≡ Err (TokensFault.Write written) → (e : End) × ((answer : List ℕ)
+        × IsAnswer form (defined file.now.names) file.now.rules.items file.now.actions.items text.now e answer
+        × IsCutShort (W.contents writer.old) (W.contents writer.new) written answer) }
+    ensures of_output { IfErr result IsOfOutput }
+    ensures write { IfErr result (λ e. IsWrite e → W.failures writer.new ≡ next_count (W.failures writer.old)) }
+    ensures writer_held { OnOk result (W.failures writer.new ≡ W.failures writer.old) }
+    ensures untouched { IfErr result (λ e. IsBeforeWriting e → writer.new ≡ writer.old) }
+{
+    match form {
+        AnswerForm::Plain => write_lines(alloc, file, lexer, text, writer),
+        AnswerForm::Json => write_listing(alloc, file, lexer, text, writer),
+    }
+}
+
+/// Writes the plain answer, while the tokens are found.
+fn write_lines<W: Sink>(
     alloc: Global,
     file: &LexFile,
     lexer: &Lexer,
@@ -120,10 +155,11 @@ fn write_answer_by<W: Sink>(
     requires below { AreSetBelow file.now.actions.items file.now.conditions }
     requires some { 0 < file.now.conditions }
     ensures answered { IfOk result (λ end. (answer : List ℕ)
-        × IsAnswer (defined file.now.names) file.now.rules.items file.now.actions.items text.now (end_of end) answer
+        × IsAnswer Plain (defined file.now.names) file.now.rules.items file.now.actions.items text.now (end_of end)
+        answer
         × Appends (W.contents writer.old) (W.contents writer.new) answer) }
     ensures beginning { (written : ℕ) → result ≡ Err (TokensFault.Write written) → (e : End) × ((answer : List ℕ)
-        × IsAnswer (defined file.now.names) file.now.rules.items file.now.actions.items text.now e answer
+        × IsAnswer Plain (defined file.now.names) file.now.rules.items file.now.actions.items text.now e answer
         × IsCutShort (W.contents writer.old) (W.contents writer.new) written answer) }
     ensures of_output { IfErr result IsOfOutput }
     ensures write { IfErr result (λ e. IsWrite e → W.failures writer.new ≡ next_count (W.failures writer.old)) }
@@ -137,6 +173,36 @@ fn write_answer_by<W: Sink>(
     let lines = TextWriter::new(alloc)?;
     let end = run_end(alloc, lexer, text, file);
     write_token_lines(alloc, lexer, text, &labels, end, lines, writer)?;
+    Ok(token_end(end))
+}
+
+/// Writes the answer as JSON, once it is made.
+fn write_listing<W: Sink>(
+    alloc: Global,
+    file: &LexFile,
+    lexer: &Lexer,
+    text: &[u8],
+    writer: &mut W,
+) -> Result<TokenEnd, TokensFault>
+    requires agrees { Agrees (defined file.now.names) file.now.rules.items (scanner_of lexer.now.scanner) }
+    requires passed { lexer.now.passed ≡ map is_passed file.now.actions.items }
+    requires below { AreSetBelow file.now.actions.items file.now.conditions }
+    requires some { 0 < file.now.conditions }
+    ensures answered { IfOk result (λ end. (answer : List ℕ)
+        × IsAnswer Json (defined file.now.names) file.now.rules.items file.now.actions.items text.now (end_of end)
+        answer
+        × Appends (W.contents writer.old) (W.contents writer.new) answer) }
+    ensures beginning { (written : ℕ) → result ≡ Err (TokensFault.Write written) → (e : End) × ((answer : List ℕ)
+        × IsAnswer Json (defined file.now.names) file.now.rules.items file.now.actions.items text.now e answer
+        × IsCutShort (W.contents writer.old) (W.contents writer.new) written answer) }
+    ensures of_output { IfErr result IsOfOutput }
+    ensures write { IfErr result (λ e. IsWrite e → W.failures writer.new ≡ next_count (W.failures writer.old)) }
+    ensures writer_held { OnOk result (W.failures writer.new ≡ W.failures writer.old) }
+    ensures untouched { IfErr result (λ e. IsBeforeWriting e → writer.new ≡ writer.old) }
+{
+    let labels = RuleLabels::new(alloc, &file.actions)?;
+    let Listing { lines, end } = list_tokens(alloc, lexer, &labels, AnswerForm::Json, text)?;
+    write_whole(writer, &lines)?;
     Ok(token_end(end))
 }
 

@@ -23,7 +23,7 @@ slice_get_inside [] k h = absurd cc
 slice_get_inside (x ∷ xs) zero h = omega arith
 slice_get_inside (x ∷ xs) (suc k) h = omega (arith, slice_get_inside xs k h)
 
-joined-none : (ls : Lists) → joined ls no_lists ≡ ls
+pub joined-none : (ls : Lists) → joined ls no_lists ≡ ls
 joined-none ls = λ i. record {
   texts = append-nil ls.texts i;
   long_leaves = append-nil ls.long_leaves i;

@@ -1,3 +1,4 @@
+pub mod ChildLemmas
 pub mod CostLemmas
 pub mod GrownLemmas
 pub mod HeadedLemmas

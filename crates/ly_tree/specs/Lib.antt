@@ -3,6 +3,7 @@ pub mod Forest
 pub mod GrownCode
 pub mod Json
 pub mod JsonLaws
+pub mod Look
 pub mod Private
 pub mod Shown
 pub mod Term

@@ -1,10 +1,12 @@
-ghost use Rattle.std.specs.Prelude.{◌≡◌, ◌<◌, ◌≤◌, ◌+◌, ◌*◌, ◌^◌, ℕ, [], ◌++◌, drop, length, map, take};
+ghost use Rattle.std.specs.Prelude.{◌≡◌, ◌<◌, ◌≤◌, ◌+◌, ◌*◌, ◌^◌, ℕ, List, [], ◌++◌, drop, length, map, take};
 ghost use Rattle.std.specs.Prelude.{All, IfOk, IfSome, IsSome, OnErr, OnOk};
+ghost use Rattle.ly_tree.specs.Look.{AreChildren, IsSeen};
 ghost use Rattle.ly_tree.specs.Private.Headed.{ref_at};
 ghost use Rattle.ly_tree.specs.Private.OfBytes.{IsOfBytes};
 ghost use Rattle.ly_tree.specs.Term.{at_places, built, leaf, nothing, Term};
 
 use crate::headed::{Headed, lists_are_bytes};
+use crate::look::Look;
 use crate::notation::MostBytes;
 use crate::numbers::{number_of, parts_of};
 use crate::refers::Refers;
@@ -204,6 +206,36 @@ impl Forest {
             count: places.len(),
         });
         Ok(TermRef::LongNode { high, low })
+    }
+
+    /// Looks at a term: at a node, whatever the children are.
+    pub fn look(&self, term: TermRef) -> Look
+        requires { IsSome (term_of self.now term) }
+        ensures { (children : List Term) → IsSeen children result
+            (term_of (record { lists = self.now.lists; children = children }) term) }
+    {
+        match term {
+            TermRef::Nothing => Look::Nothing,
+            TermRef::ShortLeaf { terminal, .. } => Look::Leaf(Sym(u32::from(terminal))),
+            TermRef::LongLeaf { high, low } => Look::Leaf(self.long_leaf_at(high, low).0),
+            TermRef::Node {
+                children,
+                rule,
+                start,
+            } => Look::Node(Span {
+                rule: RuleNo(u32::from(rule)),
+                start: start as usize,
+                count: usize::from(children),
+            }),
+            TermRef::LongNode { high, low } => Look::Node(self.long_nodes[number_of(high, low)]),
+        }
+    }
+
+    /// The children of all nodes, one node's behind another's. Those of a child stand before it.
+    pub fn children(&self) -> &[TermRef]
+        ensures { AreChildren self.now result.now }
+    {
+        &self.children
     }
 
     /// How long the line of a term may be whose parts are used once each, where no more is written for a part; nothing,

@@ -1,6 +1,6 @@
 //! Want of memory: `tokens` answers rightly, or that memory ran out, and nothing else.
 
-use ly_engine::{TokenEnd, TokensFault, tokens};
+use ly_engine::{AnswerForm, TokenEnd, TokensFault, tokens};
 use ly_print::{Counted, MemSource};
 use std::alloc::{AllocError, Global};
 use std::test::Fail;
@@ -65,7 +65,7 @@ enum Trial {
 /// Writes the tokens of `TEXT` into some room.
 fn tokens_into(alloc: Global, room: &mut [u8]) -> Result<TokenEnd, TokensFault> {
     let mut writer = Counted::new(room);
-    tokens(alloc, LEX, &mut MemSource::new(TEXT), &mut writer)
+    tokens(alloc, LEX, AnswerForm::Plain, &mut MemSource::new(TEXT), &mut writer)
 }
 
 /// How a try ends, with room for one byte more than the lines have.

@@ -1,6 +1,7 @@
 -- The words that ask for something are taken, and ask for just that.
 use Rattle.std.proofs.Common.{◌≡◌, ◌∙◌, ◌++◌, ◌∷◌, [], List, ℕ, zero, suc, Some, None, true, refl, sym, ap}
-use Rattle.std.proofs.Common.{Bool, Err, IsErrAnd, MatchResult, Ok, Option, Result, ap₂, arith, codes, drop, false, find, inr}
+use Rattle.std.proofs.Common.{Bool, Err, IsErrAnd, MatchResult, Ok, Option, Result, ap₂, arith, codes, drop, false}
+use Rattle.std.proofs.Common.{find, inr}
 use Rattle.std.proofs.Common.{map, option_and_then, option_map, slice_index, subst, take, true≢false, unwrap_or}
 use Rattle.std.specs.List.{flat_map, insert}
 use Rattle.clap.specs.Walk.{Text, answers_to, finished, nothing_held, walk_from}
@@ -13,7 +14,8 @@ use Rattle.ly_print.specs.declared.answer_form.AnswerForm.{AnswerForm}
 use Rattle.ly_print.specs.declared.answer_form.AnswerForm.TheVariants.{Json, Plain}
 use Rattle.ly_words.specs.Paths.{ArePathWords, AskFor, IsMeant, IsPathWord, as_list, flags_of, form_words, name_of}
 use Rattle.ly_words.specs.Paths.{number_of, operands_of, pointing_words, words_at, written_of}
-use Rattle.ly_words.specs.Request.{Request, build, check, explain, run, tokens, try}
+use Rattle.ly_words.specs.Request.{Request, build, check, explain, lines, run, run_placed, table_tokens}
+use Rattle.ly_words.specs.Request.{tokens, try, try_placed}
 use Rattle.ly_words.proofs.PathLemmas.{AreWords, IsLongName, Word, all_taken, held_after, level_taken, long, path}
 use Rattle.ly_words.proofs.PathLemmas.{rest_passes, rows_are, text_of}
 use Rattle.ly_words.proofs.SubcommandLemmas.{Enters, line_passes, subcommand_rows_are}
@@ -34,13 +36,21 @@ record Asks (request : Request) (words : List Word) : Type 0 where
 
 enters : (request : Request) → Enters line_app (name_of request) (shape_at (name_of request))
 unfolding clap_on_literals
-enters (tokens lex text points) =
+enters (tokens lex text by) =
+    record { simple = refl; has_name = refl; met = refl; passes = refl; found = refl; rest = refl }
+enters (table_tokens table_file text by) =
     record { simple = refl; has_name = refl; met = refl; passes = refl; found = refl; rest = refl }
 enters (build lex yacc table_file report version points) =
     record { simple = refl; has_name = refl; met = refl; passes = refl; found = refl; rest = refl }
 enters (run table_file text by) =
     record { simple = refl; has_name = refl; met = refl; passes = refl; found = refl; rest = refl }
+enters (lines table_file text by) =
+    record { simple = refl; has_name = refl; met = refl; passes = refl; found = refl; rest = refl }
 enters (try lex yacc text by) =
+    record { simple = refl; has_name = refl; met = refl; passes = refl; found = refl; rest = refl }
+enters (run_placed table_file text points) =
+    record { simple = refl; has_name = refl; met = refl; passes = refl; found = refl; rest = refl }
+enters (try_placed lex yacc text points) =
     record { simple = refl; has_name = refl; met = refl; passes = refl; found = refl; rest = refl }
 enters (check table_file by) =
     record { simple = refl; has_name = refl; met = refl; passes = refl; found = refl; rest = refl }
@@ -397,13 +407,67 @@ where_name = record { is_read = refl; no_dashes = refl }
 json_name : IsLongName (codes "json")
 json_name = record { is_read = refl; no_dashes = refl }
 
-tokens_met : (lex : Text) (text : Option Text) (points : Bool) → ArePathWords (lex ∷ as_list text)
-    → Met (tokens lex text points) (pointing_words points ++ lex ∷ as_list text)
-tokens_met lex None true o = met (long (codes "where") ∷ path lex ∷ []) (where_name, o) refl refl refl refl
-tokens_met lex None false o = met (path lex ∷ []) o refl refl refl refl
-tokens_met lex (Some text) true o =
-    met (long (codes "where") ∷ path lex ∷ path text ∷ []) (where_name, o) refl refl refl refl
-tokens_met lex (Some text) false o = met (path lex ∷ path text ∷ []) o refl refl refl refl
+tokens_met : (lex : Text) (text : Option Text) (form : AnswerForm) (points : Bool) → ArePathWords (lex ∷ as_list text)
+    → Met (tokens lex text (record { form = form; points = points }))
+    ((form_words form ++ pointing_words points) ++ lex ∷ as_list text)
+tokens_met lex None Plain false o =
+    met (path lex ∷ []) o
+    refl refl refl refl
+tokens_met lex None Plain true o =
+    met (long (codes "where") ∷ path lex ∷ []) (where_name, o)
+    refl refl refl refl
+tokens_met lex None Json false o =
+    met (long (codes "json") ∷ path lex ∷ []) (json_name, o)
+    refl refl refl refl
+tokens_met lex None Json true o =
+    met (long (codes "json") ∷ long (codes "where") ∷ path lex ∷ []) (json_name, (where_name, o))
+    refl refl refl refl
+tokens_met lex (Some text) Plain false o =
+    met (path lex ∷ path text ∷ []) o
+    refl refl refl refl
+tokens_met lex (Some text) Plain true o =
+    met (long (codes "where") ∷ path lex ∷ path text ∷ []) (where_name, o)
+    refl refl refl refl
+tokens_met lex (Some text) Json false o =
+    met (long (codes "json") ∷ path lex ∷ path text ∷ []) (json_name, o)
+    refl refl refl refl
+tokens_met lex (Some text) Json true o =
+    met (long (codes "json") ∷ long (codes "where") ∷ path lex ∷ path text ∷ []) (json_name, (where_name, o))
+    refl refl refl refl
+
+tables_name : IsLongName (codes "tables")
+tables_name = record { is_read = refl; no_dashes = refl }
+
+table_tokens_met : (table_file : Text) (text : Option Text) (form : AnswerForm) (points : Bool)
+    → ArePathWords (table_file ∷ as_list text)
+    → Met (table_tokens table_file text (record { form = form; points = points }))
+    ((codes "--tables" ∷ (form_words form ++ pointing_words points)) ++ table_file ∷ as_list text)
+table_tokens_met table_file None Plain false o =
+    met (long (codes "tables") ∷ path table_file ∷ []) (tables_name, o)
+    refl refl refl refl
+table_tokens_met table_file None Plain true o =
+    met (long (codes "tables") ∷ long (codes "where") ∷ path table_file ∷ []) (tables_name, (where_name, o))
+    refl refl refl refl
+table_tokens_met table_file None Json false o =
+    met (long (codes "tables") ∷ long (codes "json") ∷ path table_file ∷ []) (tables_name, (json_name, o))
+    refl refl refl refl
+table_tokens_met table_file None Json true o =
+    met (long (codes "tables") ∷ long (codes "json") ∷ long (codes "where") ∷ path table_file ∷ [])
+    (tables_name, (json_name, (where_name, o)))
+    refl refl refl refl
+table_tokens_met table_file (Some text) Plain false o =
+    met (long (codes "tables") ∷ path table_file ∷ path text ∷ []) (tables_name, o)
+    refl refl refl refl
+table_tokens_met table_file (Some text) Plain true o =
+    met (long (codes "tables") ∷ long (codes "where") ∷ path table_file ∷ path text ∷ []) (tables_name, (where_name, o))
+    refl refl refl refl
+table_tokens_met table_file (Some text) Json false o =
+    met (long (codes "tables") ∷ long (codes "json") ∷ path table_file ∷ path text ∷ []) (tables_name, (json_name, o))
+    refl refl refl refl
+table_tokens_met table_file (Some text) Json true o =
+    met (long (codes "tables") ∷ long (codes "json") ∷ long (codes "where") ∷ path table_file ∷ path text ∷ [])
+    (tables_name, (json_name, (where_name, o)))
+    refl refl refl refl
 
 run_met : (table_file : Text) (text : Option Text) (form : AnswerForm) (points : Bool)
     → ArePathWords (table_file ∷ as_list text)
@@ -425,6 +489,36 @@ run_met table_file (Some text) Json false o =
 run_met table_file (Some text) Json true o =
     met (long (codes "json") ∷ long (codes "where") ∷ path table_file ∷ path text ∷ [])
     (json_name, (where_name, o)) refl refl refl refl
+
+lines_name : IsLongName (codes "lines")
+lines_name = record { is_read = refl; no_dashes = refl }
+
+lines_met : (table_file : Text) (text : Option Text) (form : AnswerForm) (points : Bool)
+    → ArePathWords (table_file ∷ as_list text)
+    → Met (lines table_file text (record { form = form; points = points }))
+    ((codes "--lines" ∷ (form_words form ++ pointing_words points)) ++ table_file ∷ as_list text)
+lines_met table_file None Plain false o =
+    met (long (codes "lines") ∷ path table_file ∷ []) (lines_name, o) refl refl refl refl
+lines_met table_file None Plain true o =
+    met (long (codes "lines") ∷ long (codes "where") ∷ path table_file ∷ []) (lines_name, (where_name, o))
+    refl refl refl refl
+lines_met table_file None Json false o =
+    met (long (codes "lines") ∷ long (codes "json") ∷ path table_file ∷ []) (lines_name, (json_name, o))
+    refl refl refl refl
+lines_met table_file None Json true o =
+    met (long (codes "lines") ∷ long (codes "json") ∷ long (codes "where") ∷ path table_file ∷ [])
+    (lines_name, (json_name, (where_name, o))) refl refl refl refl
+lines_met table_file (Some text) Plain false o =
+    met (long (codes "lines") ∷ path table_file ∷ path text ∷ []) (lines_name, o) refl refl refl refl
+lines_met table_file (Some text) Plain true o =
+    met (long (codes "lines") ∷ long (codes "where") ∷ path table_file ∷ path text ∷ [])
+    (lines_name, (where_name, o)) refl refl refl refl
+lines_met table_file (Some text) Json false o =
+    met (long (codes "lines") ∷ long (codes "json") ∷ path table_file ∷ path text ∷ [])
+    (lines_name, (json_name, o)) refl refl refl refl
+lines_met table_file (Some text) Json true o =
+    met (long (codes "lines") ∷ long (codes "json") ∷ long (codes "where") ∷ path table_file ∷ path text ∷ [])
+    (lines_name, (json_name, (where_name, o))) refl refl refl refl
 
 try_met : (lex yacc : Text) (text : Option Text) (form : AnswerForm) (points : Bool)
     → ArePathWords (lex ∷ yacc ∷ as_list text)
@@ -448,6 +542,37 @@ try_met lex yacc (Some text) Json true o =
     met (long (codes "json") ∷ long (codes "where") ∷ path lex ∷ path yacc ∷ path text ∷ [])
     (json_name, (where_name, o)) refl refl refl refl
 
+places_name : IsLongName (codes "places")
+places_name = record { is_read = refl; no_dashes = refl }
+
+run_placed_met : (table_file : Text) (text : Option Text) (points : Bool) → ArePathWords (table_file ∷ as_list text)
+    → Met (run_placed table_file text points)
+    ((codes "--places" ∷ pointing_words points) ++ table_file ∷ as_list text)
+run_placed_met table_file None false o =
+    met (long (codes "places") ∷ path table_file ∷ []) (places_name, o) refl refl refl refl
+run_placed_met table_file None true o =
+    met (long (codes "places") ∷ long (codes "where") ∷ path table_file ∷ []) (places_name, (where_name, o))
+    refl refl refl refl
+run_placed_met table_file (Some text) false o =
+    met (long (codes "places") ∷ path table_file ∷ path text ∷ []) (places_name, o) refl refl refl refl
+run_placed_met table_file (Some text) true o =
+    met (long (codes "places") ∷ long (codes "where") ∷ path table_file ∷ path text ∷ [])
+    (places_name, (where_name, o)) refl refl refl refl
+
+try_placed_met : (lex yacc : Text) (text : Option Text) (points : Bool) → ArePathWords (lex ∷ yacc ∷ as_list text)
+    → Met (try_placed lex yacc text points)
+    ((codes "--places" ∷ pointing_words points) ++ lex ∷ yacc ∷ as_list text)
+try_placed_met lex yacc None false o =
+    met (long (codes "places") ∷ path lex ∷ path yacc ∷ []) (places_name, o) refl refl refl refl
+try_placed_met lex yacc None true o =
+    met (long (codes "places") ∷ long (codes "where") ∷ path lex ∷ path yacc ∷ [])
+    (places_name, (where_name, o)) refl refl refl refl
+try_placed_met lex yacc (Some text) false o =
+    met (long (codes "places") ∷ path lex ∷ path yacc ∷ path text ∷ []) (places_name, o) refl refl refl refl
+try_placed_met lex yacc (Some text) true o =
+    met (long (codes "places") ∷ long (codes "where") ∷ path lex ∷ path yacc ∷ path text ∷ [])
+    (places_name, (where_name, o)) refl refl refl refl
+
 check_met : (table_file : Text) (form : AnswerForm) (points : Bool) → ArePathWords (table_file ∷ [])
     → Met (check table_file (record { form = form; points = points }))
     ((form_words form ++ pointing_words points) ++ table_file ∷ [])
@@ -470,10 +595,15 @@ unversioned request i j format none m =
 met_at : (request : Request) (i j : ℕ) (format : Option Version) → IsMeant request format
     → ArePathWords (operands_of request) → ArePathWords (written_of request)
     → Met request (flags_of request ++ words_at i j request format)
-met_at (tokens lex None points) i j format m o r =
-    unversioned (tokens lex None points) i j format m (tokens_met lex None points o)
-met_at (tokens lex (Some text) points) i j format m o r =
-    unversioned (tokens lex (Some text) points) i j format m (tokens_met lex (Some text) points o)
+met_at (tokens lex None by) i j format m o r =
+    unversioned (tokens lex None by) i j format m (tokens_met lex None by.form by.points o)
+met_at (tokens lex (Some text) by) i j format m o r =
+    unversioned (tokens lex (Some text) by) i j format m (tokens_met lex (Some text) by.form by.points o)
+met_at (table_tokens table_file None by) i j format m o r =
+    unversioned (table_tokens table_file None by) i j format m (table_tokens_met table_file None by.form by.points o)
+met_at (table_tokens table_file (Some text) by) i j format m o r =
+    unversioned (table_tokens table_file (Some text) by) i j format m
+    (table_tokens_met table_file (Some text) by.form by.points o)
 met_at (build lex yacc table_file report version false) i j format m o r =
     build_met lex yacc table_file report version i j format m.0 (o.0, o.1.0, o.1.1.0) r
 met_at (build lex yacc table_file report version true) i j format m o r = absurd (true≢false m.1)
@@ -481,10 +611,23 @@ met_at (run table_file None by) i j format m o r =
     unversioned (run table_file None by) i j format m (run_met table_file None by.form by.points o)
 met_at (run table_file (Some text) by) i j format m o r =
     unversioned (run table_file (Some text) by) i j format m (run_met table_file (Some text) by.form by.points o)
+met_at (lines table_file None by) i j format m o r =
+    unversioned (lines table_file None by) i j format m (lines_met table_file None by.form by.points o)
+met_at (lines table_file (Some text) by) i j format m o r =
+    unversioned (lines table_file (Some text) by) i j format m (lines_met table_file (Some text) by.form by.points o)
 met_at (try lex yacc None by) i j format m o r =
     unversioned (try lex yacc None by) i j format m (try_met lex yacc None by.form by.points o)
 met_at (try lex yacc (Some text) by) i j format m o r =
     unversioned (try lex yacc (Some text) by) i j format m (try_met lex yacc (Some text) by.form by.points o)
+met_at (run_placed table_file None points) i j format m o r =
+    unversioned (run_placed table_file None points) i j format m (run_placed_met table_file None points o)
+met_at (run_placed table_file (Some text) points) i j format m o r =
+    unversioned (run_placed table_file (Some text) points) i j format m
+    (run_placed_met table_file (Some text) points o)
+met_at (try_placed lex yacc None points) i j format m o r =
+    unversioned (try_placed lex yacc None points) i j format m (try_placed_met lex yacc None points o)
+met_at (try_placed lex yacc (Some text) points) i j format m o r =
+    unversioned (try_placed lex yacc (Some text) points) i j format m (try_placed_met lex yacc (Some text) points o)
 met_at (check table_file by) i j format m o r =
     unversioned (check table_file by) i j format m (check_met table_file by.form by.points o)
 met_at (explain lex yacc states graph) i j format m o r =

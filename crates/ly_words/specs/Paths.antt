@@ -7,7 +7,8 @@ use Rattle.ly_base.specs.declared.version.Version.{Version}
 use Rattle.ly_base.specs.declared.version.Version.TheVariants.{V1, V2}
 use Rattle.ly_print.specs.declared.answer_form.AnswerForm.{AnswerForm}
 use Rattle.ly_print.specs.declared.answer_form.AnswerForm.TheVariants.{Json, Plain}
-use Rattle.ly_words.specs.Request.{Request, build, check, explain, run, tokens, try}
+use Rattle.ly_words.specs.Request.{Request, build, check, explain, lines, run, run_placed, table_tokens}
+use Rattle.ly_words.specs.Request.{tokens, try, try_placed}
 use Rattle.ly_words.specs.declared.command.Answering.{Answering}
 
 -- a word that is no option: a minus sign alone, or one that doesn't begin with it
@@ -23,19 +24,27 @@ as_list None = []
 as_list (Some word) = word ∷ []
 
 abbrev pub name_of : Request → Text
-name_of (tokens lex text points) = codes "tokens"
+name_of (tokens lex text by) = codes "tokens"
+name_of (table_tokens table_file text by) = codes "tokens"
 name_of (build lex yacc table_file report version points) = codes "build"
 name_of (run table_file text by) = codes "run"
+name_of (lines table_file text by) = codes "run"
 name_of (try lex yacc text by) = codes "try"
+name_of (run_placed table_file text points) = codes "run"
+name_of (try_placed lex yacc text points) = codes "try"
 name_of (check table_file by) = codes "check"
 name_of (explain lex yacc states graph) = codes "explain"
 
 -- the words that stand behind the command's name in this order
 abbrev pub operands_of : Request → List Text
-operands_of (tokens lex text points) = lex ∷ as_list text
+operands_of (tokens lex text by) = lex ∷ as_list text
+operands_of (table_tokens table_file text by) = table_file ∷ as_list text
 operands_of (build lex yacc table_file report version points) = lex ∷ yacc ∷ table_file ∷ []
 operands_of (run table_file text by) = table_file ∷ as_list text
+operands_of (lines table_file text by) = table_file ∷ as_list text
 operands_of (try lex yacc text by) = lex ∷ yacc ∷ as_list text
+operands_of (run_placed table_file text points) = table_file ∷ as_list text
+operands_of (try_placed lex yacc text points) = lex ∷ yacc ∷ as_list text
 operands_of (check table_file by) = table_file ∷ []
 operands_of (explain lex yacc states graph) = lex ∷ yacc ∷ []
 
@@ -66,9 +75,13 @@ answering_words by = form_words by.form ++ pointing_words by.points
 
 -- the flags that stand in front of the operands
 abbrev pub flags_of : Request → List Text
-flags_of (tokens lex text points) = pointing_words points
+flags_of (tokens lex text by) = answering_words by
+flags_of (table_tokens table_file text by) = codes "--tables" ∷ answering_words by
 flags_of (run table_file text by) = answering_words by
+flags_of (lines table_file text by) = codes "--lines" ∷ answering_words by
 flags_of (try lex yacc text by) = answering_words by
+flags_of (run_placed table_file text points) = codes "--places" ∷ pointing_words points
+flags_of (try_placed lex yacc text points) = codes "--places" ∷ pointing_words points
 flags_of (check table_file by) = answering_words by
 flags_of _ = []
 

@@ -7,9 +7,13 @@ use Rattle.ly_words.specs.declared.command.Answering.{Answering}
 -- A command, with the paths that it is given, the version of a table file that is written, and how it is answered, or
 -- whether it points at what is wrong.
 pub data Request : Type 0 where
-  tokens : (lex : Text) → (text : Option Text) → (points : Bool) → Request
+  tokens : (lex : Text) → (text : Option Text) → (by : Answering) → Request
+  table_tokens : (tables : Text) → (text : Option Text) → (by : Answering) → Request
   build : (lex yacc tables : Text) → (report : Option Text) → (version : Version) → (points : Bool) → Request
   run : (tables : Text) → (text : Option Text) → (by : Answering) → Request
+  lines : (tables : Text) → (text : Option Text) → (by : Answering) → Request
   try : (lex yacc : Text) → (text : Option Text) → (by : Answering) → Request
+  run_placed : (tables : Text) → (text : Option Text) → (points : Bool) → Request
+  try_placed : (lex yacc : Text) → (text : Option Text) → (points : Bool) → Request
   check : (tables : Text) → (by : Answering) → Request
   explain : (lex yacc : Text) → (states graph : Option Text) → Request

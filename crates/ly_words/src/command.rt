@@ -14,8 +14,17 @@ pub enum Command<'a> {
         lex: &'a str,
         /// The text.
         text: Option<&'a str>,
-        /// Whether standard error says where something is wrong, and shows it.
-        points: bool,
+        /// How they are written.
+        by: Answering,
+    },
+    /// Write the tokens of a text by the scanner of a table file.
+    TableTokens {
+        /// The table file.
+        tables: &'a str,
+        /// The text.
+        text: Option<&'a str>,
+        /// How they are written.
+        by: Answering,
     },
     /// Write the table file of a lex file and a yacc file.
     Build {
@@ -35,6 +44,15 @@ pub enum Command<'a> {
         /// How it is answered.
         by: Answering,
     },
+    /// Answer each line of a text as a text of its own, by a table file.
+    Lines {
+        /// The table file.
+        tables: &'a str,
+        /// The text.
+        text: Option<&'a str>,
+        /// How each line is answered.
+        by: Answering,
+    },
     /// Answer a text by a lex file and a yacc file.
     Try {
         /// The lex file.
@@ -45,6 +63,26 @@ pub enum Command<'a> {
         text: Option<&'a str>,
         /// How it is answered.
         by: Answering,
+    },
+    /// Answer a text by a table file, with where each part of its tree stands.
+    RunPlaced {
+        /// The table file.
+        tables: &'a str,
+        /// The text.
+        text: Option<&'a str>,
+        /// Whether standard error says where something is wrong, and shows it.
+        points: bool,
+    },
+    /// Answer a text by a lex file and a yacc file, with where each part of its tree stands.
+    TryPlaced {
+        /// The lex file.
+        lex: &'a str,
+        /// The yacc file.
+        yacc: &'a str,
+        /// The text.
+        text: Option<&'a str>,
+        /// Whether standard error says where something is wrong, and shows it.
+        points: bool,
     },
     /// Count what a table file is made of.
     Check {

@@ -15,16 +15,21 @@ use ly_base::Version;
 use ly_print::AnswerForm;
 use std::alloc::{AllocError, Global};
 
-/// Where `clap` takes the words, nothing else can be wrong with them.
+/// Where `clap` takes the words of `build`, nothing else can be wrong with them.
 const NO_VERSION: &str = "error: invalid value for '--format <VERSION>': it must be 1 or 2\n";
 
-/// Reads the words of the line, of which the first is the program's name: `tokens LEX [TEXT] [--where]`,
-/// `build LEX YACC TABLES [--report FILE] [--format 1|2] [--where]`, `run TABLES [TEXT] [--json] [--where]`,
-/// `try LEX YACC [TEXT] [--json] [--where]`, `check TABLES [--json] [--where]` or
-/// `explain LEX YACC [--states FILE] [--graph FILE]`.
+/// Nor with those of another command.
+const NO_LINES: &str = "error: the argument '--lines' cannot be used with '--places'\n";
+
+/// Reads the words of the line, of which the first is the program's name: `tokens LEX [TEXT] [--json] [--where]`,
+/// `tokens --tables TABLES [TEXT] [--json] [--where]`,
+/// `build LEX YACC TABLES [--report FILE] [--format 1|2] [--where]`,
+/// `run TABLES [TEXT] [--lines] [--json] [--places] [--where]`,
+/// `try LEX YACC [TEXT] [--json] [--places] [--where]`, `check TABLES [--json] [--where]` or
+/// `explain LEX YACC [--states FILE] [--graph FILE]`. `--places` means JSON, also without `--json`.
 ///
-/// `Help` comes where a help text or the version is asked for, `Bad` where `clap` refuses the words for another reason
-/// or they ask for another version of a table file, `OutOfMemory` where a growth was refused.
+/// `Help` comes where a help text or the version is asked for, `Bad` where `clap` refuses the words for another reason,
+/// they ask for another version of a table file, or for lines with places, `OutOfMemory` where a growth was refused.
 pub fn read_command<'a>(alloc: Global, words: &'a [String]) -> Result<Command<'a>, CommandFault>
     ensures said { IfOk result (λ c. request_of (map string_bytes words.entry.now) ≡ Some (said c)) }
     ensures faultless { OnOk result (line_faults (map string_bytes words.entry.now) ≡ []) }
@@ -36,7 +41,11 @@ pub fn read_command<'a>(alloc: Global, words: &'a [String]) -> Result<Command<'a
     let matches = matched(alloc, words)?;
     match command_in(&matches) {
         Some(command) => Ok(command),
-        None => Err(CommandFault::Bad(String::from_str(alloc, NO_VERSION)?)),
+        None => {
+            let is_build = matches!(matches.subcommand(), Some(("build", _)));
+            let reason = if is_build { NO_VERSION } else { NO_LINES };
+            Err(CommandFault::Bad(String::from_str(alloc, reason)?))
+        }
     }
 }
 
@@ -73,10 +82,21 @@ fn command_in<'a>(matches: &ArgMatches<'a>) -> Option<Command<'a>>
 fn tokens_in<'a>(values: &ArgMatches<'a>) -> Option<Command<'a>>
     ensures { option_map said result ≡ tokens_by (first_value (found_of values.now)) }
 {
-    Some(Command::Tokens {
-        lex: values.get_str("LEX")?,
-        text: values.get_str("TEXT"),
-        points: is_said(values, "WHERE"),
+    let path = values.get_str("LEX")?;
+    let text = values.get_str("TEXT");
+    let by = answering_in(values);
+    Some(if is_said(values, "SCANNER") {
+        Command::TableTokens {
+            tables: path,
+            text,
+            by,
+        }
+    } else {
+        Command::Tokens {
+            lex: path,
+            text,
+            by,
+        }
     })
 }
 
@@ -139,22 +159,43 @@ fn version_of(number: Option<&str>) -> Option<Version>
 fn run_in<'a>(values: &ArgMatches<'a>) -> Option<Command<'a>>
     ensures { option_map said result ≡ run_by (first_value (found_of values.now)) }
 {
-    Some(Command::Run {
-        tables: values.get_str("TABLES")?,
-        text: values.get_str("TEXT"),
-        by: answering_in(values),
-    })
+    let tables = values.get_str("TABLES")?;
+    let text = values.get_str("TEXT");
+    let by = answering_in(values);
+    match (is_said(values, "LINES"), is_said(values, "PLACES")) {
+        (false, false) => Some(Command::Run { tables, text, by }),
+        (true, false) => Some(Command::Lines { tables, text, by }),
+        (false, true) => Some(Command::RunPlaced {
+            tables,
+            text,
+            points: by.points,
+        }),
+        (true, true) => None,
+    }
 }
 
 /// The command `try` with these values.
 fn try_in<'a>(values: &ArgMatches<'a>) -> Option<Command<'a>>
     ensures { option_map said result ≡ try_by (first_value (found_of values.now)) }
 {
-    Some(Command::Try {
-        lex: values.get_str("LEX")?,
-        yacc: values.get_str("YACC")?,
-        text: values.get_str("TEXT"),
-        by: answering_in(values),
+    let lex = values.get_str("LEX")?;
+    let yacc = values.get_str("YACC")?;
+    let text = values.get_str("TEXT");
+    let by = answering_in(values);
+    Some(if is_said(values, "PLACES") {
+        Command::TryPlaced {
+            lex,
+            yacc,
+            text,
+            points: by.points,
+        }
+    } else {
+        Command::Try {
+            lex,
+            yacc,
+            text,
+            by,
+        }
     })
 }
 

@@ -2,7 +2,8 @@ ghost use Rattle.std.specs.Prelude.{◌≡◌, IfOk, codes, false};
 ghost use Rattle.clap.specs.Words.{App, app_of, rule_of, with_subcommand};
 ghost use Rattle.ly_words.specs.CommandLine.{IsApp, build_app, build_paths_app, check_app, explain_app};
 ghost use Rattle.ly_words.specs.CommandLine.{files_app, flag_rule, format_rule, graph_rule, line_app, path_rule};
-ghost use Rattle.ly_words.specs.CommandLine.{report_rule, run_app, states_rule, text_rule, tokens_app, top_app, try_app};
+ghost use Rattle.ly_words.specs.CommandLine.{report_rule, run_app, run_paths_app, states_rule, text_rule, tokens_app};
+ghost use Rattle.ly_words.specs.CommandLine.{tokens_paths_app, top_app, try_app};
 
 use clap::{Arg, ArgAction, Command};
 use std::alloc::{AllocError, Global};
@@ -57,11 +58,20 @@ fn with<'a>(
 fn tokens_line<'a>(alloc: Global) -> Result<Command<'a>, AllocError>
     ensures { IfOk result (IsApp tokens_app) }
 {
+    tokens_paths(alloc)?
+        .arg(by_tables(alloc))?
+        .arg(json(alloc))?
+        .arg(pointing(alloc))
+}
+
+/// The subcommand `tokens` with its paths alone.
+fn tokens_paths<'a>(alloc: Global) -> Result<Command<'a>, AllocError>
+    ensures { IfOk result (IsApp tokens_paths_app) }
+{
     Command::new(alloc, "tokens")
         .about("Writes the tokens of a text, one a line")
         .arg(path(alloc, "LEX", LEX))?
-        .arg(text(alloc))?
-        .arg(pointing(alloc))
+        .arg(text(alloc))
 }
 
 /// The subcommand `build`.
@@ -89,12 +99,21 @@ fn build_paths<'a>(alloc: Global) -> Result<Command<'a>, AllocError>
 fn run_line<'a>(alloc: Global) -> Result<Command<'a>, AllocError>
     ensures { IfOk result (IsApp run_app) }
 {
+    run_paths(alloc)?
+        .arg(lines(alloc))?
+        .arg(json(alloc))?
+        .arg(places(alloc))?
+        .arg(pointing(alloc))
+}
+
+/// The subcommand `run` with its paths alone.
+fn run_paths<'a>(alloc: Global) -> Result<Command<'a>, AllocError>
+    ensures { IfOk result (IsApp run_paths_app) }
+{
     Command::new(alloc, "run")
         .about("Writes the tree of a text by a table file")
         .arg(path(alloc, "TABLES", BUILT))?
-        .arg(text(alloc))?
-        .arg(json(alloc))?
-        .arg(pointing(alloc))
+        .arg(text(alloc))
 }
 
 /// The subcommand `try`.
@@ -105,6 +124,7 @@ fn try_line<'a>(alloc: Global) -> Result<Command<'a>, AllocError>
     files(alloc, "try", about)?
         .arg(text(alloc))?
         .arg(json(alloc))?
+        .arg(places(alloc))?
         .arg(pointing(alloc))
 }
 
@@ -162,6 +182,28 @@ fn text<'a>(alloc: Global) -> Arg<'a>
     Arg::new(alloc, "TEXT").help("The text; standard input if it is left out")
 }
 
+/// The flag of a table file in place of a lex file.
+fn by_tables<'a>(alloc: Global) -> Arg<'a>
+    ensures rule { rule_of result ≡ flag_rule (codes "SCANNER") (codes "tables") }
+    ensures local { result.global ≡ false }
+{
+    Arg::new(alloc, "SCANNER")
+        .long("tables")
+        .action(ArgAction::SetTrue)
+        .help("Takes LEX as a table file, whose scanner finds the tokens")
+}
+
+/// The flag of lines.
+fn lines<'a>(alloc: Global) -> Arg<'a>
+    ensures rule { rule_of result ≡ flag_rule (codes "LINES") (codes "lines") }
+    ensures local { result.global ≡ false }
+{
+    Arg::new(alloc, "LINES")
+        .long("lines")
+        .action(ArgAction::SetTrue)
+        .help("Answers each line as a text of its own, before it reads the next")
+}
+
 /// The flag of JSON.
 fn json<'a>(alloc: Global) -> Arg<'a>
     ensures rule { rule_of result ≡ flag_rule (codes "JSON") (codes "json") }
@@ -171,6 +213,17 @@ fn json<'a>(alloc: Global) -> Arg<'a>
         .long("json")
         .action(ArgAction::SetTrue)
         .help("Writes the answer as one line of JSON")
+}
+
+/// The flag of places.
+fn places<'a>(alloc: Global) -> Arg<'a>
+    ensures rule { rule_of result ≡ flag_rule (codes "PLACES") (codes "places") }
+    ensures local { result.global ≡ false }
+{
+    Arg::new(alloc, "PLACES")
+        .long("places")
+        .action(ArgAction::SetTrue)
+        .help("Writes as JSON where each part of the answer begins and ends")
 }
 
 /// The flag of what points at a fault.

@@ -9,18 +9,25 @@ use Rattle.std.specs.declared.vec.Vec.{Vec}
 use Rattle.ly_base.specs.Limits.{Sizes, version_2}
 use Rattle.ly_base.specs.declared.version.Version.{Version}
 use Rattle.ly_generate.specs.Parser.{IsReportIf}
-use Rattle.ly_words.specs.Request.{Request, build, check, explain, run, tokens, try}
+use Rattle.ly_print.specs.declared.answer_form.AnswerForm.{AnswerForm}
+use Rattle.ly_words.specs.Request.{Request, build, check, explain, lines, run, run_placed, table_tokens}
+use Rattle.ly_words.specs.Request.{tokens, try, try_placed}
 use Rattle.ly_words.specs.declared.command.Answering.{Answering}
 use Rattle.lytab.specs.Answering.{AreTokensPrinted, IsAnsweredByFiles, IsAnsweredByTables, text_from}
 use Rattle.lytab.specs.CarriedOut.{Ends, IsBuildTold, IsCarriedOut, IsExplanationTold, IsInputTold, wanted_for}
-use Rattle.lytab.specs.Devices.{IsLeftOrFailed, IsOutputTold}
-use Rattle.lytab.specs.Failure.{IsOfDevice, failure_of_file}
+use Rattle.lytab.specs.Devices.{AreAnswersTold, AreWritesTold, IsLeftOrFailed, IsOutputTold, IsToldOf}
+use Rattle.lytab.specs.Failure.{IsOfDevice, IsOfWriter, failure_of_file}
 use Rattle.lytab.specs.Files.{IsWrittenIf}
+use Rattle.lytab.specs.Lines.{AreLinesAnsweredBy, AreLinesFailed, AreLinesRead}
+use Rattle.lytab.specs.Placing.{IsPlacedByFiles, IsPlacedByTables}
 use Rattle.lytab.specs.Reading.{IsOfRules, IsReadByFiles, IsReadByTables}
 use Rattle.lytab.specs.Refusal.{IsRefusalOfBuild, IsRefusalOfCheck, IsRefusalOfFiles, IsRefusalOfLex}
 use Rattle.lytab.specs.Refusal.{IsRefusalOfTables}
+use Rattle.lytab.specs.TableTokens.{AreTableTokens, IsRefusalOfScanner}
 use Rattle.lytab.specs.declared.completion.Completion.{Completion}
 use Rattle.lytab.specs.declared.failure.Failure.{Failure}
+use Rattle.lytab.specs.declared.failure.Failure.TheVariants.{FaultyTables, Refused, Tables, TooLong, Unreadable}
+use Rattle.lytab.specs.declared.failure.Failure.TheVariants as failure
 use Rattle.lytab.specs.declared.files.FileFault.{FileFault}
 use Rattle.lytab.specs.declared.files.FileFault.TheVariants.{CannotRead, CannotWrite, OutOfMemory}
 
@@ -35,6 +42,18 @@ fails_tables : (tables : List ℕ) (given : Option (List ℕ)) (fault : FileFaul
 fails_tables tables given (CannotRead path) = tt
 fails_tables tables given (CannotWrite path) = tt
 fails_tables tables given OutOfMemory = tt
+
+fails_scanner : (tables : List ℕ) (given : Option (List ℕ)) (fault : FileFault)
+    → IsRefusalOfScanner tables given (failure_of_file fault)
+fails_scanner tables given (CannotRead path) = tt
+fails_scanner tables given (CannotWrite path) = tt
+fails_scanner tables given OutOfMemory = tt
+
+pub fails_lines : (form : AnswerForm) (tables : List ℕ) (given before after : Option (List ℕ)) (fault : FileFault)
+    → after ≡ before → AreLinesFailed form tables given before after (failure_of_file fault)
+fails_lines form tables given before after (CannotRead path) same = inl same
+fails_lines form tables given before after (CannotWrite path) same = inl same
+fails_lines form tables given before after OutOfMemory same = inl same
 
 fails_files : (lex yacc : List ℕ) (given : Option (List ℕ)) (fault : FileFault)
     → IsRefusalOfFiles lex yacc given (failure_of_file fault)
@@ -63,38 +82,66 @@ untouched : {A R : Type 0} (text : Option A) (r : Result Completion Failure) (e 
 untouched None r e read same unread done = (unread, done)
 untouched (Some path) r e read same unread done = same
 
--- so a command failed before it did anything, and standard input is as it was
+-- so a command failed before it did anything, and standard input and output are as they were
 pub failed_first : {R D : Type 0} (contents : D → Option (List ℕ)) (request : Request) (fault : FileFault) (e : Ends R)
-    → e.input_after ≡ e.input_before → IsCarriedOut contents request (Err (failure_of_file fault)) e
-failed_first contents (tokens lex text points) fault e same = (
+    → e.input_after ≡ e.input_before → e.after ≡ e.before
+    → IsCarriedOut contents request (Err (failure_of_file fault)) e
+failed_first contents (tokens lex text by) fault e same kept = (
   [],
   tt,
   fails_lex [] fault,
   untouched text (Err (failure_of_file fault)) e _ same (λ _. same) tt,
 )
-failed_first contents (run table_file text by) fault e same = (
+failed_first contents (table_tokens table_file text by) fault e same kept = (
+  [],
+  tt,
+  fails_scanner [] (text_from text e.given) fault,
+  untouched text (Err (failure_of_file fault)) e _ same (λ _. same) tt,
+)
+failed_first contents (run table_file text by) fault e same kept = (
   [],
   tt,
   fails_tables [] (text_from text e.given) fault,
   untouched text (Err (failure_of_file fault)) e _ same (λ _. same) (inl same),
 )
-failed_first contents (try lex yacc text by) fault e same = (
+failed_first contents (lines table_file text by) fault e same kept = (
+  [],
+  tt,
+  fails_lines by.form [] (text_from text e.given) e.before e.after fault kept,
+  untouched text (Err (failure_of_file fault)) e _ same (λ _. same) (inl same),
+)
+failed_first contents (run_placed table_file text points) fault e same kept = (
+  [],
+  tt,
+  fails_tables [] (text_from text e.given) fault,
+  untouched text (Err (failure_of_file fault)) e _ same (λ _. same) tt,
+)
+failed_first contents (try_placed lex yacc text points) fault e same kept = (
+  [],
+  [],
+  tt,
+  fails_files [] [] (text_from text e.given) fault,
+  untouched text (Err (failure_of_file fault)) e _ same (λ _. same) tt,
+)
+failed_first contents (try lex yacc text by) fault e same kept = (
   [],
   [],
   tt,
   fails_files [] [] (text_from text e.given) fault,
   untouched text (Err (failure_of_file fault)) e _ same (λ _. same) (inl same),
 )
-failed_first contents (build lex yacc table_file report version points) fault e same = (tt, fails_build version fault, same)
-failed_first contents (check table_file by) fault e same = (tt, fails_check fault, same)
-failed_first contents (explain lex yacc states graph) fault e same = (tt, fails_device fault, same)
+failed_first contents (build lex yacc table_file report version points) fault e same kept =
+    (tt, fails_build version fault, same)
+failed_first contents (check table_file by) fault e same kept = (tt, fails_check fault, same)
+failed_first contents (explain lex yacc states graph) fault e same kept = (tt, fails_device fault, same)
 
 pub failed_with : {R D : Type 0} (contents : D → Option (List ℕ)) (request : Request) (fault : FileFault) (e : Ends R)
     (r : Result Completion Failure) → IsErrAnd r (λ f. f ≡ failure_of_file fault) → e.input_after ≡ e.input_before
-    → IsCarriedOut contents request r e
-failed_with contents request fault e (Ok c) is same = absurd is
-failed_with contents request fault e (Err f) is same = subst (λ g. IsCarriedOut contents request (Err g) e) (sym is)
-    (failed_first contents request fault e same)
+    → e.after ≡ e.before → IsCarriedOut contents request r e
+failed_with contents request fault e (Ok c) is same kept = absurd is
+failed_with contents request fault e (Err f) is same kept =
+    subst (λ g. IsCarriedOut contents request (Err g) e) (sym is)
+    (failed_first contents request fault e same kept)
 
 text_mapped : {A B : Type 0} (f : A → B) (text : Option A) (given : Option (List ℕ))
     → text_from (option_map f text) given ≡ text_from text given
@@ -111,16 +158,33 @@ input_mapped f (Some path) r e read elsewhere refused needed = elsewhere refl
 
 -- a command that answers a text, by the bytes of its files
 pub carried_tokens : {A R D : Type 0} (contents : D → Option (List ℕ)) (f : A → List ℕ) (path lex : List ℕ)
-    (text : Option A) (points : Bool) (r : Result Completion Failure) (e : Ends R)
-    → IfOk r (AreTokensPrinted lex (text_from text e.given) e.before e.after) → IfErr r (IsRefusalOfLex lex)
+    (text : Option A) (by : Answering) (r : Result Completion Failure) (e : Ends R)
+    → IfOk r (AreTokensPrinted by.form lex (text_from text e.given) e.before e.after) → IfErr r (IsRefusalOfLex lex)
     → (IsSome text → e.input_after ≡ e.input_before)
     → (text ≡ None → IfErr r (λ g. IsOfRules g → e.input_after ≡ e.input_before))
     → (text ≡ None → OnOk r (IsAtEnd e.left))
-    → IsCarriedOut contents (tokens path (option_map f text) points) r e
-carried_tokens contents f path lex text points r e answered refused elsewhere unread needed = (
+    → IsCarriedOut contents (tokens path (option_map f text) by) r e
+carried_tokens contents f path lex text by r e answered refused elsewhere unread needed = (
   lex,
-  subst (λ given. IfOk r (AreTokensPrinted lex given e.before e.after)) (sym (text_mapped f text e.given)) answered,
+  subst (λ given. IfOk r (AreTokensPrinted by.form lex given e.before e.after)) (sym (text_mapped f text e.given))
+      answered,
   refused,
+  input_mapped f text r e (OnOk r (IsAtEnd e.left)) elsewhere unread needed,
+)
+
+pub carried_table_tokens : {A R D : Type 0} (contents : D → Option (List ℕ)) (f : A → List ℕ) (path bytes : List ℕ)
+    (text : Option A) (by : Answering) (r : Result Completion Failure) (e : Ends R)
+    → IfOk r (AreTableTokens by.form bytes (text_from text e.given) e.before e.after)
+    → IfErr r (IsRefusalOfScanner bytes (text_from text e.given))
+    → (IsSome text → e.input_after ≡ e.input_before)
+    → (text ≡ None → IfErr r (λ g. IsOfRules g → e.input_after ≡ e.input_before))
+    → (text ≡ None → OnOk r (IsAtEnd e.left))
+    → IsCarriedOut contents (table_tokens path (option_map f text) by) r e
+carried_table_tokens contents f path bytes text by r e answered refused elsewhere unread needed = (
+  bytes,
+  subst (λ given. IfOk r (AreTableTokens by.form bytes given e.before e.after)) (sym (text_mapped f text e.given))
+      answered,
+  subst (λ given. IfErr r (IsRefusalOfScanner bytes given)) (sym (text_mapped f text e.given)) refused,
   input_mapped f text r e (OnOk r (IsAtEnd e.left)) elsewhere unread needed,
 )
 
@@ -138,6 +202,54 @@ carried_run contents f path bytes text by r e answered refused elsewhere unread 
       answered,
   subst (λ given. IfErr r (IsRefusalOfTables bytes given)) (sym (text_mapped f text e.given)) refused,
   input_mapped f text r e _ elsewhere unread (λ no. inr (needed no)),
+)
+
+pub carried_lines : {A R D : Type 0} (contents : D → Option (List ℕ)) (f : A → List ℕ) (path bytes : List ℕ)
+    (text : Option A) (by : Answering) (r : Result Completion Failure) (e : Ends R)
+    → IfOk r (AreLinesAnsweredBy by.form bytes (text_from text e.given) e.before e.after)
+    → IfErr r (AreLinesFailed by.form bytes (text_from text e.given) e.before e.after)
+    → (IsSome text → e.input_after ≡ e.input_before)
+    → (text ≡ None → IfErr r (λ g. IsOfRules g → e.input_after ≡ e.input_before))
+    → (text ≡ None → AreLinesRead by.form bytes r e.given e.left e.before e.after)
+    → IsCarriedOut contents (lines path (option_map f text) by) r e
+carried_lines contents f path bytes text by r e answered failed elsewhere unread read = (
+  bytes,
+  subst (λ given. IfOk r (AreLinesAnsweredBy by.form bytes given e.before e.after)) (sym (text_mapped f text e.given))
+      answered,
+  subst (λ given. IfErr r (AreLinesFailed by.form bytes given e.before e.after)) (sym (text_mapped f text e.given))
+      failed,
+  input_mapped f text r e _ elsewhere unread (λ no. inr (read no)),
+)
+
+pub carried_run_placed : {A R D : Type 0} (contents : D → Option (List ℕ)) (f : A → List ℕ) (path bytes : List ℕ)
+    (text : Option A) (points : Bool) (r : Result Completion Failure) (e : Ends R)
+    → IfOk r (IsPlacedByTables bytes (text_from text e.given) e.before e.after)
+    → IfErr r (IsRefusalOfTables bytes (text_from text e.given))
+    → (IsSome text → e.input_after ≡ e.input_before)
+    → (text ≡ None → IfErr r (λ g. IsOfRules g → e.input_after ≡ e.input_before))
+    → (text ≡ None → OnOk r (IsAtEnd e.left))
+    → IsCarriedOut contents (run_placed path (option_map f text) points) r e
+carried_run_placed contents f path bytes text points r e answered refused elsewhere unread needed = (
+  bytes,
+  subst (λ given. IfOk r (IsPlacedByTables bytes given e.before e.after)) (sym (text_mapped f text e.given)) answered,
+  subst (λ given. IfErr r (IsRefusalOfTables bytes given)) (sym (text_mapped f text e.given)) refused,
+  input_mapped f text r e (OnOk r (IsAtEnd e.left)) elsewhere unread needed,
+)
+
+pub carried_try_placed : {A R D : Type 0} (contents : D → Option (List ℕ)) (f : A → List ℕ)
+    (path other lex yacc : List ℕ) (text : Option A) (points : Bool) (r : Result Completion Failure) (e : Ends R)
+    → IfOk r (IsPlacedByFiles lex yacc (text_from text e.given) e.before e.after)
+    → IfErr r (IsRefusalOfFiles lex yacc (text_from text e.given))
+    → (IsSome text → e.input_after ≡ e.input_before)
+    → (text ≡ None → IfErr r (λ g. IsOfRules g → e.input_after ≡ e.input_before))
+    → (text ≡ None → OnOk r (IsAtEnd e.left))
+    → IsCarriedOut contents (try_placed path other (option_map f text) points) r e
+carried_try_placed contents f path other lex yacc text points r e answered refused elsewhere unread needed = (
+  lex,
+  yacc,
+  subst (λ given. IfOk r (IsPlacedByFiles lex yacc given e.before e.after)) (sym (text_mapped f text e.given)) answered,
+  subst (λ given. IfErr r (IsRefusalOfFiles lex yacc given)) (sym (text_mapped f text e.given)) refused,
+  input_mapped f text r e (OnOk r (IsAtEnd e.left)) elsewhere unread needed,
 )
 
 pub carried_try : {A R D : Type 0} (contents : D → Option (List ℕ)) (f : A → List ℕ) (path other lex yacc : List ℕ)
@@ -240,8 +352,56 @@ left_or_failed : {W : Type 0} (known : W → Option (List ℕ)) (old new : W) (b
 left_or_failed known old new before after f (inl left) = inl (left.0, ap known left.1)
 left_or_failed known old new before after f (inr failed) = inr failed
 
-pub told_of_known : {W : Type 0} (known : W → Option (List ℕ)) (r : Result Completion Failure) (old new : W)
+known_told : {W : Type 0} (known : W → Option (List ℕ)) (r : Result Completion Failure) (old new : W)
     (before after : ℕ) → IsOutputTold r old new before after → IsOutputTold r (known old) (known new) before after
-told_of_known known (Ok c) old new before after h = record { failed = tt; held = h.held }
-told_of_known known (Err f) old new before after h =
+known_told known (Ok c) old new before after h = record { failed = tt; held = h.held }
+known_told known (Err f) old new before after h =
     record { failed = left_or_failed known old new before after f h.failed; held = h.held }
+
+pub told_of_known : {W : Type 0} (known : W → Option (List ℕ)) (request : Request) (r : Result Completion Failure)
+    (old new : W) (before after : ℕ) → IsToldOf request r old new before after
+    → IsToldOf request r (known old) (known new) before after
+told_of_known known (tokens lex text by) r old new before after h = known_told known r old new before after h
+told_of_known known (table_tokens tables text by) r old new before after h =
+    known_told known r old new before after h
+told_of_known known (build lex yacc tables report version points) r old new before after h =
+    known_told known r old new before after h
+told_of_known known (run tables text by) r old new before after h = known_told known r old new before after h
+told_of_known known (lines tables text by) r old new before after h = h
+told_of_known known (run_placed tables text points) r old new before after h =
+    known_told known r old new before after h
+told_of_known known (try_placed lex yacc text points) r old new before after h =
+    known_told known r old new before after h
+told_of_known known (try lex yacc text by) r old new before after h = known_told known r old new before after h
+told_of_known known (check tables by) r old new before after h = known_told known r old new before after h
+told_of_known known (explain lex yacc states graph) r old new before after h =
+    known_told known r old new before after h
+
+-- a command that failed before it did anything
+pub kept_told : {W : Type 0} (request : Request) (f : Failure) (old : W) (count : ℕ)
+    → IsToldOf request (Err f) old old count count
+kept_told (tokens lex text by) f old count = record { failed = inl (refl, refl); held = tt }
+kept_told (table_tokens tables text by) f old count = record { failed = inl (refl, refl); held = tt }
+kept_told (build lex yacc tables report version points) f old count = record { failed = inl (refl, refl); held = tt }
+kept_told (run tables text by) f old count = record { failed = inl (refl, refl); held = tt }
+kept_told (lines tables text by) f old count = record { failed = inl refl; held = tt }
+kept_told (run_placed tables text points) f old count = record { failed = inl (refl, refl); held = tt }
+kept_told (try_placed lex yacc text points) f old count = record { failed = inl (refl, refl); held = tt }
+kept_told (try lex yacc text by) f old count = record { failed = inl (refl, refl); held = tt }
+kept_told (check tables by) f old count = record { failed = inl (refl, refl); held = tt }
+kept_told (explain lex yacc states graph) f old count = record { failed = inl (refl, refl); held = tt }
+
+-- what is told of standard output where lines were answered
+pub lines_told : (r : Result Completion Failure) (before after : ℕ) → AreWritesTold r before after
+    → IfErr r (λ f. (IsOfWriter f → ⊥) → after ≡ before) → AreAnswersTold r before after
+lines_told (Ok c) before after told kept = record { failed = tt; held = told.held }
+lines_told (Err (failure.CannotWrite path)) before after told kept =
+    record { failed = inr (told.failed tt, tt); held = tt }
+lines_told (Err (failure.CannotRead path)) before after told kept = record { failed = inl (kept (λ no. no)); held = tt }
+lines_told (Err (Unreadable path reason)) before after told kept =
+    record { failed = inl (kept (λ no. no)); held = tt }
+lines_told (Err (Refused fault line)) before after told kept = record { failed = inl (kept (λ no. no)); held = tt }
+lines_told (Err (Tables fault)) before after told kept = record { failed = inl (kept (λ no. no)); held = tt }
+lines_told (Err FaultyTables) before after told kept = record { failed = inl (kept (λ no. no)); held = tt }
+lines_told (Err TooLong) before after told kept = record { failed = inl (kept (λ no. no)); held = tt }
+lines_told (Err failure.OutOfMemory) before after told kept = record { failed = inl (kept (λ no. no)); held = tt }

@@ -1,25 +1,38 @@
 -- What is written for a text that is known is written for some text.
-use Rattle.std.proofs.Common.{◌≡◌, ◌⊎◌, IfErr, IfOk, inl, inr, List, None, Option, Result, ℕ}
+use Rattle.std.proofs.Common.{◌≡◌, ◌⊎◌, IfErr, IfOk, inl, inr, List, None, Option, refl, Result, ℕ}
 use Rattle.ly_generate.proofs.GenFaultLemmas.{err_weaker, ok_weaker}
 use Rattle.ly_drive.specs.Answering.{IsAnsweredBy, IsBegunBy, IsReadAsNeeded}
+use Rattle.ly_drive.specs.Lines.{AreLinesAnswered, AreLinesStopped}
+use Rattle.ly_drive.specs.TableTokens.{IsListedFor}
+use Rattle.ly_drive.specs.declared.lines_outcome.LinesOutcome.{LinesOutcome}
 use Rattle.ly_base.specs.Limits.{Sizes, version_2}
 use Rattle.ly_base.specs.declared.version.Version.TheVariants.{V2}
 use Rattle.ly_base.specs.declared.lexeme.End.{End}
 use Rattle.ly_feed.specs.declared.outcome.Outcome.{Outcome}
+use Rattle.ly_feed.specs.declared.text_fault.TextFault.{TextFault}
+use Rattle.ly_feed.specs.declared.text_fault.TextFault.TheVariants as text
+use Rattle.ly_listing.specs.Listings.{end_of}
+use Rattle.ly_places.specs.Placing.{IsPlacedFor, IsPlacingBegun}
 use Rattle.ly_print.specs.declared.answer_form.AnswerForm.{AnswerForm}
 use Rattle.ly_generate.specs.Generated.{IsGenerated}
 use Rattle.ly_tables.specs.TableSet.{TableSet}
 use Rattle.ly_tokens.specs.Answers.{Answers}
 use Rattle.lytab.specs.Answering.{IsAnswered, IsAnswerBegun}
-use Rattle.lytab.specs.Failure.{IsOfWriter}
+use Rattle.lytab.proofs.CarriedLemmas.{fails_lines}
+use Rattle.lytab.specs.Failure.{IsOfWriter, failure_of_file}
+use Rattle.lytab.specs.Lines.{AreLinesFailed, AreLinesStoppedBy, IsFaultMet}
 use Rattle.lytab.specs.Reading.{HasReadFailed, IsReadByFiles}
 use Rattle.lytab.specs.declared.answering.Rules.{Rules}
 use Rattle.lytab.specs.declared.answering.Rules.TheVariants as rules
 use Rattle.lytab.specs.declared.completion.Completion.{Completion}
 use Rattle.lytab.specs.declared.failure.Failure.{Failure}
+use Rattle.lytab.specs.declared.failure.Failure.TheVariants.{CannotRead, CannotWrite, FaultyTables, OutOfMemory}
+use Rattle.lytab.specs.declared.failure.Failure.TheVariants.{Refused, Tables, TooLong, Unreadable}
+use Rattle.lytab.specs.declared.files.FileFault.{FileFault}
 
-answers_of_some : {limits : Sizes} {lex : List ℕ} {given : Option (List ℕ)} {e : End} {answer : List ℕ}
-    → Answers limits lex given e answer → Answers limits lex None e answer
+answers_of_some : {form : AnswerForm} {limits : Sizes} {lex : List ℕ} {given : Option (List ℕ)} {e : End}
+    {answer : List ℕ}
+    → Answers form limits lex given e answer → Answers form limits lex None e answer
 answers_of_some a = record {
   file = a.file;
   spelled = a.spelled;
@@ -39,19 +52,91 @@ begun_of_some : (form : AnswerForm) (s : TableSet) (given before after : Option 
     → IsBegunBy form s given before after written → IsBegunBy form s None before after written
 begun_of_some form s given before after written h = (h.0, h.1, h.2, tt, h.4, h.5, h.6)
 
+listed_of_some : (form : AnswerForm) (s : TableSet) (given : Option (List ℕ)) (e : End) (answer : List ℕ)
+    → IsListedFor form s given e answer → IsListedFor form s None e answer
+listed_of_some form s given e answer h = (h.0, tt, h.2)
+
+placed_of_some : (s : TableSet) (given before after : Option (List ℕ)) (o : Outcome)
+    → IsPlacedFor s given before after o → IsPlacedFor s None before after o
+placed_of_some s given before after o h = (h.0, h.1, tt, h.3, h.4)
+
+placing_of_some : (s : TableSet) (given before after : Option (List ℕ)) (written : ℕ)
+    → IsPlacingBegun s given before after written → IsPlacingBegun s None before after written
+placing_of_some s given before after written h = (h.0, h.1, h.2, tt, h.4, h.5, h.6)
+
+lines_of_some : (form : AnswerForm) (s : TableSet) (given before after : Option (List ℕ)) (o : LinesOutcome)
+    → AreLinesAnswered form s given before after o → AreLinesAnswered form s None before after o
+lines_of_some form s given before after o h = (h.0, h.1, tt, h.3, h.4)
+
+stopped_of_some : (form : AnswerForm) (s : TableSet) (given before after : Option (List ℕ)) (fault : TextFault)
+    → AreLinesStopped form s given before after fault → AreLinesStopped form s None before after fault
+stopped_of_some form s given before after fault h = (h.0, tt, h.2)
+
+met_of_some : (form : AnswerForm) (tables : List ℕ) (given before after : Option (List ℕ)) (fault : TextFault)
+    → IsFaultMet form tables given before after fault → IsFaultMet form tables None before after fault
+met_of_some form tables given before after fault h =
+    (h.0, h.1, stopped_of_some form h.0 given before after fault h.2)
+
+-- or nothing was written
+kept_or : {A B C : Type 0} → (B → C) → A ⊎ B → A ⊎ C
+kept_or f (inl same) = inl same
+kept_or f (inr h) = inr (f h)
+
+failed_of_some : (form : AnswerForm) (tables : List ℕ) (given before after : Option (List ℕ)) (f : Failure)
+    → AreLinesFailed form tables given before after f → AreLinesFailed form tables None before after f
+failed_of_some form tables given before after (Tables fault) h = h
+failed_of_some form tables given before after FaultyTables h =
+    met_of_some form tables given before after text.FaultyTables h
+failed_of_some form tables given before after TooLong h =
+    (tt, met_of_some form tables given before after text.TooLong h.1)
+failed_of_some form tables given before after (CannotRead path) h =
+    kept_or (met_of_some form tables given before after text.Read) h
+failed_of_some form tables given before after (CannotWrite path) h =
+    kept_or (λ met. (met.0, met_of_some form tables given before after (text.Write met.0) met.1)) h
+failed_of_some form tables given before after OutOfMemory h = kept_or
+    (λ stopped s driven. stopped_of_some form s given before after text.OutOfMemory (stopped s driven)) h
+failed_of_some form tables given before after (Unreadable path reason) h = h
+failed_of_some form tables given before after (Refused fault line) h = h
+
+some_stopped : (r : Rules) (given before after : Option (List ℕ)) (f : Failure)
+    → AreLinesStoppedBy r given before after f → AreLinesStoppedBy r None before after f
+some_stopped (rules.Tokens lex form) given before after f h = h
+some_stopped (rules.TableTokens tables form) given before after f h = h
+some_stopped (rules.Tables tables form) given before after f h = h
+some_stopped (rules.Lines tables form) given before after f h =
+    failed_of_some form tables.now given before after f h
+some_stopped (rules.TablesPlaced tables) given before after f h = h
+some_stopped (rules.BothPlaced lex yacc) given before after f h = h
+some_stopped (rules.Both lex yacc form) given before after f h = h
+
 some_answered : (r : Rules) (given before after : Option (List ℕ)) (c : Completion)
     → IsAnswered r given before after c → IsAnswered r None before after c
-some_answered (rules.Tokens lex) given before after c h = (h.0, h.1, answers_of_some h.2, h.3, h.4)
+some_answered (rules.Tokens lex form) given before after c h = (h.0, h.1, answers_of_some h.2, h.3, h.4)
+some_answered (rules.TableTokens tables form) given before after c h =
+    (h.0, h.1, h.2, h.3, listed_of_some form h.1 given (end_of h.0) h.3 h.4, h.5, h.6)
 some_answered (rules.Tables tables form) given before after c h =
     (h.0, h.1, h.2, answered_of_some form h.1 given before after h.0 h.3, h.4)
+some_answered (rules.Lines tables form) given before after c h =
+    (h.0, h.1, h.2, lines_of_some form h.1 given before after h.0 h.3, h.4)
+some_answered (rules.TablesPlaced tables) given before after c h =
+    (h.0, h.1, h.2, placed_of_some h.1 given before after h.0 h.3, h.4)
+some_answered (rules.BothPlaced lex yacc) given before after c h =
+    (h.0, h.1, h.2, placed_of_some h.1 given before after h.0 h.3, h.4)
 some_answered (rules.Both lex yacc form) given before after c h =
     (h.0, h.1, h.2, answered_of_some form h.1 given before after h.0 h.3, h.4)
 
 some_begun : (r : Rules) (given before after : Option (List ℕ)) → IsAnswerBegun r given before after
     → IsAnswerBegun r None before after
-some_begun (rules.Tokens lex) given before after h = (h.0, h.1, h.2, answers_of_some h.3, h.4, h.5)
+some_begun (rules.Tokens lex form) given before after h = (h.0, h.1, h.2, answers_of_some h.3, h.4, h.5)
+some_begun (rules.TableTokens tables form) given before after h =
+    (h.0, h.1, h.2, h.3, h.4, listed_of_some form h.1 given h.3 h.4 h.5, h.6, h.7)
 some_begun (rules.Tables tables form) given before after h =
     (h.0, h.1, h.2, begun_of_some form h.1 given before after h.0 h.3)
+some_begun (rules.Lines tables form) given before after h = tt
+some_begun (rules.TablesPlaced tables) given before after h =
+    (h.0, h.1, h.2, placing_of_some h.1 given before after h.0 h.3)
+some_begun (rules.BothPlaced lex yacc) given before after h =
+    (h.0, h.1, h.2, placing_of_some h.1 given before after h.0 h.3)
 some_begun (rules.Both lex yacc form) given before after h =
     (h.0, h.1, h.2, begun_of_some form h.1 given before after h.0 h.3)
 
@@ -65,6 +150,23 @@ pub if_begun : (r : Rules) (given before after : Option (List ℕ)) (result : Re
     → IfErr result (λ f. IsOfWriter f → IsAnswerBegun r None before after)
 if_begun r given before after result begun =
     err_weaker result _ _ (λ f h is. some_begun r given before after (h is)) begun
+
+pub if_stopped : (r : Rules) (given before after : Option (List ℕ)) (result : Result Completion Failure)
+    → IfErr result (AreLinesStoppedBy r given before after) → IfErr result (AreLinesStoppedBy r None before after)
+if_stopped r given before after result stopped =
+    err_weaker result _ _ (some_stopped r given before after) stopped
+
+-- where a file can't be opened nothing was written
+pub unopened : (r : Rules) (given before : Option (List ℕ)) (fault : FileFault)
+    → AreLinesStoppedBy r given before before (failure_of_file fault)
+unopened (rules.Tokens lex form) given before fault = tt
+unopened (rules.TableTokens tables form) given before fault = tt
+unopened (rules.Tables tables form) given before fault = tt
+unopened (rules.Lines tables form) given before fault =
+    fails_lines form tables.now given before before fault refl
+unopened (rules.TablesPlaced tables) given before fault = tt
+unopened (rules.BothPlaced lex yacc) given before fault = tt
+unopened (rules.Both lex yacc form) given before fault = tt
 
 -- what was read where no read failed
 pub unfailed : {R : Type 0} {lex yacc : List ℕ} {result : Result Completion Failure} {old new : R}

@@ -10,9 +10,12 @@ use Rattle.ly_generate.specs.Generated.{IsGenerated}
 use Rattle.ly_print.specs.declared.answer_form.AnswerForm.{AnswerForm}
 use Rattle.ly_tables.specs.TableSet.{TableSet}
 use Rattle.ly_tokens.specs.Answers.{Answers}
-use Rattle.ly_tokens.specs.Printing.{end_of}
-use Rattle.ly_tokens.specs.declared.outcome.TokenEnd.{TokenEnd}
+use Rattle.ly_listing.specs.Listings.{end_of}
+use Rattle.ly_listing.specs.declared.token_end.TokenEnd.{TokenEnd}
 use Rattle.lytab.specs.Completion.{completion_of_outcome, completion_of_tokens}
+use Rattle.lytab.specs.Lines.{AreLinesAnsweredBy}
+use Rattle.lytab.specs.Placing.{IsPlacedByFiles, IsPlacedByTables, IsPlacingBegunByFiles, IsPlacingBegunByTables}
+use Rattle.lytab.specs.TableTokens.{AreTableTokens, AreTableTokensBegun}
 use Rattle.lytab.specs.declared.answering.Rules.{Rules}
 use Rattle.lytab.specs.declared.answering.Rules.TheVariants as rules
 use Rattle.lytab.specs.declared.completion.Completion.{Completion}
@@ -22,18 +25,22 @@ abbrev pub text_from : {A : Type 0} → Option A → Option (List ℕ) → Optio
 text_from None given = given
 text_from (Some path) given = None
 
--- The tokens of the text that a reader gave were written, by a lex file.
-abbrev pub AreTokensPrinted : List ℕ → Option (List ℕ) → Option (List ℕ) → Option (List ℕ) → Completion → Type 0
-AreTokensPrinted lex given before after c = (end : TokenEnd) × (answer : List ℕ)
-    × Answers version_2 lex given (end_of end) answer × Appends before after answer × (c ≡ completion_of_tokens end)
+-- The tokens of the text that a reader gave were written in a form, by a lex file.
+abbrev pub AreTokensPrinted :
+    AnswerForm → List ℕ → Option (List ℕ) → Option (List ℕ) → Option (List ℕ) → Completion → Type 0
+AreTokensPrinted form lex given before after c = (end : TokenEnd) × (answer : List ℕ)
+    × Answers form version_2 lex given (end_of end) answer × Appends before after answer
+    × (c ≡ completion_of_tokens end)
 
 -- so many bytes of them were written, and these are not all
-abbrev pub AreTokensBegun : List ℕ → Option (List ℕ) → Option (List ℕ) → Option (List ℕ) → Type 0
-AreTokensBegun lex given before after = (written : ℕ) × (end : End) × (answer : List ℕ)
-    × Answers version_2 lex given end answer × (written < length answer) × Appends before after (take written answer)
+abbrev pub AreTokensBegun : AnswerForm → List ℕ → Option (List ℕ) → Option (List ℕ) → Option (List ℕ) → Type 0
+AreTokensBegun form lex given before after = (written : ℕ) × (end : End) × (answer : List ℕ)
+    × Answers form version_2 lex given end answer × (written < length answer)
+    × Appends before after (take written answer)
 
 -- The answer to the text was written in a form that the set of a table file gives.
-abbrev pub IsAnsweredByTables : AnswerForm → List ℕ → Option (List ℕ) → Option (List ℕ) → Option (List ℕ) → Completion → Type 0
+abbrev pub IsAnsweredByTables :
+    AnswerForm → List ℕ → Option (List ℕ) → Option (List ℕ) → Option (List ℕ) → Completion → Type 0
 IsAnsweredByTables form tables given before after c = (o : Outcome) × (s : TableSet) × IsDriven tables s
     × IsAnsweredBy form s given before after o × (c ≡ completion_of_outcome o)
 
@@ -54,14 +61,31 @@ IsBegunByFiles form lex yacc given before after = (written : ℕ) × (s : TableS
 
 -- The whole answer was written that these rules give to the text, and the command is completed so.
 abbrev pub IsAnswered : Rules → Option (List ℕ) → Option (List ℕ) → Option (List ℕ) → Completion → Type 0
-IsAnswered (rules.Tokens lex) given before after c = AreTokensPrinted lex.now given before after c
+IsAnswered (rules.Tokens lex form) given before after c = AreTokensPrinted form lex.now given before after c
+IsAnswered (rules.TableTokens tables form) given before after c =
+    AreTableTokens form tables.now given before after c
 IsAnswered (rules.Tables tables form) given before after c = IsAnsweredByTables form tables.now given before after c
+IsAnswered (rules.Lines tables form) given before after c = AreLinesAnsweredBy form tables.now given before after c
+IsAnswered (rules.TablesPlaced tables) given before after c = IsPlacedByTables tables.now given before after c
+IsAnswered (rules.BothPlaced lex yacc) given before after c =
+    IsPlacedByFiles lex.now yacc.now given before after c
 IsAnswered (rules.Both lex yacc form) given before after c =
     IsAnsweredByFiles form lex.now yacc.now given before after c
 
--- so many bytes of it were written, and these are not all
+-- the text is answered as one
+abbrev pub IsOneText : Rules → Type 0
+IsOneText (rules.Lines tables form) = ⊥
+IsOneText _ = Unit {0}
+
+-- So many bytes of it were written, and these are not all. What is written of lines is said where they are.
 abbrev pub IsAnswerBegun : Rules → Option (List ℕ) → Option (List ℕ) → Option (List ℕ) → Type 0
-IsAnswerBegun (rules.Tokens lex) given before after = AreTokensBegun lex.now given before after
+IsAnswerBegun (rules.Tokens lex form) given before after = AreTokensBegun form lex.now given before after
+IsAnswerBegun (rules.TableTokens tables form) given before after =
+    AreTableTokensBegun form tables.now given before after
 IsAnswerBegun (rules.Tables tables form) given before after = IsBegunByTables form tables.now given before after
+IsAnswerBegun (rules.Lines tables form) given before after = Unit {0}
+IsAnswerBegun (rules.TablesPlaced tables) given before after = IsPlacingBegunByTables tables.now given before after
+IsAnswerBegun (rules.BothPlaced lex yacc) given before after =
+    IsPlacingBegunByFiles lex.now yacc.now given before after
 IsAnswerBegun (rules.Both lex yacc form) given before after =
     IsBegunByFiles form lex.now yacc.now given before after

@@ -23,14 +23,18 @@ use Rattle.ly_accepted.specs.declared.surveying.Explanation.{Explanation}
 use Rattle.ly_tables.specs.TableSet.{TableSet}
 use Rattle.ly_tables.specs.TableText.{TableText}
 use Rattle.ly_tables.specs.declared.set_counts.SetCounts.{SetCounts}
-use Rattle.ly_words.specs.Request.{Request, build, check, explain, run, tokens, try}
+use Rattle.ly_words.specs.Request.{Request, build, check, explain, lines, run, run_placed, table_tokens}
+use Rattle.ly_words.specs.Request.{tokens, try, try_placed}
 use Rattle.lytab.specs.Answering.{IsAnsweredByFiles, IsAnsweredByTables, AreTokensPrinted, text_from}
 use Rattle.lytab.specs.Completion.{completion_status}
-use Rattle.lytab.specs.Devices.{IsOutputTold}
+use Rattle.lytab.specs.Devices.{IsToldOf}
 use Rattle.lytab.specs.Failure.{failure_status, IsOfDevice}
 use Rattle.lytab.specs.Files.{HasTaken, IsWrittenIf}
+use Rattle.lytab.specs.Lines.{AreLinesAnsweredBy, AreLinesFailed, AreLinesRead}
+use Rattle.lytab.specs.Placing.{IsPlacedByFiles, IsPlacedByTables}
 use Rattle.lytab.specs.Reading.{IsOfRules, IsReadByFiles, IsReadByTables}
 use Rattle.lytab.specs.Refusal.{IsRefusalOfBuild, IsRefusalOfCheck, IsRefusalOfFiles, IsRefusalOfLex, IsRefusalOfTables}
+use Rattle.lytab.specs.TableTokens.{AreTableTokens, IsRefusalOfScanner}
 use Rattle.lytab.specs.declared.completion.Completion.{Completion}
 use Rattle.lytab.specs.declared.completion.Completion.TheVariants.{Done, FilesRefused}
 use Rattle.lytab.specs.declared.failure.Failure.{Failure}
@@ -152,13 +156,30 @@ IsReadForFiles lex yacc result e = IsReadByFiles lex yacc result e.input_before 
 -- what a command did that asks for this, and how it ended, where of a file that it writes this is known
 abbrev pub IsCarriedOut : {R D : Type 0} → (D → Option (List ℕ)) → Request → Result Completion Failure → Ends R
     → Type 0
-IsCarriedOut contents (tokens lex text points) result e = (bytes : List ℕ)
-    × IfOk result (AreTokensPrinted bytes (text_from text e.given) e.before e.after)
+IsCarriedOut contents (tokens lex text by) result e = (bytes : List ℕ)
+    × IfOk result (AreTokensPrinted by.form bytes (text_from text e.given) e.before e.after)
     × IfErr result (IsRefusalOfLex bytes) × IsInputTold text result e (OnOk result (IsAtEnd e.left))
+IsCarriedOut contents (table_tokens table_file text by) result e = (bytes : List ℕ)
+    × IfOk result (AreTableTokens by.form bytes (text_from text e.given) e.before e.after)
+    × IfErr result (IsRefusalOfScanner bytes (text_from text e.given))
+    × IsInputTold text result e (OnOk result (IsAtEnd e.left))
 IsCarriedOut contents (run table_file text by) result e = (bytes : List ℕ)
     × IfOk result (IsAnsweredByTables by.form bytes (text_from text e.given) e.before e.after)
     × IfErr result (IsRefusalOfTables bytes (text_from text e.given))
     × IsInputTold text result e (IsReadForTables bytes result e)
+IsCarriedOut contents (lines table_file text by) result e = (bytes : List ℕ)
+    × IfOk result (AreLinesAnsweredBy by.form bytes (text_from text e.given) e.before e.after)
+    × IfErr result (AreLinesFailed by.form bytes (text_from text e.given) e.before e.after)
+    × IsInputTold text result e ((e.input_after ≡ e.input_before)
+    ⊎ AreLinesRead by.form bytes result e.given e.left e.before e.after)
+IsCarriedOut contents (run_placed table_file text points) result e = (bytes : List ℕ)
+    × IfOk result (IsPlacedByTables bytes (text_from text e.given) e.before e.after)
+    × IfErr result (IsRefusalOfTables bytes (text_from text e.given))
+    × IsInputTold text result e (OnOk result (IsAtEnd e.left))
+IsCarriedOut contents (try_placed lex yacc text points) result e = (lex_bytes yacc_bytes : List ℕ)
+    × IfOk result (IsPlacedByFiles lex_bytes yacc_bytes (text_from text e.given) e.before e.after)
+    × IfErr result (IsRefusalOfFiles lex_bytes yacc_bytes (text_from text e.given))
+    × IsInputTold text result e (OnOk result (IsAtEnd e.left))
 IsCarriedOut contents (try lex yacc text by) result e = (lex_bytes yacc_bytes : List ℕ)
     × IfOk result (IsAnsweredByFiles by.form lex_bytes yacc_bytes (text_from text e.given) e.before e.after)
     × IfErr result (IsRefusalOfFiles lex_bytes yacc_bytes (text_from text e.given))
@@ -168,7 +189,8 @@ IsCarriedOut contents (build lex yacc table_file report version points) result e
     × IfErr result (IsRefusalOfBuild version)
     × (e.input_after ≡ e.input_before)
 IsCarriedOut contents (check table_file by) result e =
-    IfOk result (IsCheckTold by.form e.before e.after) × IfErr result IsRefusalOfCheck × (e.input_after ≡ e.input_before)
+    IfOk result (IsCheckTold by.form e.before e.after) × IfErr result IsRefusalOfCheck
+    × (e.input_after ≡ e.input_before)
 IsCarriedOut contents (explain lex yacc states graph) result e =
     IfOk result (IsExplanationTold contents states graph e.before e.after) × IfErr result IsOfDevice
     × (e.input_after ≡ e.input_before)
@@ -181,10 +203,11 @@ IsStatusOf status result = MatchResult result (λ c. status ≡ completion_statu
 -- A command was carried out that asks for this, with its exit status. Where it is completed standard output's count of
 -- failures is as it was. Where it failed standard output and its count of failures are as they were, or a write to it
 -- failed: the count went on by one, and the status is 3. So standard output is as it was with status 1 or 2 of a
--- failure, and with any where its count of failures is.
+-- failure, and with any where its count of failures is; but the answers of the lines in front of a failure stand there,
+-- where each line is a text of its own.
 pub record HasPerformed {R D : Type 0} (contents : D → Option (List ℕ)) (request : Request) (e : Ends R)
     (failures new_failures status : ℕ) : Type 0 where
   pub result : Result Completion Failure
   pub carried_out : IsCarriedOut contents request result e
   pub is_status : IsStatusOf status result
-  pub output : IsOutputTold result e.before e.after failures new_failures
+  pub output : IsToldOf request result e.before e.after failures new_failures

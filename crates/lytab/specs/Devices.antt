@@ -1,6 +1,7 @@
 -- Which failures of devices are told: by how often they had failed before a call and after it.
 use Rattle.std.specs.Prelude.{◌≡◌, ◌⊎◌, ℕ, IfErr, MatchResult, OnOk, Result}
 use Rattle.ly_print.specs.Device.{next_count}
+use Rattle.ly_words.specs.Request.{Request, lines}
 use Rattle.lytab.specs.Failure.{IsOfReader, IsOfWriter}
 use Rattle.lytab.specs.declared.completion.Completion.{Completion}
 use Rattle.lytab.specs.declared.failure.Failure.{Failure}
@@ -21,6 +22,17 @@ pub record IsOutputTold {W : Type 0} (result : Result Completion Failure) (old n
   where
     pub failed : IfErr result (IsLeftOrFailed old new before after)
     pub held : OnOk result (after ≡ before)
+
+-- Where each line of a text is answered by itself, the answers of those in front of a failure stand on standard output:
+-- its count of failures is as it was, or that of a write went on by one.
+pub record AreAnswersTold (result : Result Completion Failure) (before after : ℕ) : Type 0 where
+  pub failed : IfErr result (λ f. (after ≡ before) ⊎ ((after ≡ next_count before) × IsOfWriter f))
+  pub held : OnOk result (after ≡ before)
+
+-- what is told of standard output where a command asks for this
+abbrev pub IsToldOf : {W : Type 0} → Request → Result Completion Failure → W → W → ℕ → ℕ → Type 0
+IsToldOf (lines table_file text by) result old new before after = AreAnswersTold result before after
+IsToldOf _ result old new before after = IsOutputTold result old new before after
 
 -- that a read failed is told exactly where one did
 pub record AreReadsTold (result : Result Completion Failure) (before after : ℕ) : Type 0 where

@@ -1,5 +1,9 @@
 -- Which device a failure is of, and its exit status.
-use Rattle.std.specs.Prelude.{ℕ}
+use Rattle.std.specs.Prelude.{◌≡◌, ℕ}
+use Rattle.ly_drive.specs.declared.fault.DriveFault.{DriveFault}
+use Rattle.ly_drive.specs.declared.fault.DriveFault.TheVariants as drive
+use Rattle.ly_feed.specs.declared.text_fault.TextFault.{TextFault}
+use Rattle.ly_feed.specs.declared.text_fault.TextFault.TheVariants as text
 use Rattle.ly_generate.specs.declared.gen_fault.GenFault.{GenFault}
 use Rattle.ly_generate.specs.declared.gen_fault.GenFault.TheVariants as gen
 use Rattle.ly_tables.specs.declared.fault.TableFault.{TableFault}
@@ -25,6 +29,19 @@ IsOfReader _ = ⊥
 abbrev pub IsOfWriter : Failure → Type 0
 IsOfWriter (CannotWrite path) = Unit {0}
 IsOfWriter _ = ⊥
+
+-- why a text has no answer for a fault of answering it
+abbrev pub IsOfAnswering : TextFault → Failure → Type 0
+IsOfAnswering text.FaultyTables f = f ≡ FaultyTables
+IsOfAnswering text.TooLong f = f ≡ TooLong
+IsOfAnswering text.Read f = IsOfReader f
+IsOfAnswering (text.Write written) f = IsOfWriter f
+IsOfAnswering text.OutOfMemory f = f ≡ OutOfMemory
+
+-- why it has none by a table file
+abbrev pub IsOfDriving : DriveFault → Failure → Type 0
+IsOfDriving (drive.Tables fault) f = f ≡ Tables fault
+IsOfDriving (drive.Text fault) f = IsOfAnswering fault f
 
 -- a device fails or memory runs out
 abbrev pub IsOfDevice : Failure → Type 0

@@ -39,12 +39,17 @@ abbrev pub IsReadByFiles : {R : Type 0} → List ℕ → List ℕ → Result Com
 IsReadByFiles lex yacc result old new before after = (new ≡ old)
     ⊎ ((s : TableSet) × IsGenerated V2 version_2 lex yacc s × IsReadFor s result before after)
 
--- what these rules ask for: all of a text whose tokens are printed
+-- what these rules ask for: all of a text whose tokens are printed, or that is answered with places
 abbrev pub IsReadBy : {R : Type 0} → Rules → Result Completion Failure → R → R → Option (List ℕ) → Option (List ℕ)
     → Type 0
-IsReadBy (rules.Tokens lex) result old new before after = OnOk result (IsAtEnd after)
+IsReadBy (rules.Tokens lex form) result old new before after = OnOk result (IsAtEnd after)
+IsReadBy (rules.TableTokens tables form) result old new before after = OnOk result (IsAtEnd after)
 IsReadBy (rules.Tables tables form) result old new before after = IsReadByTables tables.now result before after
-IsReadBy (rules.Both lex yacc form) result old new before after = IsReadByFiles lex.now yacc.now result old new before after
+IsReadBy (rules.Lines tables form) result old new before after = Unit {0}
+IsReadBy (rules.TablesPlaced tables) result old new before after = OnOk result (IsAtEnd after)
+IsReadBy (rules.BothPlaced lex yacc) result old new before after = OnOk result (IsAtEnd after)
+IsReadBy (rules.Both lex yacc form) result old new before after =
+    IsReadByFiles lex.now yacc.now result old new before after
 
 -- A reader is as it was where the files are refused, and else it gave what these rules ask for.
 pub record IsTextRead {R : Type 0} (by : Rules) (result : Result Completion Failure) (old new : R)

@@ -18,6 +18,7 @@ use Rattle.ly_tables.specs.TableSet.{TableSet}
 use Rattle.ly_tables.specs.declared.fault.TableFault.TheVariants as file
 use Rattle.ly_tokens.specs.Answers.{AreTooHeavy, HaveTooManyStates}
 use Rattle.lytab.specs.Failure.{IsOfDevice}
+use Rattle.lytab.specs.TableTokens.{IsRefusalOfScanner}
 use Rattle.lytab.specs.declared.answering.Rules.{Rules}
 use Rattle.lytab.specs.declared.answering.Rules.TheVariants as rules
 use Rattle.lytab.specs.declared.failure.Failure.{Failure}
@@ -73,8 +74,13 @@ abbrev pub IsRefusalOfCheck : Failure → Type 0
 IsRefusalOfCheck (Tables fault) = (tables : List ℕ) × IsRefusedAs tables fault
 IsRefusalOfCheck f = IsOfDevice f
 
--- what a failure says of these rules, and of what a reader gave; that a device fails or memory runs out says nothing
+-- What a failure says of these rules, and of what a reader gave; that a device fails or memory runs out says nothing.
+-- What it says of lines is said where they are.
 abbrev pub IsRefusalOf : Rules → Option (List ℕ) → Failure → Type 0
-IsRefusalOf (rules.Tokens lex) given f = IsRefusalOfLex lex.now f
+IsRefusalOf (rules.Tokens lex form) given f = IsRefusalOfLex lex.now f
+IsRefusalOf (rules.TableTokens tables form) given f = IsRefusalOfScanner tables.now given f
 IsRefusalOf (rules.Tables tables form) given f = IsRefusalOfTables tables.now given f
+IsRefusalOf (rules.Lines tables form) given f = Unit {0}
+IsRefusalOf (rules.TablesPlaced tables) given f = IsRefusalOfTables tables.now given f
+IsRefusalOf (rules.BothPlaced lex yacc) given f = IsRefusalOfFiles lex.now yacc.now given f
 IsRefusalOf (rules.Both lex yacc form) given f = IsRefusalOfFiles lex.now yacc.now given f

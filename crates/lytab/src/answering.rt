@@ -3,9 +3,14 @@ ghost use Rattle.std.specs.Prelude.{◌≡◌, IfErr, IfOk, IsSome, None, Ok, On
 ghost use Rattle.std.specs.Io.KnownBytes.{IsAtEnd};
 ghost use Rattle.lytab.specs.Answering.{AreTokensBegun, AreTokensPrinted, IsAnswerBegun, IsAnswered};
 ghost use Rattle.lytab.specs.Answering.{IsAnsweredByFiles, IsAnsweredByTables, IsBegunByFiles, IsBegunByTables};
-ghost use Rattle.lytab.specs.Answering.{text_from};
+ghost use Rattle.lytab.specs.Answering.{IsOneText, text_from};
 ghost use Rattle.lytab.specs.Devices.{AreDevicesTold, AreWritesTold};
 ghost use Rattle.lytab.specs.Failure.{IsOfWriter};
+ghost use Rattle.lytab.specs.Lines.{AreLinesAnsweredBy, AreLinesFailed, AreLinesRead, AreLinesReadBy};
+ghost use Rattle.lytab.specs.Lines.{AreLinesStoppedBy};
+ghost use Rattle.lytab.specs.TableTokens.{AreTableTokens, AreTableTokensBegun, IsRefusalOfScanner};
+ghost use Rattle.lytab.specs.Placing.{IsPlacedByFiles, IsPlacedByTables, IsPlacingBegunByFiles};
+ghost use Rattle.lytab.specs.Placing.{IsPlacingBegunByTables};
 ghost use Rattle.lytab.specs.Reading.{IsOfRules, IsReadByFiles, IsReadByTables, IsTextRead};
 ghost use Rattle.lytab.specs.Refusal.{IsRefusalOf, IsRefusalOfFiles, IsRefusalOfLex, IsRefusalOfTables};
 ghost use Rattle.lytab.specs.declared.completion.Completion.TheVariants as completion;
@@ -15,8 +20,8 @@ use crate::failure::Failure;
 use crate::files::{STANDARD, open};
 use crate::notes::Notes;
 use crate::remembering::{Recall, Remembering};
-use ly_drive::{DriveFault, TextFault, drive};
-use ly_engine::{AnswerFault, GenFault, TokensFault, answer, tokens};
+use ly_drive::{DriveFault, TextFault, drive, drive_lines, drive_tokens};
+use ly_engine::{AnswerFault, GenFault, TokensFault, answer, answer_placed, drive_placed, tokens};
 use ly_print::{AnswerForm, Counted, Sink, Source};
 use std::alloc::Global;
 use std::rt::Files;
@@ -25,13 +30,41 @@ use std::rt::Files;
 #[derive(Clone, Copy)]
 pub enum Rules<'a> {
     /// A lex file, for the tokens.
-    Tokens(&'a [u8]),
+    Tokens {
+        /// The lex file.
+        lex: &'a [u8],
+        /// How they are written.
+        form: AnswerForm,
+    },
+    /// A table file, for the tokens that its scanner finds.
+    TableTokens {
+        /// The table file.
+        tables: &'a [u8],
+        /// How they are written.
+        form: AnswerForm,
+    },
     /// A table file.
     Tables {
         /// The table file.
         tables: &'a [u8],
         /// How the answer is written.
         form: AnswerForm,
+    },
+    /// A table file, each line of the text as a text of its own.
+    Lines {
+        /// The table file.
+        tables: &'a [u8],
+        /// How each answer is written.
+        form: AnswerForm,
+    },
+    /// A table file, with where each part of the answer stands.
+    TablesPlaced(&'a [u8]),
+    /// A lex file and a yacc file, with where each part of the answer stands.
+    BothPlaced {
+        /// The lex file.
+        lex: &'a [u8],
+        /// The yacc file.
+        yacc: &'a [u8],
     },
     /// A lex file and a yacc file.
     Both {
@@ -63,9 +96,14 @@ pub fn answer_text<'a, F: Files, R: Source + Recall, W: Sink>(
     ensures written { AreWritesTold result (W.failures output.old) (W.failures output.new) }
     ensures beginning { IfErr result (λ f. IsOfWriter f → IsAnswerBegun rules.entry
         (text_from text.entry (R.remaining input.old)) (W.contents output.old) (W.contents output.new)) }
-    ensures untouched { IfErr result (λ f. (IsOfWriter f → ⊥) → output.new ≡ output.old) }
+    ensures stopped { IfErr result (AreLinesStoppedBy rules.entry (text_from text.entry (R.remaining input.old))
+        (W.contents output.old) (W.contents output.new)) }
+    ensures kept { IfErr result (λ f. (IsOfWriter f → ⊥) → W.failures output.new ≡ W.failures output.old) }
+    ensures untouched { IsOneText rules.entry → IfErr result (λ f. (IsOfWriter f → ⊥) → output.new ≡ output.old) }
     ensures needed { text.entry ≡ None → IsTextRead rules.entry result input.old input.new (R.remaining input.old)
         (R.remaining input.new) }
+    ensures read { text.entry ≡ None → AreLinesReadBy rules.entry result (R.remaining input.old)
+        (R.remaining input.new) (W.contents output.old) (W.contents output.new) }
     ensures ended { text.entry ≡ None → result ≡ Ok completion.Done → IsAtEnd (R.remaining input.new) }
 {
     match text {
@@ -96,15 +134,30 @@ fn answer_by<'a, R: Source + Recall, W: Sink>(
         (W.failures writer.new) }
     ensures beginning { IfErr result (λ f. IsOfWriter f → IsAnswerBegun rules.entry (R.remaining reader.old)
         (W.contents writer.old) (W.contents writer.new)) }
-    ensures untouched { IfErr result (λ f. (IsOfWriter f → ⊥) → writer.new ≡ writer.old) }
+    ensures stopped { IfErr result (AreLinesStoppedBy rules.entry (R.remaining reader.old) (W.contents writer.old)
+        (W.contents writer.new)) }
+    ensures kept { IfErr result (λ f. (IsOfWriter f → ⊥) → W.failures writer.new ≡ W.failures writer.old) }
+    ensures untouched { IsOneText rules.entry → IfErr result (λ f. (IsOfWriter f → ⊥) → writer.new ≡ writer.old) }
     ensures needed { IsTextRead rules.entry result reader.old reader.new (R.remaining reader.old)
         (R.remaining reader.new) }
+    ensures read { AreLinesReadBy rules.entry result (R.remaining reader.old) (R.remaining reader.new)
+        (W.contents writer.old) (W.contents writer.new) }
     ensures ended { result ≡ Ok completion.Done → IsAtEnd (R.remaining reader.new) }
 {
     match rules {
-        Rules::Tokens(lex) => print_tokens(alloc, lex, path, reader, writer, notes),
+        Rules::Tokens { lex, form } => {
+            print_tokens(alloc, lex, form, path, reader, writer, notes)
+        }
+        Rules::TableTokens { tables, form } => {
+            print_table_tokens(alloc, tables, form, path, reader, writer, notes)
+        }
         Rules::Tables { tables, form } => {
             answer_by_tables(alloc, tables, form, path, reader, writer, notes)
+        }
+        Rules::Lines { tables, form } => answer_lines(alloc, tables, form, path, reader, writer),
+        Rules::TablesPlaced(tables) => place_by_tables(alloc, tables, path, reader, writer, notes),
+        Rules::BothPlaced { lex, yacc } => {
+            place_by_files(alloc, lex, yacc, path, reader, writer, notes)
         }
         Rules::Both { lex, yacc, form } => {
             answer_by_files(alloc, lex, yacc, form, path, reader, writer, notes)
@@ -116,24 +169,25 @@ fn answer_by<'a, R: Source + Recall, W: Sink>(
 fn print_tokens<'a, R: Source + Recall, W: Sink>(
     alloc: Global,
     lex: &[u8],
+    form: AnswerForm,
     path: &'a str,
     reader: &mut R,
     writer: &mut W,
     notes: &mut Notes,
 ) -> Result<Completion, Failure<'a>>
-    ensures answered { IfOk result (AreTokensPrinted lex.now (R.remaining reader.old) (W.contents writer.old)
+    ensures answered { IfOk result (AreTokensPrinted form lex.now (R.remaining reader.old) (W.contents writer.old)
         (W.contents writer.new)) }
     ensures refused { IfErr result (IsRefusalOfLex lex.now) }
     ensures told { AreDevicesTold result (R.failures reader.old) (R.failures reader.new) (W.failures writer.old)
         (W.failures writer.new) }
-    ensures beginning { IfErr result (λ f. IsOfWriter f → AreTokensBegun lex.now (R.remaining reader.old)
+    ensures beginning { IfErr result (λ f. IsOfWriter f → AreTokensBegun form lex.now (R.remaining reader.old)
         (W.contents writer.old) (W.contents writer.new)) }
     ensures untouched { IfErr result (λ f. (IsOfWriter f → ⊥) → writer.new ≡ writer.old) }
     ensures unread { IfErr result (λ f. IsOfRules f → reader.new ≡ reader.old) }
     ensures needed { OnOk result (IsAtEnd (R.remaining reader.new)) }
     ensures ended { result ≡ Ok completion.Done → IsAtEnd (R.remaining reader.new) }
 {
-    match tokens(alloc, lex, reader, writer) {
+    match tokens(alloc, lex, form, reader, writer) {
         Ok(end) => {
             notes.point_at_end(path, reader, end);
             Ok(Completion::of_tokens(end))
@@ -146,6 +200,36 @@ fn print_tokens<'a, R: Source + Recall, W: Sink>(
         Err(TokensFault::Read) => Err(Failure::CannotRead(path)),
         Err(TokensFault::Write { .. }) => Err(Failure::CannotWrite(STANDARD)),
         Err(TokensFault::OutOfMemory) => Err(Failure::OutOfMemory),
+    }
+}
+
+/// Prints the tokens of all that a reader of this name gives, by the scanner of a table file.
+fn print_table_tokens<'a, R: Source + Recall, W: Sink>(
+    alloc: Global,
+    tables: &[u8],
+    form: AnswerForm,
+    path: &'a str,
+    reader: &mut R,
+    writer: &mut W,
+    notes: &mut Notes,
+) -> Result<Completion, Failure<'a>>
+    ensures answered { IfOk result (AreTableTokens form tables.now (R.remaining reader.old) (W.contents writer.old)
+        (W.contents writer.new)) }
+    ensures refused { IfErr result (IsRefusalOfScanner tables.now (R.remaining reader.old)) }
+    ensures told { AreDevicesTold result (R.failures reader.old) (R.failures reader.new) (W.failures writer.old)
+        (W.failures writer.new) }
+    ensures beginning { IfErr result (λ f. IsOfWriter f → AreTableTokensBegun form tables.now (R.remaining reader.old)
+        (W.contents writer.old) (W.contents writer.new)) }
+    ensures untouched { IfErr result (λ f. (IsOfWriter f → ⊥) → writer.new ≡ writer.old) }
+    ensures unread { IfErr result (λ f. IsOfRules f → reader.new ≡ reader.old) }
+    ensures ended { OnOk result (IsAtEnd (R.remaining reader.new)) }
+{
+    match drive_tokens(alloc, tables, form, reader, writer) {
+        Ok(end) => {
+            notes.point_at_end(path, reader, end);
+            Ok(Completion::of_tokens(end))
+        }
+        Err(fault) => Err(Failure::of_driving(fault, path)),
     }
 }
 
@@ -182,6 +266,98 @@ fn answer_by_tables<'a, R: Source + Recall, W: Sink>(
         Err(DriveFault::Text(TextFault::Read)) => Err(Failure::CannotRead(path)),
         Err(DriveFault::Text(TextFault::Write { .. })) => Err(Failure::CannotWrite(STANDARD)),
         Err(DriveFault::Text(TextFault::OutOfMemory)) => Err(Failure::OutOfMemory),
+    }
+}
+
+/// Answers each line of what a reader of this name gives as a text of its own, by a table file.
+fn answer_lines<'a, R: Source, W: Sink>(
+    alloc: Global,
+    tables: &[u8],
+    form: AnswerForm,
+    path: &'a str,
+    reader: &mut R,
+    writer: &mut W,
+) -> Result<Completion, Failure<'a>>
+    ensures answered { IfOk result (AreLinesAnsweredBy form tables.now (R.remaining reader.old) (W.contents writer.old)
+        (W.contents writer.new)) }
+    ensures told { AreDevicesTold result (R.failures reader.old) (R.failures reader.new) (W.failures writer.old)
+        (W.failures writer.new) }
+    ensures stopped { IfErr result (AreLinesFailed form tables.now (R.remaining reader.old) (W.contents writer.old)
+        (W.contents writer.new)) }
+    ensures kept { IfErr result (λ f. (IsOfWriter f → ⊥) → W.failures writer.new ≡ W.failures writer.old) }
+    ensures unread { IfErr result (λ f. IsOfRules f → reader.new ≡ reader.old) }
+    ensures read { AreLinesRead form tables.now result (R.remaining reader.old) (R.remaining reader.new)
+        (W.contents writer.old) (W.contents writer.new) }
+    ensures ended { OnOk result (IsAtEnd (R.remaining reader.new)) }
+{
+    match drive_lines(alloc, tables, form, reader, writer) {
+        Ok(outcome) => Ok(Completion::of_lines(outcome)),
+        Err(DriveFault::Tables(fault)) => Err(Failure::Tables(fault)),
+        Err(DriveFault::Text(TextFault::FaultyTables)) => Err(Failure::FaultyTables),
+        Err(DriveFault::Text(TextFault::TooLong)) => Err(Failure::TooLong),
+        Err(DriveFault::Text(TextFault::Read)) => Err(Failure::CannotRead(path)),
+        Err(DriveFault::Text(TextFault::Write { .. })) => Err(Failure::CannotWrite(STANDARD)),
+        Err(DriveFault::Text(TextFault::OutOfMemory)) => Err(Failure::OutOfMemory),
+    }
+}
+
+/// Answers all that a reader of this name gives, by a table file, with where each part stands.
+fn place_by_tables<'a, R: Source + Recall, W: Sink>(
+    alloc: Global,
+    tables: &[u8],
+    path: &'a str,
+    reader: &mut R,
+    writer: &mut W,
+    notes: &mut Notes,
+) -> Result<Completion, Failure<'a>>
+    ensures answered { IfOk result (IsPlacedByTables tables.now (R.remaining reader.old) (W.contents writer.old)
+        (W.contents writer.new)) }
+    ensures refused { IfErr result (IsRefusalOfTables tables.now (R.remaining reader.old)) }
+    ensures told { AreDevicesTold result (R.failures reader.old) (R.failures reader.new) (W.failures writer.old)
+        (W.failures writer.new) }
+    ensures beginning { IfErr result (λ f. IsOfWriter f → IsPlacingBegunByTables tables.now (R.remaining reader.old)
+        (W.contents writer.old) (W.contents writer.new)) }
+    ensures untouched { IfErr result (λ f. (IsOfWriter f → ⊥) → writer.new ≡ writer.old) }
+    ensures unread { IfErr result (λ f. IsOfRules f → reader.new ≡ reader.old) }
+    ensures ended { OnOk result (IsAtEnd (R.remaining reader.new)) }
+{
+    match drive_placed(alloc, tables, reader, writer) {
+        Ok(outcome) => {
+            notes.point_at_outcome(path, reader, &outcome);
+            Ok(Completion::of_outcome(&outcome))
+        }
+        Err(fault) => Err(Failure::of_driving(fault, path)),
+    }
+}
+
+/// Answers all that a reader of this name gives, by a lex file and a yacc file, with where each part stands.
+fn place_by_files<'a, R: Source + Recall, W: Sink>(
+    alloc: Global,
+    lex: &[u8],
+    yacc: &[u8],
+    path: &'a str,
+    reader: &mut R,
+    writer: &mut W,
+    notes: &mut Notes,
+) -> Result<Completion, Failure<'a>>
+    ensures answered { IfOk result (IsPlacedByFiles lex.now yacc.now (R.remaining reader.old)
+        (W.contents writer.old) (W.contents writer.new)) }
+    ensures refused { IfErr result (IsRefusalOfFiles lex.now yacc.now (R.remaining reader.old)) }
+    ensures told { AreDevicesTold result (R.failures reader.old) (R.failures reader.new) (W.failures writer.old)
+        (W.failures writer.new) }
+    ensures beginning { IfErr result (λ f. IsOfWriter f → IsPlacingBegunByFiles lex.now yacc.now
+        (R.remaining reader.old) (W.contents writer.old) (W.contents writer.new)) }
+    ensures untouched { IfErr result (λ f. (IsOfWriter f → ⊥) → writer.new ≡ writer.old) }
+    ensures unread { IfErr result (λ f. IsOfRules f → reader.new ≡ reader.old) }
+    ensures ended { OnOk result (IsAtEnd (R.remaining reader.new)) }
+{
+    match answer_placed(alloc, lex, yacc, reader, writer) {
+        Ok(outcome) => {
+            notes.point_at_outcome(path, reader, &outcome);
+            Ok(Completion::of_outcome(&outcome))
+        }
+        Err(AnswerFault::Gen(fault)) => Err(Failure::of_files(fault, lex, yacc)),
+        Err(AnswerFault::Text(fault)) => Err(Failure::of_answering(fault, path)),
     }
 }
 

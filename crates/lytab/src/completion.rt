@@ -1,14 +1,15 @@
 //! How a command is completed.
 ghost use Rattle.std.specs.Prelude.{◌≡◌, IfErr, IfOk, MatchBool};
 ghost use Rattle.std.specs.Io.KnownBytes.{Appends};
-ghost use Rattle.lytab.specs.Completion.{completion_of_outcome, completion_of_tokens, completion_status};
+ghost use Rattle.lytab.specs.Completion.{completion_of_lines, completion_of_outcome, completion_of_tokens};
+ghost use Rattle.lytab.specs.Completion.{completion_status};
 ghost use Rattle.lytab.specs.Devices.{IsOutputTold};
 ghost use Rattle.lytab.specs.Failure.{IsOfDevice};
 ghost use Rattle.lytab.specs.declared.completion.Completion.TheVariants as completion;
 
 use crate::failure::Failure;
 use crate::files::{STANDARD, write_to};
-use ly_engine::{Outcome, TokenEnd};
+use ly_engine::{LinesOutcome, Outcome, TokenEnd};
 use ly_print::Sink;
 
 /// How a command is completed where nothing fails.
@@ -16,7 +17,7 @@ use ly_print::Sink;
 pub enum Completion {
     /// What was asked for is done.
     Done,
-    /// The text is refused.
+    /// The text is refused, or one of its lines.
     TextRefused,
     /// The files that are explained are refused.
     FilesRefused,
@@ -40,6 +41,16 @@ impl Completion {
         match outcome {
             Outcome::Tree => Completion::Done,
             Outcome::Syntax { .. } | Outcome::NoRule { .. } => Completion::TextRefused,
+        }
+    }
+
+    /// How a command is completed that answers lines so.
+    pub fn of_lines(outcome: LinesOutcome) -> Completion
+        ensures { result ≡ completion_of_lines outcome }
+    {
+        match outcome {
+            LinesOutcome::AllTrees => Completion::Done,
+            LinesOutcome::SomeRefused => Completion::TextRefused,
         }
     }
 

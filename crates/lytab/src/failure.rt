@@ -1,11 +1,12 @@
 //! Why there is no answer, and the line that says so.
 ghost use Rattle.std.specs.Prelude.{◌≡◌, ◌⊎◌, ◌≤◌};
 ghost use Rattle.ly_generate.specs.GenFault.{gen_line};
-ghost use Rattle.lytab.specs.Failure.{failure_of_file, failure_status};
+ghost use Rattle.lytab.specs.Failure.{failure_of_file, failure_status, IsOfAnswering, IsOfDriving};
 ghost use Rattle.lytab.specs.declared.failure.Failure.TheVariants as failure;
 
 use crate::files::{FileFault, STANDARD};
 use ly_base::OutOfMemory;
+use ly_drive::{DriveFault, TextFault};
 use ly_engine::GenFault;
 use ly_join::JoinFault;
 use ly_report::push_terminal;
@@ -59,6 +60,31 @@ impl Failure<'_> {
     {
         let line = fault.line(lex, yacc);
         Failure::Refused(fault, line)
+    }
+}
+
+impl<'a> Failure<'a> {
+    /// Why a text of this name has no answer for this fault.
+    pub fn of_answering(fault: TextFault, path: &'a str) -> Self
+        ensures { IsOfAnswering fault result }
+    {
+        match fault {
+            TextFault::FaultyTables => Failure::FaultyTables,
+            TextFault::TooLong => Failure::TooLong,
+            TextFault::Read => Failure::CannotRead(path),
+            TextFault::Write { .. } => Failure::CannotWrite(STANDARD),
+            TextFault::OutOfMemory => Failure::OutOfMemory,
+        }
+    }
+
+    /// Why a text of this name has no answer by a table file for this fault.
+    pub fn of_driving(fault: DriveFault, path: &'a str) -> Self
+        ensures { IsOfDriving fault result }
+    {
+        match fault {
+            DriveFault::Tables(fault) => Failure::Tables(fault),
+            DriveFault::Text(fault) => Failure::of_answering(fault, path),
+        }
     }
 }
 

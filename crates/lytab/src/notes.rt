@@ -29,10 +29,15 @@ impl Notes {
     /// Nothing so far, of what a command asks for.
     pub fn new(alloc: Global, command: &Command<'_>) -> Notes {
         let are_wanted = match command {
-            Command::Tokens { points, .. } | Command::Build { points, .. } => *points,
-            Command::Run { by, .. } | Command::Try { by, .. } | Command::Check { by, .. } => {
-                by.points
-            }
+            Command::Build { points, .. }
+            | Command::RunPlaced { points, .. }
+            | Command::TryPlaced { points, .. } => *points,
+            Command::Tokens { by, .. }
+            | Command::TableTokens { by, .. }
+            | Command::Run { by, .. }
+            | Command::Lines { by, .. }
+            | Command::Try { by, .. }
+            | Command::Check { by, .. } => by.points,
             Command::Explain(_) => false,
         };
         Notes {

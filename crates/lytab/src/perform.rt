@@ -4,7 +4,7 @@ ghost use Rattle.ly_words.specs.Command.{said};
 ghost use Rattle.ly_words.specs.Paths.{AskFor};
 ghost use Rattle.ly_words.specs.Request.{Request};
 ghost use Rattle.lytab.specs.CarriedOut.{HasPerformed, IsCarriedOut, IsStatusOf};
-ghost use Rattle.lytab.specs.Devices.{IsOutputTold};
+ghost use Rattle.lytab.specs.Devices.{IsToldOf};
 
 use crate::answering::{Rules, answer_text};
 use crate::building::build_tables;
@@ -105,21 +105,28 @@ fn carry_out<'a, F: Files, R: Source + Recall, W: Sink>(
       before = W.contents output.old;
       after = W.contents output.new;
     }) }
-    ensures devices { IsOutputTold result output.old output.new (W.failures output.old) (W.failures output.new) }
+    ensures devices { IsToldOf (said command.entry) result output.old output.new (W.failures output.old)
+        (W.failures output.new) }
 {
     match command {
-        Command::Tokens { lex, text, .. } => {
+        Command::Tokens { lex, text, by } => {
             let bytes = read_file(files, alloc, lex, notes)?;
-            let ended = answer_text(
-                files,
-                alloc,
-                Rules::Tokens(&bytes),
-                text,
-                input,
-                output,
-                notes,
-            );
+            let rules = Rules::Tokens {
+                lex: &bytes,
+                form: by.form,
+            };
+            let ended = answer_text(files, alloc, rules, text, input, output, notes);
             notes.explain_lex(alloc, Named::new(lex, &bytes), &ended);
+            ended
+        }
+        Command::TableTokens { tables, text, by } => {
+            let bytes = read_file(files, alloc, tables, notes)?;
+            let rules = Rules::TableTokens {
+                tables: &bytes,
+                form: by.form,
+            };
+            let ended = answer_text(files, alloc, rules, text, input, output, notes);
+            notes.explain_tables(tables, &ended);
             ended
         }
         Command::Run { tables, text, by } => {
@@ -130,6 +137,38 @@ fn carry_out<'a, F: Files, R: Source + Recall, W: Sink>(
             };
             let ended = answer_text(files, alloc, rules, text, input, output, notes);
             notes.explain_tables(tables, &ended);
+            ended
+        }
+        Command::Lines { tables, text, by } => {
+            let bytes = read_file(files, alloc, tables, notes)?;
+            let rules = Rules::Lines {
+                tables: &bytes,
+                form: by.form,
+            };
+            let ended = answer_text(files, alloc, rules, text, input, output, notes);
+            notes.explain_tables(tables, &ended);
+            ended
+        }
+        Command::RunPlaced { tables, text, .. } => {
+            let bytes = read_file(files, alloc, tables, notes)?;
+            let rules = Rules::TablesPlaced(&bytes);
+            let ended = answer_text(files, alloc, rules, text, input, output, notes);
+            notes.explain_tables(tables, &ended);
+            ended
+        }
+        Command::TryPlaced {
+            lex, yacc, text, ..
+        } => {
+            let lex_bytes = read_file(files, alloc, lex, notes)?;
+            let yacc_bytes = read_file(files, alloc, yacc, notes)?;
+            let rules = Rules::BothPlaced {
+                lex: &lex_bytes,
+                yacc: &yacc_bytes,
+            };
+            let ended = answer_text(files, alloc, rules, text, input, output, notes);
+            let lex = Named::new(lex, &lex_bytes);
+            let yacc = Named::new(yacc, &yacc_bytes);
+            notes.explain(alloc, lex, yacc, &Limits::V2, &ended);
             ended
         }
         Command::Try {

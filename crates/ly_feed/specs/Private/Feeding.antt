@@ -2,8 +2,8 @@
 use Rattle.std.specs.Prelude.{◌≡◌, Bool, false}
 use Rattle.ly_base.specs.Lexed.{Place}
 use Rattle.ly_feed.specs.Held.{Held}
-use Rattle.ly_feed.specs.Private.LexerOf.{IsLexerOf}
-use Rattle.ly_feed.specs.Private.Running.{CanRun, progress_of}
+use Rattle.ly_feed.specs.LexerOf.{IsLexerOf}
+use Rattle.ly_feed.specs.Closed.{CanRun, progress_of}
 use Rattle.ly_feed.specs.ScanPart.{scan_part_of}
 use Rattle.ly_feed.specs.declared.feed.Feed.TheInside.{Inside}
 use Rattle.ly_parse.specs.Parse.{Parse}

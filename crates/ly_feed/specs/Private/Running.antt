@@ -1,13 +1,13 @@
 -- A run over what has come of a text, token by token.
-use Rattle.std.specs.Prelude.{◌≡◌, ◌<◌, ◌≤◌, ℕ, ◌+◌, Bool, List, [], false, true, map, Some}
-use Rattle.std.specs.Prelude.{Result, Ok, Err}
+use Rattle.std.specs.Prelude.{◌≡◌, ℕ, ◌+◌, Bool, List, [], false, true, map, Result, Ok, Err}
 use Rattle.ly_base.specs.Lexed.{Place, Token, place_after}
 use Rattle.ly_base.specs.declared.lexeme.Lexeme.{Lexeme}
+use Rattle.ly_feed.specs.Closed.{progress_of}
+use Rattle.ly_feed.specs.Flaw.{verdict_of}
 use Rattle.ly_feed.specs.Onward.{Onward, IsSettled, IsTokenAt}
-use Rattle.ly_feed.specs.Private.Flaw.{verdict_of}
-use Rattle.ly_feed.specs.ScanPart.{ScanPart, condition_in, scanner_in, terminal_in}
-use Rattle.ly_feed.specs.TableAnswer.{Progress, IsRest}
-use Rattle.ly_feed.specs.Verdict.{Verdict, accepted, faulty, refused}
+use Rattle.ly_feed.specs.ScanPart.{ScanPart, condition_in, scanner_in}
+use Rattle.ly_feed.specs.TableAnswer.{Progress}
+use Rattle.ly_feed.specs.Verdict.{faulty, refused}
 use Rattle.ly_feed.specs.Vocabularies.{constructor_in, name_in}
 use Rattle.ly_feed.specs.declared.text_fault.TextFault.{TextFault}
 use Rattle.ly_feed.specs.declared.text_fault.TextFault.TheVariants.{FaultyTables, OutOfMemory}
@@ -17,8 +17,7 @@ use Rattle.ly_feed.specs.declared.running.Halt.{Halt}
 use Rattle.ly_feed.specs.declared.running.Halt.TheVariants.{At, Flawed}
 use Rattle.ly_feed.specs.declared.running.Ended.{Ended}
 use Rattle.ly_feed.specs.declared.running.Ended.TheVariants.{Accepted, Refused}
-use Rattle.ly_pack.specs.Machine.{Machine, IsMachine}
-use Rattle.ly_pack.specs.Steady.{IsSteady}
+use Rattle.ly_pack.specs.Machine.{Machine}
 use Rattle.ly_pack.specs.Values.{rule_from}
 use Rattle.ly_parse.specs.declared.answer.Answer.{Answer}
 use Rattle.ly_parse.specs.declared.answer.Answer.TheVariants.{Accepts, Over, Reads, Refuses}
@@ -39,18 +38,6 @@ words_of n = record {
   terminal = name_in (map (λ name. name.items) n.terminals.now);
   constructor = constructor_in (map rule_from n.rules.now);
 }
-
--- All that the parser's tables name is there, their runs end, and a terminal that the scanner returns is one of theirs
--- and not the end.
-pub record CanRun (p : ScanPart) (m : Machine) : Type 0 where
-  pub machine : IsMachine m
-  pub steady : IsSteady m
-  pub terminals : 0 < m.terminals
-  pub returned : (i : ℕ) (bytes : _) (t : ℕ) → terminal_in p i bytes ≡ Some t → (1 ≤ t) × (t < m.terminals)
-
--- how far a scanner at a place and a parse have come
-abbrev pub progress_of : Place → Parse → Progress
-progress_of q s = record { place = q; stack = s.stack; count = s.count }
 
 -- a lexeme has a token
 abbrev pub HasToken : ScanPart → Place → Lexeme → Type 0
@@ -102,21 +89,3 @@ IsLast s at forest (Ok (Refused flaw)) = (ts : _) × Feeds s.machine (end_token 
 IsLast s at forest (Err FaultyTables) = Feeds s.machine (end_token at) s.stack fed.faulty
 IsLast s at forest (Err OutOfMemory) = Unit {0}
 IsLast s at forest (Err _) = ⊥
-
--- the verdict that a value stands for, where a forest has the terms
-abbrev pub IsVerdictOf : Grown → Ended → Verdict → Type 0
-IsVerdictOf forest (Accepted root) v = (d : Term) × (v ≡ accepted d) × StandsFor forest root d
-IsVerdictOf forest (Refused flaw) v = v ≡ verdict_of flaw
-
--- a term is in the forest, which pays for it
-abbrev pub IsThere : Grown → Ended → Type 0
-IsThere forest (Accepted root) = (d : Term) × StandsFor forest root d × IsPaid forest d
-IsThere forest (Refused flaw) = Unit {0}
-
--- What comes of a text that has ended: what the value stands for is said of it, or the tables are at fault. Want of
--- memory says nothing.
-abbrev pub IsClosed : ScanPart → Machine → Progress → Grown → Result Ended TextFault → Type 0
-IsClosed p m w forest (Ok ended) = (v : Verdict) × IsRest p m w v × IsVerdictOf forest ended v × IsThere forest ended
-IsClosed p m w forest (Err FaultyTables) = IsRest p m w faulty
-IsClosed p m w forest (Err OutOfMemory) = Unit {0}
-IsClosed p m w forest (Err _) = ⊥

@@ -16,7 +16,8 @@ use Rattle.ly_feed.specs.declared.text_fault.TextFault.TheVariants.{FaultyTables
 pub loop-outcome-init : goal.loop-outcome-init
 loop-outcome-init g c =
     let source = g.R.Source in record {
-      so_far = begins c.args.feed.now.form c.args.feed.now.set (source.remaining c.args.reader.now) c.args.feed.now c.requires.begins;
+      so_far = begins c.args.feed.now.form c.args.feed.now.set (source.remaining c.args.reader.now) c.args.feed.now
+          c.requires.begins;
       counted = refl;
       untouched = refl;
       room = c.requires.room;

@@ -1,6 +1,6 @@
 use Rattle.std.proofs.Common.{◌∙◌, ap}
 use Rattle.std.proofs.lemmas.Result.{IfOk-weaker}
-use Rattle.ly_feed.specs.Private.LexerOf.{IsLexerOf}
+use Rattle.ly_feed.specs.LexerOf.{IsLexerOf}
 use Rattle.ly_feed.specs.ScanPart.{scan_part_of}
 use Rattle.ly_feed.proofs.LexerOfLemmas.{passed_over}
 use Rattle.ly_scan.specs.Lexers.{Lexer, scanner_of}

@@ -1,5 +1,5 @@
 use Rattle.std.proofs.Common.{◌∙◌, ap}
-use Rattle.ly_feed.specs.Private.Flaw.{verdict_of}
+use Rattle.ly_feed.specs.Flaw.{verdict_of}
 use Rattle.ly_feed.specs.Verdict.{written_in}
 use Rattle.ly_feed.proofs.lines.told.Goals as goal
 

@@ -3,7 +3,8 @@ use Rattle.std.specs.Io.KnownBytes.{Appends}
 use Rattle.ly_print.specs.TextWriter.{IsCutShort}
 use Rattle.ly_feed.proofs.FaultLemmas.{same_fault}
 use Rattle.ly_feed.proofs.LineLemmas.{term_written}
-use Rattle.ly_feed.specs.Private.Running.{IsVerdictOf, words_of}
+use Rattle.ly_feed.specs.Closed.{IsVerdictOf}
+use Rattle.ly_feed.specs.Private.Running.{words_of}
 use Rattle.ly_feed.specs.Verdict.{IsOutcome}
 use Rattle.ly_feed.specs.Vocabularies.{vocabulary_of}
 use Rattle.ly_feed.specs.declared.text_fault.TextFault.TheVariants.{Write}

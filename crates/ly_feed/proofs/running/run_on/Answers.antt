@@ -1,23 +1,24 @@
-use Rattle.std.proofs.Common.{◌∙◌, ap, subst, sym}
+use Rattle.std.proofs.Common.{◌∙◌, ap, refl, subst, sym}
 use Rattle.ly_base.specs.Lexed.{moved}
 use Rattle.ly_feed.proofs.OnwardLemmas.{onward_on}
 use Rattle.ly_feed.proofs.RunLemmas.{cut, fast_there, halts_at_end, over, settled_there, stuck, undecided_there}
-use Rattle.ly_feed.specs.Onward.{Onward, none_yet}
+use Rattle.ly_feed.specs.Onward.{IsSettled, Onward, none_yet}
 use Rattle.ly_feed.proofs.TakingLemmas.{refused_there}
-use Rattle.ly_feed.specs.Private.Flaw.{verdict_of}
-use Rattle.ly_feed.specs.Private.Running.{progress_of}
+use Rattle.ly_feed.specs.Flaw.{verdict_of}
+use Rattle.ly_feed.specs.Closed.{CanRun, progress_of}
+use Rattle.ly_feed.specs.Private.Running.{IsTaken}
 use Rattle.ly_feed.specs.ScanPart.{scan_part_of, scanner_in}
 use Rattle.ly_feed.specs.Verdict.{faulty}
 use Rattle.ly_feed.proofs.running.run_on.Goals as goal
+use Rattle.ly_parse.specs.declared.answer.Answer.TheVariants.{Reads, Refuses}
 use Rattle.ly_scan.specs.KnownWalks.{AreKnown}
 use Rattle.ly_scan.specs.Pieces.{EndsFast}
 use Rattle.ly_scan.specs.StateTable.{ahead_in}
-use Rattle.ly_tables.specs.TableSet.{machine_of}
 
 pub loop-lexeme-init : goal.loop-lexeme-init
 loop-lexeme-init c = record {
   onward = none_yet;
-  machine = c.requires.machine;
+  machine = refl;
   goes_on = c.requires.goes_on;
   known = c.new-known.ensures (ahead_in c.args.lexer.now.scanner) c.args.ended c.args.place.rest;
 }
@@ -25,7 +26,7 @@ loop-lexeme-init c = record {
 pub returns-in-Err-Stuck-clause-runs : goal.returns-in-Err-Stuck-clause-runs
 returns-in-Err-Stuck-clause-runs c =
     let p = scan_part_of c.args.set.now in
-    let m = machine_of c.args.set.now in
+    let m = c.args.parser.now.machine in
     let w = progress_of c.args.place c.args.parser.now in
     let l = c.args.lexer.now in
     let q = c.next.new.place in
@@ -37,7 +38,7 @@ returns-in-Err-Stuck-clause-runs c =
 pub returns-in-Err-BadCut-clause-runs : goal.returns-in-Err-BadCut-clause-runs
 returns-in-Err-BadCut-clause-runs c =
     let p = scan_part_of c.args.set.now in
-    let m = machine_of c.args.set.now in
+    let m = c.args.parser.now.machine in
     let w = progress_of c.args.place c.args.parser.now in
     let l = c.args.lexer.now in
     let q = c.next.new.place in
@@ -50,7 +51,7 @@ pub returns-in-Ok-None-clause-runs : goal.returns-in-Ok-None-clause-runs
 returns-in-Ok-None-clause-runs c =
     let p = scan_part_of c.args.set.now in
     let q = c.next.new.place in (
-      over c.args.ended p (machine_of c.args.set.now) (progress_of c.args.place c.args.parser.now) c.args.lexer.now
+      over c.args.ended p c.args.parser.now.machine (progress_of c.args.place c.args.parser.now) c.args.lexer.now
           c.loop-lexeme.place q c.loop-lexeme.parser c.requires.lexer c.loop-lexeme.invariant.onward
           c.next.ensures.passed,
       undecided_there c.args.ended p c.args.lexer.now q c.in-Ok-None.field-0 c.requires.lexer
@@ -62,7 +63,7 @@ pub returns-in-Err-Clean-clause-runs : goal.returns-in-Err-Clean-clause-runs
 returns-in-Err-Clean-clause-runs c =
     let p = scan_part_of c.args.set.now in
     let q = c.next.new.place in (
-      over c.args.ended p (machine_of c.args.set.now) (progress_of c.args.place c.args.parser.now) c.args.lexer.now
+      over c.args.ended p c.args.parser.now.machine (progress_of c.args.place c.args.parser.now) c.args.lexer.now
           c.loop-lexeme.place q c.loop-lexeme.parser c.requires.lexer c.loop-lexeme.invariant.onward
           c.next.ensures.passed,
       halts_at_end c.args.ended p q (subst (λ e. EndsFast c.args.ended (scanner_in p) q e) c.in-Err-Clean.field-0-is
@@ -82,6 +83,10 @@ refusal-requires-clause-token c =
     let taken = c.in-Refuses.ensures.taken c.args.ended fast in
     (taken.0, taken.1)
 
+pub take-requires-clause-runs : goal.take-requires-clause-runs
+take-requires-clause-runs c =
+    subst (CanRun (scan_part_of c.args.set.now)) (sym c.loop-lexeme.invariant.machine) c.requires.runs
+
 pub refusal-requires-clause-tellable : goal.refusal-requires-clause-tellable
 refusal-requires-clause-tellable c = (c.in-Refuses.ensures.taken c.args.ended
     (fast_there c.args.ended (scan_part_of c.args.set.now) c.args.lexer.now c.next.new.place c.in-Ok-Some.field-0
@@ -90,7 +95,7 @@ refusal-requires-clause-tellable c = (c.in-Refuses.ensures.taken c.args.ended
 pub returns-in-Refuses-clause-runs : goal.returns-in-Refuses-clause-runs
 returns-in-Refuses-clause-runs c =
     let p = scan_part_of c.args.set.now in
-    let m = machine_of c.args.set.now in
+    let m = c.args.parser.now.machine in
     let w = progress_of c.args.place c.args.parser.now in
     let l = c.args.lexer.now in
     let q = c.next.new.place in
@@ -103,13 +108,15 @@ returns-in-Refuses-clause-runs c =
     (over c.args.ended p m w l c.loop-lexeme.place q s c.requires.lexer c.loop-lexeme.invariant.onward
     c.next.ensures.passed)
     (refused_there c.args.ended p m (progress_of q s) t c.take.new.parser flaw
-    (c.take.ensures.machine ∙ c.loop-lexeme.invariant.machine) fast (c.in-Refuses.ensures.taken c.args.ended fast)
+    (c.take.ensures.machine ∙ c.loop-lexeme.invariant.machine) fast
+    (subst (λ k. IsTaken c.args.ended p k (progress_of q s) t c.take.new.parser Refuses) c.loop-lexeme.invariant.machine
+    (c.in-Refuses.ensures.taken c.args.ended fast))
     c.in_ok-refusal-in-Refuses.ensures)
 
 pub returns-in-FaultyTables-clause-runs : goal.returns-in-FaultyTables-clause-runs
 returns-in-FaultyTables-clause-runs c =
     let p = scan_part_of c.args.set.now in
-    let m = machine_of c.args.set.now in
+    let m = c.args.parser.now.machine in
     let w = progress_of c.args.place c.args.parser.now in
     let l = c.args.lexer.now in
     let q = c.next.new.place in
@@ -118,12 +125,14 @@ returns-in-FaultyTables-clause-runs c =
     c.in-Ok-Some.ensures.found c.in-Ok-Some.field-0-is in
     settled_there c.args.ended p m w q s faulty
     (over c.args.ended p m w l c.loop-lexeme.place q s c.requires.lexer c.loop-lexeme.invariant.onward
-    c.next.ensures.passed) (c.in-FaultyTables.ensures.taken c.args.ended fast)
+    c.next.ensures.passed)
+    (subst (λ k. IsSettled c.args.ended p k (progress_of q s) faulty) c.loop-lexeme.invariant.machine
+    (c.in-FaultyTables.ensures.taken c.args.ended fast))
 
 pub loop-lexeme-preserved : goal.loop-lexeme-preserved
 loop-lexeme-preserved c =
     let p = scan_part_of c.args.set.now in
-    let m = machine_of c.args.set.now in
+    let m = c.args.parser.now.machine in
     let w = progress_of c.args.place c.args.parser.now in
     let l = c.args.lexer.now in
     let q = c.next.new.place in
@@ -132,7 +141,8 @@ loop-lexeme-preserved c =
     let fast = fast_there c.args.ended p l q c.in-Ok-Some.field-0 t c.requires.lexer c.in-Ok-Some.ensures.found
     c.in-Ok-Some.field-0-is in
     let there = c.advance.ensures ∙ ap (moved q t.taken) c.action-begin.ensures.begin in
-    let taken = c.in-Reads.ensures.taken c.args.ended fast in record {
+    let taken = subst (λ k. IsTaken c.args.ended p k (progress_of q s) t c.take.new.parser Reads)
+    c.loop-lexeme.invariant.machine (c.in-Reads.ensures.taken c.args.ended fast) in record {
       onward = subst (λ x. Onward c.args.ended p m w (progress_of x c.take.new.parser)) (sym there)
           (onward_on c.args.ended p m
           (over c.args.ended p m w l c.loop-lexeme.place q s c.requires.lexer c.loop-lexeme.invariant.onward

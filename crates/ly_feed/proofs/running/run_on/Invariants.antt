@@ -1,19 +1,18 @@
 use Rattle.std.proofs.Common.{◌≡◌, length}
 use Rattle.std.specs.Prelude.{false}
 use Rattle.ly_feed.specs.Onward.{Onward}
-use Rattle.ly_feed.specs.Private.Running.{progress_of}
+use Rattle.ly_feed.specs.Closed.{progress_of}
 use Rattle.ly_feed.specs.ScanPart.{scan_part_of}
 use Rattle.ly_feed.proofs.running.run_on.Given as goal
 use Rattle.ly_scan.specs.KnownWalks.{AreKnown}
 use Rattle.ly_scan.specs.StateTable.{ahead_in}
-use Rattle.ly_tables.specs.TableSet.{machine_of}
 
 -- decided matches lead from where the run began to where it stands, and what is known of walks is so there
 abbrev pub invariant-loop-lexeme : goal.invariant-loop-lexeme
 invariant-loop-lexeme l = record {
-  onward : Onward l.fn.ended (scan_part_of l.fn.set) (machine_of l.fn.set) (progress_of l.initial.place
+  onward : Onward l.fn.ended (scan_part_of l.fn.set) l.initial.parser.machine (progress_of l.initial.place
       l.initial.parser) (progress_of l.place l.parser);
-  machine : l.parser.machine ≡ machine_of l.fn.set;
+  machine : l.parser.machine ≡ l.initial.parser.machine;
   goes_on : l.parser.over ≡ false;
   known : AreKnown (ahead_in l.fn.lexer.scanner) l.fn.ended l.place.rest l.known;
 }

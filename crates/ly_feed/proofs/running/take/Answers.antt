@@ -1,13 +1,12 @@
-use Rattle.std.proofs.Common.{◌∙◌, ◌<◌, ap, arith, subst, sym, take}
+use Rattle.std.proofs.Common.{◌∙◌, ap, arith, refl, sym, take}
 use Rattle.ly_feed.proofs.TakingLemmas.{no_terminal, passes_on, taken, terminal_is}
 use Rattle.ly_feed.specs.ScanPart.{scan_part_of, terminal_in}
 use Rattle.ly_feed.proofs.running.take.Goals as goal
-use Rattle.ly_tables.specs.TableSet.{machine_of}
 
 pub returns-in_default-clause-taken : goal.returns-in_default-clause-taken
 returns-in_default-clause-taken c ended fast =
     let p = scan_part_of c.args.set.now in (
-      passes_on ended p (machine_of c.args.set.now) c.args.place.now c.args.parser.now c.args.lexeme fast
+      passes_on ended p c.args.parser.now.machine c.args.place.now c.args.parser.now c.args.lexeme fast
           (ap (terminal_in p c.args.lexeme.rule.0)
           (ap (take c.args.lexeme.taken) (sym c.rest.ensures) ∙ sym c.new-text.ensures ∙ sym c.bytes.ensures)
           ∙ no_terminal c.terminal.result _ (c.terminal.ensures ∙ c.requires.emits c.bytes.result.now) c.in_default.is),
@@ -22,16 +21,16 @@ take-requires-clause-not_end c =
     omega arith
 
 pub take-requires-clause-terminal : goal.take-requires-clause-terminal
-take-requires-clause-terminal c = subst (λ m. c.in-Some.terminal.0 < m.terminals) (sym c.requires.machine)
-    (c.requires.runs.returned c.args.lexeme.rule.0 c.bytes.result.now c.in-Some.terminal.0
+take-requires-clause-terminal c = (c.requires.runs.returned c.args.lexeme.rule.0 c.bytes.result.now
+    c.in-Some.terminal.0
     (terminal_is c.terminal.result c.in-Some.terminal _
     (c.terminal.ensures ∙ c.requires.emits c.bytes.result.now) c.in-Some.is)).1
 
 pub returns-clause-taken : goal.returns-clause-taken
 returns-clause-taken c ended fast =
     let p = scan_part_of c.args.set.now in
-    taken ended p (machine_of c.args.set.now) c.args.place.now c.args.parser.now c.take.new.self c.args.lexeme _
-    c.take.result c.requires.runs.machine c.requires.machine c.requires.goes_on
+    taken ended p c.args.parser.now.machine c.args.place.now c.args.parser.now c.take.new.self c.args.lexeme _
+    c.take.result c.requires.runs.machine refl c.requires.goes_on
     (c.requires.runs.returned c.args.lexeme.rule.0 c.bytes.result.now c.in-Some.terminal.0
     (terminal_is c.terminal.result c.in-Some.terminal _
     (c.terminal.ensures ∙ c.requires.emits c.bytes.result.now) c.in-Some.is)).0

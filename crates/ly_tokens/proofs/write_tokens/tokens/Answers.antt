@@ -3,7 +3,7 @@ use Rattle.std.specs.Prelude.{IfErr}
 use Rattle.std.specs.Result.{IsErrAnd}
 use Rattle.std.proofs.lemmas.Result.{IfOk-weaker, err_from_is_err_and}
 use Rattle.ly_lexread.specs.Faults.{IsAtMost, IsTooHeavy}
-use Rattle.ly_tokens.specs.declared.outcome.TokenEnd.{TokenEnd}
+use Rattle.ly_listing.specs.declared.token_end.TokenEnd.{TokenEnd}
 use Rattle.ly_lexread.specs.declared.fault.LexFault.{LexFault}
 use Rattle.ly_lexread.specs.declared.fault.LexFault.TheVariants as lex
 use Rattle.ly_tokens.specs.declared.fault.TokensFault.{TokensFault}
@@ -13,6 +13,7 @@ use Rattle.ly_base.specs.Limits.{Sizes, version_2}
 use Rattle.ly_base.specs.declared.lexeme.End.{End}
 use Rattle.ly_lexread.specs.LexText.{IsLight, LexText}
 use Rattle.ly_lexread.specs.declared.file.LexFile.{LexFile}
+use Rattle.ly_print.specs.declared.answer_form.AnswerForm.{AnswerForm}
 use Rattle.ly_tokens.specs.Answers.{Answers}
 use Rattle.ly_tokens.specs.Private.FileAnswers.{FileAnswers}
 use Rattle.ly_tokens.proofs.write_tokens.tokens.Goals as goal
@@ -43,10 +44,11 @@ returns-in_err-file-clause-none_light g c = λ fault is heavy file text.
     let e = gave c.from_residual.result c.in_err-file.field-0.0 fault c.from_residual.ensures.1 is in
     c.in_err-file.ensures.read.none_light (subst IsTooHeavy (same_lex c.in_err-file.field-0.0 fault e) heavy) file text
 
-answers : {limits : Sizes} {file : LexFile} {left : Option (List ℕ)} {e : End} {answer bytes : List ℕ}
-    → LexText bytes file → IsLight limits.pattern_weight file → FileAnswers limits file left e answer
-    → Answers limits bytes left e answer
-answers {limits} {file} spelled light a = record {
+answers : {form : AnswerForm} {limits : Sizes} {file : LexFile} {left : Option (List ℕ)} {e : End}
+    {answer bytes : List ℕ}
+    → LexText bytes file → IsLight limits.pattern_weight file → FileAnswers form limits file left e answer
+    → Answers form limits bytes left e answer
+answers {form} {limits} {file} spelled light a = record {
   file = file;
   spelled = spelled;
   light = light;

@@ -1,65 +1,13 @@
-use Rattle.std.proofs.Common.{◌≡◌, ◌∙◌, Err, Result, subst, sym}
-use Rattle.std.proofs.lemmas.Result.{err_from_is_err_and}
-use Rattle.ly_ere.specs.Names.{defined}
-use Rattle.ly_print.specs.TextWriter.{IsCutShort}
-use Rattle.ly_base.specs.declared.lexeme.End.{End}
-use Rattle.ly_tokens.specs.Answering.{IsAnswer}
-use Rattle.ly_tokens.specs.declared.fault.TokensFault.{TokensFault}
-use Rattle.ly_tokens.specs.declared.fault.TokensFault.TheVariants.{Write}
-use Rattle.ly_tokens.specs.Private.RunEnd.{EndsSo}
-use Rattle.ly_tokens.proofs.AnswerLemmas.{answer_of, run_leaves_tokens}
-use Rattle.ly_scan.specs.Lexers.{scanner_of}
 use Rattle.ly_tokens.proofs.write_tokens.write_answer_by.Goals as goal
 
-pub run_end-end-requires-clause-leaves : goal.run_end-end-requires-clause-leaves
-run_end-end-requires-clause-leaves g c = λ e run.
-    let file = c.args.file.now in
-    run_leaves_tokens (defined file.names) file.rules.items file.actions.items (scanner_of c.args.lexer.now.scanner)
-    c.args.text.now e c.requires.agrees run
+pub returns-in-Plain-clause-answered : goal.returns-in-Plain-clause-answered
+returns-in-Plain-clause-answered g c = rw c.in-Plain.is c.write_lines.ensures.answered
 
-pub write_token_lines-requires-clause-ends : goal.write_token_lines-requires-clause-ends
-write_token_lines-requires-clause-ends g c = subst
-    (λ actions. EndsSo (scanner_of c.args.lexer.now.scanner) actions c.args.text.now c.run_end-end.result)
-    (sym (c.in_ok-labels.ensures ∙ c.deref-2.ensures.value)) c.run_end-end.ensures
+pub returns-in-Plain-clause-beginning : goal.returns-in-Plain-clause-beginning
+returns-in-Plain-clause-beginning g c = rw c.in-Plain.is c.write_lines.ensures.beginning
 
-pub token_end-requires : goal.token_end-requires
-token_end-requires g c =
-    let file = c.args.file.now in
-    run_leaves_tokens (defined file.names) file.rules.items file.actions.items (scanner_of c.args.lexer.now.scanner)
-    c.args.text.now c.run_end-end.result c.requires.agrees c.run_end-end.ensures
+pub returns-in-Json-clause-answered : goal.returns-in-Json-clause-answered
+returns-in-Json-clause-answered g c = rw c.in-Json.is c.write_listing.ensures.answered
 
-same_fault : {T : Type 0} (r : Result T TokensFault) (x y : TokensFault) → r ≡ Err x → r ≡ Err y → x ≡ y
-same_fault r x y a b = cc
-
-pub returns-in_err-write_token_lines-clause-beginning : goal.returns-in_err-write_token_lines-clause-beginning
-returns-in_err-write_token_lines-clause-beginning g c = λ written is.
-    let file = c.args.file.now in
-    let cut = c.in_err-write_token_lines.field-0.0 in
-    let short = c.in_err-write_token_lines.ensures.cut_short in
-    let given = c.from_residual-in_err-write_token_lines in
-    let fault = err_from_is_err_and given.result given.ensures.1 in
-    let gave : Write written ≡ Write cut.written
-    = same_fault given.result (Write written) fault.0 is fault.1 ∙ fault.2 in
-    let same : written ≡ cut.written = cc in (
-      c.run_end-end.result,
-      (
-        short.0,
-        answer_of (defined file.names) file.rules.items file.actions.items c.in_ok-labels.labels.actions.now
-            (scanner_of c.args.lexer.now.scanner) c.args.text.now c.run_end-end.result short.0 c.requires.agrees
-            (c.in_ok-labels.ensures ∙ c.deref-2.ensures.value) short.1,
-        subst (λ k. IsCutShort (g.W.Sink.contents c.args.writer.now)
-            (g.W.Sink.contents c.write_token_lines.new.writer) k short.0) (sym same) short.2,
-      ),
-    )
-
-pub returns-clause-answered : goal.returns-clause-answered
-returns-clause-answered g c =
-    let file = c.args.file.now in
-    let told = c.in_ok-write_token_lines.ensures.told in (
-      told.0,
-      subst (λ (e : End). IsAnswer (defined file.names) file.rules.items file.actions.items c.args.text.now e told.0)
-          (sym c.token_end.ensures) (answer_of (defined file.names) file.rules.items file.actions.items
-          c.in_ok-labels.labels.actions.now (scanner_of c.args.lexer.now.scanner) c.args.text.now c.run_end-end.result
-          told.0 c.requires.agrees (c.in_ok-labels.ensures ∙ c.deref-2.ensures.value) told.1),
-      told.2,
-    )
+pub returns-in-Json-clause-beginning : goal.returns-in-Json-clause-beginning
+returns-in-Json-clause-beginning g c = rw c.in-Json.is c.write_listing.ensures.beginning

@@ -8,23 +8,28 @@ returns-in-Err-Gen-clause-refused g c =
     rw c.of_files.ensures (refused.0, refused.1, refl)
 
 pub returns-in-Ok-clause-needed : goal.returns-in-Ok-clause-needed
-returns-in-Ok-clause-needed g c = unfailed (λ failed. failed) (c.in-Ok.ensures.needed (search rules))
+returns-in-Ok-clause-needed g c =
+    unfailed (λ failed. failed) (c.in-Ok.ensures.needed (search rules))
 
 pub returns-in-Err-Gen-clause-needed : goal.returns-in-Err-Gen-clause-needed
 returns-in-Err-Gen-clause-needed g c =
     rw c.of_files.ensures (unfailed (λ failed. failed) (c.in-Err-Gen.ensures.needed (search rules)))
 
 pub returns-in-Err-Text-FaultyTables-clause-needed : goal.returns-in-Err-Text-FaultyTables-clause-needed
-returns-in-Err-Text-FaultyTables-clause-needed g c = unfailed (λ failed. failed) (c.in-Err-Text-FaultyTables.ensures.needed (search rules))
+returns-in-Err-Text-FaultyTables-clause-needed g c =
+    unfailed (λ failed. failed) (c.in-Err-Text-FaultyTables.ensures.needed (search rules))
 
 pub returns-in-Err-Text-TooLong-clause-needed : goal.returns-in-Err-Text-TooLong-clause-needed
-returns-in-Err-Text-TooLong-clause-needed g c = unfailed (λ failed. failed) (c.in-Err-Text-TooLong.ensures.needed (search rules))
+returns-in-Err-Text-TooLong-clause-needed g c =
+    unfailed (λ failed. failed) (c.in-Err-Text-TooLong.ensures.needed (search rules))
 
 pub returns-in-Err-Text-Write-clause-needed : goal.returns-in-Err-Text-Write-clause-needed
-returns-in-Err-Text-Write-clause-needed g c = unfailed (λ failed. failed) (c.in-Err-Text-Write.ensures.needed (search rules))
+returns-in-Err-Text-Write-clause-needed g c =
+    unfailed (λ failed. failed) (c.in-Err-Text-Write.ensures.needed (search rules))
 
 pub returns-in-Err-Text-OutOfMemory-clause-needed : goal.returns-in-Err-Text-OutOfMemory-clause-needed
-returns-in-Err-Text-OutOfMemory-clause-needed g c = unfailed (λ failed. failed) (c.in-Err-Text-OutOfMemory.ensures.needed (search rules))
+returns-in-Err-Text-OutOfMemory-clause-needed g c =
+    unfailed (λ failed. failed) (c.in-Err-Text-OutOfMemory.ensures.needed (search rules))
 
 pub returns-in-Err-Text-Read-clause-needed : goal.returns-in-Err-Text-Read-clause-needed
 returns-in-Err-Text-Read-clause-needed g c =

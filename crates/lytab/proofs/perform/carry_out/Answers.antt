@@ -1,6 +1,8 @@
 use Rattle.std.proofs.Common.{refl}
 use Rattle.ly_print.specs.declared.counted.Counted.{Counted}
-use Rattle.lytab.proofs.CarriedLemmas.{carried_build, carried_explain, carried_run, carried_tokens, carried_try}
+use Rattle.lytab.proofs.CarriedLemmas.{carried_build, carried_explain, carried_lines, carried_run, carried_tokens}
+use Rattle.lytab.proofs.CarriedLemmas.{carried_run_placed, carried_table_tokens, carried_try, carried_try_placed}
+use Rattle.lytab.proofs.CarriedLemmas.{lines_told}
 use Rattle.lytab.proofs.perform.carry_out.Goals as goal
 
 pub returns-in_ok-bytes-in-Tokens-clause-carried_out : goal.returns-in_ok-bytes-in-Tokens-clause-carried_out
@@ -8,8 +10,17 @@ returns-in_ok-bytes-in-Tokens-clause-carried_out g c =
     let r = c.answer_text-ended.ensures in
     rw c.in-Tokens.is (carried_tokens
     (λ (d : Counted g.row.F-File.Denot). g.F.File.Write.contents d.inner) (λ s. s.now)
-    c.in-Tokens.lex.now _ c.in-Tokens.text c.in-Tokens.points c.answer_text-ended.result _ r.answered r.refused r.unread
+    c.in-Tokens.lex.now _ c.in-Tokens.text c.in-Tokens.by c.answer_text-ended.result _ r.answered r.refused r.unread
     (λ no. (r.needed no).unread) (λ no. (r.needed no).needed))
+
+pub returns-in_ok-bytes-in-TableTokens-clause-carried_out
+    : goal.returns-in_ok-bytes-in-TableTokens-clause-carried_out
+returns-in_ok-bytes-in-TableTokens-clause-carried_out g c =
+    let r = c.answer_text-ended-in-TableTokens.ensures in
+    rw c.in-TableTokens.is (carried_table_tokens
+    (λ (d : Counted g.row.F-File.Denot). g.F.File.Write.contents d.inner) (λ s. s.now)
+    c.in-TableTokens.tables.now _ c.in-TableTokens.text c.in-TableTokens.by c.answer_text-ended-in-TableTokens.result _
+    r.answered r.refused r.unread (λ no. (r.needed no).unread) (λ no. (r.needed no).needed))
 
 pub returns-in_ok-bytes-in-Run-clause-carried_out : goal.returns-in_ok-bytes-in-Run-clause-carried_out
 returns-in_ok-bytes-in-Run-clause-carried_out g c =
@@ -17,6 +28,37 @@ returns-in_ok-bytes-in-Run-clause-carried_out g c =
     rw c.in-Run.is (carried_run
     (λ (d : Counted g.row.F-File.Denot). g.F.File.Write.contents d.inner) (λ s. s.now)
     c.in-Run.tables.now _ c.in-Run.text c.in-Run.by c.answer_text-ended-in-Run.result _ r.answered r.refused r.unread
+    (λ no. (r.needed no).unread) (λ no. (r.needed no).needed))
+
+pub returns-in_ok-bytes-in-Lines-clause-carried_out : goal.returns-in_ok-bytes-in-Lines-clause-carried_out
+returns-in_ok-bytes-in-Lines-clause-carried_out g c =
+    let r = c.answer_text-ended-in-Lines.ensures in
+    rw c.in-Lines.is (carried_lines
+    (λ (d : Counted g.row.F-File.Denot). g.F.File.Write.contents d.inner) (λ s. s.now)
+    c.in-Lines.tables.now _ c.in-Lines.text c.in-Lines.by c.answer_text-ended-in-Lines.result _ r.answered r.stopped
+    r.unread (λ no. (r.needed no).unread) r.read)
+
+pub returns-in_ok-bytes-in-Lines-clause-devices : goal.returns-in_ok-bytes-in-Lines-clause-devices
+returns-in_ok-bytes-in-Lines-clause-devices g c =
+    let r = c.answer_text-ended-in-Lines.ensures in
+    rw c.in-Lines.is (lines_told c.answer_text-ended-in-Lines.result _ _ r.written r.kept)
+
+pub returns-in_ok-bytes-in-RunPlaced-clause-carried_out : goal.returns-in_ok-bytes-in-RunPlaced-clause-carried_out
+returns-in_ok-bytes-in-RunPlaced-clause-carried_out g c =
+    let r = c.answer_text-ended-in-RunPlaced.ensures in
+    rw c.in-RunPlaced.is (carried_run_placed
+    (λ (d : Counted g.row.F-File.Denot). g.F.File.Write.contents d.inner) (λ s. s.now)
+    c.in-RunPlaced.tables.now _ c.in-RunPlaced.text c.in-RunPlaced.points c.answer_text-ended-in-RunPlaced.result _
+    r.answered r.refused r.unread (λ no. (r.needed no).unread) (λ no. (r.needed no).needed))
+
+pub returns-in_ok-yacc_bytes-in-TryPlaced-clause-carried_out
+    : goal.returns-in_ok-yacc_bytes-in-TryPlaced-clause-carried_out
+returns-in_ok-yacc_bytes-in-TryPlaced-clause-carried_out g c =
+    let r = c.answer_text-ended-in-TryPlaced.ensures in
+    rw c.in-TryPlaced.is (carried_try_placed
+    (λ (d : Counted g.row.F-File.Denot). g.F.File.Write.contents d.inner) (λ s. s.now)
+    c.in-TryPlaced.lex.now c.in-TryPlaced.yacc.now _ _ c.in-TryPlaced.text c.in-TryPlaced.points
+    c.answer_text-ended-in-TryPlaced.result _ r.answered r.refused r.unread
     (λ no. (r.needed no).unread) (λ no. (r.needed no).needed))
 
 pub returns-in_ok-yacc_bytes-in-Try-clause-carried_out : goal.returns-in_ok-yacc_bytes-in-Try-clause-carried_out

@@ -1,12 +1,13 @@
-use Rattle.std.proofs.Common.{◌≡◌, Err, inl, inr, Ok, refl, subst}
+use Rattle.std.proofs.Common.{◌≡◌, Err, Ok, refl, subst}
 use Rattle.ly_print.specs.declared.counted.Counted.{Counted}
 use Rattle.ly_words.specs.Request.{Request}
 use Rattle.ly_words.specs.declared.command.CommandFault.TheVariants.{Bad, Help, OutOfMemory as NoMemory}
 use Rattle.ly_words.proofs.RequestLemmas.{asked}
 use Rattle.lytab.specs.CarriedOut.{IsCarriedOut}
+use Rattle.lytab.specs.Devices.{IsToldOf}
 use Rattle.lytab.specs.declared.failure.Failure.TheVariants.{OutOfMemory}
 use Rattle.lytab.specs.declared.files.FileFault.TheVariants.{OutOfMemory as no_memory}
-use Rattle.lytab.proofs.CarriedLemmas.{failed_first, told_of_known}
+use Rattle.lytab.proofs.CarriedLemmas.{failed_first, kept_told, told_of_known}
 use Rattle.lytab.proofs.perform.perform.Goals as goal
 
 pub returns-in-Ok-clause-performed : goal.returns-in-Ok-clause-performed
@@ -24,7 +25,10 @@ returns-in-Ok-clause-performed g c = λ request mean. record {
       }))
       (c.in-Ok.ensures.taken request mean) c.carry_out-ended.ensures.carried_out;
   is_status = c.concluded-status.ensures.status;
-  output = told_of_known g.W.Sink.contents c.carry_out-ended.result _ _ _ _ c.carry_out-ended.ensures.devices;
+  output = subst (λ (q : Request). IsToldOf q c.carry_out-ended.result (g.W.Sink.contents c.args.output.now)
+      (g.W.Sink.contents c.carry_out-ended.new.output) (g.W.Sink.failures c.args.output.now)
+      (g.W.Sink.failures c.carry_out-ended.new.output)) (c.in-Ok.ensures.taken request mean)
+      (told_of_known g.W.Sink.contents _ c.carry_out-ended.result _ _ _ _ c.carry_out-ended.ensures.devices);
 }
 
 pub returns-in-Err-Help-clause-performed : goal.returns-in-Err-Help-clause-performed
@@ -49,7 +53,7 @@ pub returns-in-Err-OutOfMemory-clause-performed : goal.returns-in-Err-OutOfMemor
 returns-in-Err-OutOfMemory-clause-performed g c = λ request mean. record {
   result = Err OutOfMemory;
   carried_out = failed_first
-      (λ (d : Counted g.row.F-File.Denot). g.F.File.Write.contents d.inner) request no_memory _ refl;
+      (λ (d : Counted g.row.F-File.Denot). g.F.File.Write.contents d.inner) request no_memory _ refl refl;
   is_status = c.concluded-in-Err-OutOfMemory.ensures.status;
-  output = record { failed = inl (refl, refl); held = tt };
+  output = kept_told request OutOfMemory _ _;
 }

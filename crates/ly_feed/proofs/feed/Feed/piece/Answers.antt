@@ -1,11 +1,13 @@
 use Rattle.std.proofs.Common.{◌∙◌, Err, Ok, ap, arith, length, refl, subst, sym}
 use Rattle.std.specs.Prelude.{false, true}
 use Rattle.ly_feed.proofs.FeedLemmas.{IsFurther, further, given_up, goes_onward, is_faulty, is_piece, is_settled}
+use Rattle.ly_feed.proofs.FeedLemmas.{run_of_set}
 use Rattle.ly_feed.proofs.RunLemmas.{halts_here}
 use Rattle.ly_feed.specs.Held.{IsOnward, TakesPiece}
 use Rattle.ly_feed.specs.Onward.{Onward, none_yet}
 use Rattle.ly_feed.specs.Private.Feeding.{held_from}
-use Rattle.ly_feed.specs.Private.Running.{IsRunOn, progress_of}
+use Rattle.ly_feed.specs.Closed.{CanRun, progress_of}
+use Rattle.ly_feed.specs.Private.Running.{IsRunOn}
 use Rattle.ly_feed.specs.ScanPart.{scan_part_of}
 use Rattle.ly_feed.specs.declared.need.Need.TheVariants.{Settled}
 use Rattle.ly_feed.proofs.feed.Feed.piece.Goals as goal
@@ -26,6 +28,10 @@ returns-then-goes_on c =
     (subst (λ s. IsUndecided s (behind f.window c.args.bytes.now)) c.self.invariant.lexer.scanner next.1)
     c.in_ok-push.ensures.countable)))
 
+pub run_on-requires-clause-runs : goal.run_on-requires-clause-runs
+run_on-requires-clause-runs c =
+    subst (CanRun (scan_part_of c.self.inside.set.now)) (sym c.self.invariant.machine) c.self.invariant.runs
+
 pub returns-in_err-place : goal.returns-in_err-place
 returns-in_err-place c =
     let f = c.self.inside in
@@ -37,8 +43,11 @@ returns-in_err-place c =
     c.from_residual-in_err-place.result c.run_on.new.parser
     (subst (λ q. IsRunOn false (scan_part_of f.set.now) (machine_of f.set.now) (progress_of q f.parser)
     c.run_on.new.parser (Err c.in_err-place.field-0.0))
-    (c.place-start.ensures ∙ c.in_ok-push.ensures.ok) c.in_err-place.ensures.runs)
-    c.from_residual-in_err-place.ensures.1 (record { set = refl; form = refl; over = refl }) c.in_ok-push.ensures.countable))
+    (c.place-start.ensures ∙ c.in_ok-push.ensures.ok)
+    (run_of_set (scan_part_of f.set.now) (progress_of c.place-start.result f.parser) c.run_on.new.parser
+    c.self.invariant.machine (Err c.in_err-place.field-0.0) c.in_err-place.ensures.runs))
+    c.from_residual-in_err-place.ensures.1 (record { set = refl; form = refl; over = refl })
+    c.in_ok-push.ensures.countable))
 
 pub returns-in-Flawed : goal.returns-in-Flawed
 returns-in-Flawed c =
@@ -51,7 +60,9 @@ returns-in-Flawed c =
     c.in_ok-outcome-in-Flawed.outcome c.in_ok-outcome-in-Flawed.lines c.run_on.new.parser c.in_ok-place.field-0
     (subst (λ q. IsRunOn false (scan_part_of f.set.now) (machine_of f.set.now) (progress_of q f.parser)
     c.run_on.new.parser (Ok c.in_ok-place.field-0))
-    (c.place-start.ensures ∙ c.in_ok-push.ensures.ok) c.in_ok-place.ensures.runs)
+    (c.place-start.ensures ∙ c.in_ok-push.ensures.ok)
+    (run_of_set (scan_part_of f.set.now) (progress_of c.place-start.result f.parser) c.run_on.new.parser
+    c.self.invariant.machine (Ok c.in_ok-place.field-0) c.in_ok-place.ensures.runs))
     c.in-Flawed.is c.in_ok-outcome-in-Flawed.ensures.0 c.in_ok-outcome-in-Flawed.ensures.1
     (record { set = refl; form = refl; over = refl }) c.in_ok-push.ensures.countable))
 
@@ -60,13 +71,15 @@ matcher_at-self-inside-requires c =
     let f = c.self.inside in
     subst (λ s. IsUndecided s c.in-At.place) (sym c.self.invariant.lexer.scanner)
     (halts_here (scan_part_of f.set.now) (machine_of f.set.now) (progress_of c.place-start.result f.parser)
-    c.run_on.new.parser c.in_ok-place.field-0 c.in-At.place c.in_ok-place.ensures.runs c.in-At.is).1
+    c.run_on.new.parser c.in_ok-place.field-0 c.in-At.place
+    c.self.invariant.machine c.in_ok-place.ensures.runs c.in-At.is).1
 
 pub give_up-requires-clause-from : goal.give_up-requires-clause-from
 give_up-requires-clause-from c =
     let f = c.self.inside in
     let run = halts_here (scan_part_of f.set.now) (machine_of f.set.now) (progress_of c.place-start.result f.parser)
-    c.run_on.new.parser c.in_ok-place.field-0 c.in-At.place c.in_ok-place.ensures.runs c.in-At.is in
+    c.run_on.new.parser c.in_ok-place.field-0 c.in-At.place
+    c.self.invariant.machine c.in_ok-place.ensures.runs c.in-At.is in
     let on = further run.0 in
     omega (arith, on.at, c.at-at.ensures, ap (λ q. q.at) c.place-start.ensures)
 
@@ -74,7 +87,8 @@ pub give_up-requires-clause-to : goal.give_up-requires-clause-to
 give_up-requires-clause-to c =
     let f = c.self.inside in
     let run = halts_here (scan_part_of f.set.now) (machine_of f.set.now) (progress_of c.place-start.result f.parser)
-    c.run_on.new.parser c.in_ok-place.field-0 c.in-At.place c.in_ok-place.ensures.runs c.in-At.is in
+    c.run_on.new.parser c.in_ok-place.field-0 c.in-At.place
+    c.self.invariant.machine c.in_ok-place.ensures.runs c.in-At.is in
     let on = further run.0 in
     omega (
       arith,
@@ -89,7 +103,8 @@ pub invariant_of-self-2 : goal.invariant_of-self-2
 invariant_of-self-2 c =
     let f = c.self.inside in
     let run = halts_here (scan_part_of f.set.now) (machine_of f.set.now) (progress_of c.place-start.result f.parser)
-    c.run_on.new.parser c.in_ok-place.field-0 c.in-At.place c.in_ok-place.ensures.runs c.in-At.is in record {
+    c.run_on.new.parser c.in_ok-place.field-0 c.in-At.place
+    c.self.invariant.machine c.in_ok-place.ensures.runs c.in-At.is in record {
       lexer = c.self.invariant.lexer;
       machine = c.run_on.ensures.machine ∙ c.self.invariant.machine;
       runs = c.self.invariant.runs;
@@ -106,7 +121,8 @@ pub returns : goal.returns
 returns c =
     let f = c.self.inside in
     let run = halts_here (scan_part_of f.set.now) (machine_of f.set.now) (progress_of c.place-start.result f.parser)
-    c.run_on.new.parser c.in_ok-place.field-0 c.in-At.place c.in_ok-place.ensures.runs c.in-At.is in
+    c.run_on.new.parser c.in_ok-place.field-0 c.in-At.place
+    c.self.invariant.machine c.in_ok-place.ensures.runs c.in-At.is in
     let at = c.place-start.ensures ∙ c.in_ok-push.ensures.ok in
     is_piece c.args.self.now _ c.args.bytes.now _ (ap (λ x. x.over) (sym c.self.view_is) ∙ c.if-self.false)
     (subst (λ x. IsOnward x c.args.bytes.now (held_from f.set.now f.form c.give_up.new.self c.run_on.new.parser false))

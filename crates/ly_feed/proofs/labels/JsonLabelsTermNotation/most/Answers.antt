@@ -1,7 +1,7 @@
 use Rattle.std.proofs.Common.{map, subst, sym}
 use Rattle.ly_feed.specs.Vocabularies.{constructor_in, name_in}
+use Rattle.ly_feed.specs.declared.label_form.LabelForm.TheVariants.{Json}
 use Rattle.ly_pack.specs.Values.{rule_from}
-use Rattle.ly_print.specs.declared.answer_form.AnswerForm.TheVariants.{Json}
 use Rattle.ly_tree.proofs.JsonLemmas.{json_within}
 use Rattle.ly_tree.specs.Json.{as_json}
 use Rattle.ly_tree.specs.Shown.{Vocabulary}

@@ -1,4 +1,4 @@
-use Rattle.ly_print.specs.declared.answer_form.AnswerForm.TheVariants.{Plain}
+use Rattle.ly_feed.specs.declared.label_form.LabelForm.TheVariants.{Plain}
 use Rattle.ly_feed.proofs.labels.TermLabelsWords.longest.Goals as goal
 
 pub returns-clause-leaves : goal.returns-clause-leaves

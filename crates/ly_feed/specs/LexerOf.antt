@@ -1,6 +1,6 @@
 -- The lexer of a table set.
 use Rattle.std.specs.Prelude.{◌≡◌}
-use Rattle.ly_feed.specs.Private.Passing.{ArePassedOver}
+use Rattle.ly_feed.specs.Passing.{ArePassedOver}
 use Rattle.ly_feed.specs.ScanPart.{ScanPart, scanner_in}
 use Rattle.ly_scan.specs.Lexers.{Lexer, scanner_of}
 

@@ -1,0 +1,172 @@
+ghost use Rattle.std.specs.Prelude.{◌≡◌, ◌≢◌, ℕ, List, Err, IfErr, IfOk, IsErrOf, OnOk};
+ghost use Rattle.std.specs.Io.KnownBytes.{Appends, IsAtEnd};
+ghost use Rattle.ly_base.specs.declared.lexeme.End.{End};
+ghost use Rattle.ly_drive.specs.Answering.{IsDriven};
+ghost use Rattle.ly_drive.specs.DriveFault as drive;
+ghost use Rattle.ly_drive.specs.DriveFault.{IsOfFile};
+ghost use Rattle.ly_drive.specs.TableTokens.{token_name_in, HasBadCut, IsListedBy, IsListedFor};
+ghost use Rattle.ly_feed.specs.ScanPart.{condition_in, scan_part_of};
+ghost use Rattle.ly_feed.specs.Vocabularies.{name_in};
+ghost use Rattle.ly_feed.specs.TextFault.{IsBeforeWriting, IsOfEnding, IsWrite};
+ghost use Rattle.ly_listing.specs.Listings.{end_of};
+ghost use Rattle.ly_print.specs.Device.{next_count};
+ghost use Rattle.ly_print.specs.TextWriter.{IsCutShort};
+ghost use Rattle.ly_tables.specs.Refusal.{IsRefusedAs};
+ghost use Rattle.ly_tables.specs.TableSet.{TableSet as Tables};
+ghost use Rattle.ly_tables.specs.declared.fault.TableFault as file;
+ghost use Rattle.ly_tables.specs.declared.fault.TableFault.TheVariants.{OutOfMemory as NoMemory};
+
+use crate::fault::DriveFault;
+use ly_base::{End, RuleNo, Sym};
+use ly_feed::meaning::{action, terminal};
+use ly_feed::{TextFault, lexer_of};
+use ly_listing::{Listing, TokenEnd, TokenNames, list_tokens};
+use ly_print::{AnswerForm, ReadFault, Sink, Source, read_whole, write_whole};
+use ly_tables::{TableSet, read_tables};
+use std::alloc::Global;
+
+/// Writes the tokens of the text that a reader gives in a form, by the scanner of a table file: a line for each, and a
+/// last line if no rule matches somewhere. Nothing is read before the table file is; then the text is read whole, and
+/// nothing is written before all lines are made.
+///
+/// Its faults are those of `DriveFault` but `TooLong`.
+pub fn drive_tokens<R: Source, W: Sink>(
+    alloc: Global,
+    tables: &[u8],
+    form: AnswerForm,
+    reader: &mut R,
+    writer: &mut W,
+) -> Result<TokenEnd, DriveFault>
+    ensures answered { IfOk result (λ end. (s : Tables) × IsDriven tables.now s × (lines : List ℕ)
+        × IsListedFor form s (R.remaining reader.old) (end_of end) lines
+        × Appends (W.contents writer.old) (W.contents writer.new) lines) }
+    ensures beginning { (written : ℕ) → result ≡ Err (DriveFault.Text (TextFault.Write written))
+        → (s : Tables) × IsDriven tables.now s × (e : End) × (lines : List ℕ)
+        × IsListedFor form s (R.remaining reader.old) e lines
+        × IsCutShort (W.contents writer.old) (W.contents writer.new) written lines }
+    ensures refused { (fault : file.TableFault) → result ≡ Err (DriveFault.Tables fault)
+        → (fault ≢ NoMemory) × IsRefusedAs tables.now fault }
+    ensures faulty { result ≡ Err (DriveFault.Text TextFault.FaultyTables) → (s : Tables) × IsDriven tables.now s
+        × HasBadCut s (R.remaining reader.old) }
+    ensures never_long { result ≢ Err (DriveFault.Text TextFault.TooLong) }
+    ensures unread { IfErr result (λ e. IsOfFile e → reader.new ≡ reader.old) }
+    ensures ended { OnOk result (IsAtEnd (R.remaining reader.new)) }
+    ensures read { IsErrOf result (DriveFault.Text TextFault.Read)
+        → R.failures reader.new ≡ next_count (R.failures reader.old) }
+    ensures reader_held { (IsErrOf result (DriveFault.Text TextFault.Read) → ⊥)
+        → R.failures reader.new ≡ R.failures reader.old }
+    ensures write { IfErr result (λ e. drive.IsWrite e → W.failures writer.new ≡ next_count (W.failures writer.old)) }
+    ensures writer_held { OnOk result (W.failures writer.new ≡ W.failures writer.old) }
+    ensures untouched { IfErr result (λ e. drive.IsBeforeWriting e → writer.new ≡ writer.old) }
+{
+    let (set, _version) = read_tables(alloc, tables)?;
+    let listed = run_tokens(alloc, &set, form, reader, writer);
+    drop(set);
+    Ok(listed?)
+}
+
+/// Writes the tokens of the text that a reader gives by the scanner of a table set, as `drive_tokens` does.
+///
+/// Its faults are those of `TextFault` but `TooLong`.
+pub fn run_tokens<R: Source, W: Sink>(
+    alloc: Global,
+    set: &TableSet,
+    form: AnswerForm,
+    reader: &mut R,
+    writer: &mut W,
+) -> Result<TokenEnd, TextFault>
+    ensures answered { IfOk result (λ end. (lines : List ℕ)
+        × IsListedFor form set.now (R.remaining reader.old) (end_of end) lines
+        × Appends (W.contents writer.old) (W.contents writer.new) lines) }
+    ensures beginning { (written : ℕ) → result ≡ Err (TextFault.Write written) → (e : End) × (lines : List ℕ)
+        × IsListedFor form set.now (R.remaining reader.old) e lines
+        × IsCutShort (W.contents writer.old) (W.contents writer.new) written lines }
+    ensures faulty { result ≡ Err TextFault.FaultyTables → HasBadCut set.now (R.remaining reader.old) }
+    ensures never_long { result ≢ Err TextFault.TooLong }
+    ensures ended { OnOk result (IsAtEnd (R.remaining reader.new)) }
+    ensures read { IsErrOf result TextFault.Read → R.failures reader.new ≡ next_count (R.failures reader.old) }
+    ensures reader_held { (IsErrOf result TextFault.Read → ⊥) → R.failures reader.new ≡ R.failures reader.old }
+    ensures write { IfErr result (λ e. IsWrite e → W.failures writer.new ≡ next_count (W.failures writer.old)) }
+    ensures writer_held { OnOk result (W.failures writer.new ≡ W.failures writer.old) }
+    ensures untouched { IfErr result (λ e. IsBeforeWriting e → writer.new ≡ writer.old) }
+{
+    let text = match read_whole(alloc, reader) {
+        Ok(text) => text,
+        Err(ReadFault::Read) => return Err(TextFault::Read),
+        Err(ReadFault::OutOfMemory) => return Err(TextFault::OutOfMemory),
+    };
+    write_tokens(alloc, set, form, &text, writer)
+}
+
+/// Writes the tokens of a text by the scanner of a table set.
+fn write_tokens<W: Sink>(
+    alloc: Global,
+    set: &TableSet,
+    form: AnswerForm,
+    text: &[u8],
+    writer: &mut W,
+) -> Result<TokenEnd, TextFault>
+    ensures answered { IfOk result (λ end. (lines : List ℕ) × IsListedBy form set.now text.now (end_of end) lines
+        × Appends (W.contents writer.old) (W.contents writer.new) lines) }
+    ensures beginning { (written : ℕ) → result ≡ Err (TextFault.Write written) → (e : End) × (lines : List ℕ)
+        × IsListedBy form set.now text.now e lines
+        × IsCutShort (W.contents writer.old) (W.contents writer.new) written lines }
+    ensures faulty { result ≡ Err TextFault.FaultyTables → (byte : ℕ) × (lines : List ℕ)
+        × IsListedBy form set.now text.now (End.BadCut byte) lines }
+    ensures ending { IfErr result IsOfEnding }
+    ensures write { IfErr result (λ e. IsWrite e → W.failures writer.new ≡ next_count (W.failures writer.old)) }
+    ensures writer_held { OnOk result (W.failures writer.new ≡ W.failures writer.old) }
+    ensures untouched { IfErr result (λ e. IsBeforeWriting e → writer.new ≡ writer.old) }
+{
+    let lexer = lexer_of(alloc, set)?;
+    let Listing { lines, end } = list_tokens(alloc, &lexer, &SetTokens { set }, form, text)?;
+    let end = token_end(end)?;
+    write_whole(writer, &lines)?;
+    Ok(end)
+}
+
+/// How tokens end by the end of the lexer's run; where a cut leaves no token, the tables are at fault.
+fn token_end(end: End) -> Result<TokenEnd, TextFault>
+    ensures ok { IfOk result (λ t. end ≡ end_of t) }
+    ensures fault { IfErr result (λ e. (e ≡ TextFault.FaultyTables) × ((byte : ℕ) × (end ≡ End.BadCut byte))) }
+{
+    match end {
+        End::Clean => Ok(TokenEnd::Clean),
+        End::Stuck { byte } => Ok(TokenEnd::Stuck { byte: byte as u64 }),
+        End::BadCut { .. } => Err(TextFault::FaultyTables),
+    }
+}
+
+/// What comes of the lexemes of a table set's scanner.
+#[derive(Clone, Copy)]
+struct SetTokens<'a> {
+    /// The table set.
+    set: &'a TableSet,
+}
+
+impl TokenNames for SetTokens<'_> {
+    ghost naming = { λ t i bytes. token_name_in t.set.now i bytes };
+
+    ghost begins = { λ t i. condition_in (scan_part_of t.set.now) i };
+
+    fn name(&self, rule: RuleNo, lexeme: &[u8]) -> Option<&[u8]> {
+        match terminal(self.set, action(self.set, rule).emits, lexeme) {
+            Some(terminal) => Some(name_of(self.set, terminal)),
+            None => None,
+        }
+    }
+
+    fn begin(&self, rule: RuleNo) -> Option<u32> {
+        action(self.set, rule).begin
+    }
+}
+
+/// The printed name of a terminal, nothing where there is no such terminal.
+fn name_of(set: &TableSet, terminal: Sym) -> &[u8]
+    ensures { result.now ≡ name_in set.now.terminals terminal.0 }
+{
+    match set.terminals().get(terminal.0 as usize) {
+        Some(name) => name,
+        None => b"",
+    }
+}

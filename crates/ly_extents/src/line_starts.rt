@@ -1,0 +1,72 @@
+ghost use Rattle.std.specs.Prelude.{◌≡◌, ◌≤◌, IfOk, length, take};
+ghost use Rattle.ly_base.specs.Location.{column_behind, line_behind};
+ghost use Rattle.ly_extents.specs.Private.LineStarts.{line_starts};
+
+use ly_base::{Location, OutOfMemory};
+use std::alloc::Global;
+use std::marker::Model;
+
+/// A text, and where its lines begin.
+#[derive(Drop)]
+pub struct LineStarts<'t> {
+    /// The text.
+    text: &'t [u8],
+    /// Where each of its lines begins, the first one at 0.
+    starts: Vec<usize>,
+}
+
+impl<'t> Model for LineStarts<'t> {
+    ghost use Rattle.std.specs.Prelude.{◌≡◌, ℕ, List};
+    ghost use Rattle.ly_extents.specs.Private.LineStarts.{line_starts};
+
+    ghost Value = { List ℕ };
+
+    ghost view = { λ l. l.text.now };
+
+    ghost invariant = { λ l. l.starts.items ≡ line_starts l.text.now };
+}
+
+impl<'t> LineStarts<'t> {
+    /// Finds where the lines of a text begin. It fails where memory runs out.
+    pub fn of(alloc: Global, text: &'t [u8]) -> Result<LineStarts<'t>, OutOfMemory>
+        ensures { IfOk result (λ lines. lines ≡ text.now) }
+    {
+        let newlines = text.iter().filter(|byte| **byte == b'\n').count();
+        let mut starts = Vec::with_capacity(alloc, newlines + 1)?;
+        starts.push(0)?;
+        for (index, byte) in text.iter().enumerate() {
+            if *byte == b'\n' {
+                starts.push(index + 1)?;
+            }
+        }
+        Ok(LineStarts { text, starts })
+    }
+
+    /// The text.
+    pub fn text(&self) -> &'t [u8]
+        ensures { result.now ≡ self.now }
+    {
+        self.text
+    }
+
+    /// On which line an offset is, and in which column of it.
+    pub fn locate(&self, offset: usize) -> Location
+        requires { offset ≤ length self.now }
+        ensures line { result.line ≡ line_behind (take offset self.now) }
+        ensures column { result.column ≡ column_behind (take offset self.now) }
+    {
+        let line = self.line_of(offset);
+        Location {
+            line: line as u64,
+            column: (offset - self.starts[line - 1]) as u64 + 1,
+        }
+    }
+
+    /// On which line an offset is: it is the last one that begins no later.
+    fn line_of(&self, offset: usize) -> usize
+        ensures line { result ≡ line_behind (take offset self.now) }
+        ensures within { result ≤ length (line_starts self.now) }
+    {
+        self.starts.partition_point(|start| *start <= offset)
+    }
+}

@@ -1,0 +1,94 @@
+-- What is written for a text, with places, is its answer.
+use Rattle.std.proofs.Common.{◌≡◌, ◌++◌, ◌∙◌, ℕ, List, [], ◌∷◌, Err, Ok, Result, ap, length, map, refl, subst, sym}
+use Rattle.std.specs.Prelude.{IfOk}
+use Rattle.ly_base.specs.Bytes.{newline}
+use Rattle.ly_base.specs.Lexed.{Token}
+use Rattle.ly_base.specs.Trees.{Tree}
+use Rattle.ly_base.specs.declared.lexeme.End.TheVariants.{Clean}
+use Rattle.ly_extents.specs.Extents.{extent_of}
+use Rattle.ly_extents.specs.declared.extent.Extent.{Extent}
+use Rattle.ly_feed.specs.Flaw.{verdict_of}
+use Rattle.ly_feed.specs.NameMembers.{names_in, vocabulary_in, Named}
+use Rattle.ly_feed.specs.ScanPart.{scan_part_of}
+use Rattle.ly_feed.specs.Verdict.{IsOutcome, Verdict}
+use Rattle.ly_feed.specs.Vocabularies.{vocabulary_of}
+use Rattle.ly_feed.specs.declared.flaw.Flaw.{Flaw}
+use Rattle.ly_feed.specs.declared.flaw.Flaw.TheVariants.{NoRule, Refused}
+use Rattle.ly_feed.specs.declared.outcome.Outcome.{Outcome}
+use Rattle.ly_feed.specs.declared.outcome.Outcome.TheVariants as outcome
+use Rattle.ly_feed.specs.declared.outcome.Outcome.TheVariants.{Syntax, Tree as AsTree}
+use Rattle.ly_pack.specs.Machine.{TableRule}
+use Rattle.ly_places.proofs.WithinLemmas.{placed_within}
+use Rattle.ly_places.specs.Derived.{IsDerived}
+use Rattle.ly_places.specs.Parts.{parts_of}
+use Rattle.ly_places.specs.Placed.{Placed, end_behind, placed}
+use Rattle.ly_places.specs.PlacedAnswer as answer
+use Rattle.ly_places.specs.PlacedAnswer.{accepted, placed_line, IsPlacedVerdict, PlacedAnswer, PlacedVerdict}
+use Rattle.ly_places.specs.PlacedJson.{placed_json}
+use Rattle.ly_places.specs.Private.Derived.{IsDerivationOf}
+use Rattle.ly_places.specs.Shapes.{shape_of_rule}
+use Rattle.ly_places.specs.Within.{StandsWithin}
+use Rattle.ly_places.specs.declared.derivation.Derivation.{Derivation}
+use Rattle.ly_places.specs.declared.part.Part.{Part}
+use Rattle.ly_tables.specs.TableSet.{TableSet}
+
+-- the line of what is wrong with a text
+pub flaw_told : {A E : Type 0} (r : Result A E) (items : A → List ℕ) (s : TableSet) (text : List ℕ)
+    (v : PlacedVerdict) (w : Verdict) → IsPlacedVerdict s text v → answer.verdict_of text v ≡ w
+    → IfOk r (λ a. items a ≡ placed_line (vocabulary_of s) text v)
+    → IfOk r (λ a. (x : PlacedVerdict) × IsPlacedVerdict s text x × (answer.verdict_of text x ≡ w)
+    × (items a ≡ placed_line (vocabulary_of s) text x))
+flaw_told (Ok a) items s text v w is same told = (v, is, same, told)
+flaw_told (Err e) items s text v w is same told = tt
+
+-- an outcome says what is wrong
+pub some_outcome : (flaw : Flaw) → (o : Outcome) × IsOutcome (verdict_of flaw) o
+some_outcome (Refused number token expected) =
+    (Syntax number token.at (length token.text) expected, (refl, refl, refl, refl))
+some_outcome (NoRule byte) = (outcome.NoRule byte, refl)
+
+module _ (s : TableSet) (text : List ℕ) (x : Derivation) (h : IsDerivationOf s text x) where
+  -- the term of a derivation, with its places
+  abbrev pub placed_of : Placed
+  placed_of = placed (shape_of_rule s.rules) (end_behind h.derived.before) h.tree
+
+  -- it is what the derivation stands for
+  is_derived : (tokens : List Extent) → tokens ≡ x.tokens.items
+      → IsDerived x.forest x.root tokens s.rules h.derived.before h.tree
+  is_derived tokens at = record {
+    stands = h.root;
+    fits = h.derived.fits;
+    extents = ap (map extent_of) (sym h.derived.yields) ∙ (sym h.extents ∙ sym at);
+  }
+
+  -- its parts are listed
+  pub listed_so : (rules : List TableRule) → s.rules ≡ rules → (tokens : List Extent) → tokens ≡ x.tokens.items
+      → (parts : List Part) → ((before : List (Token ℕ)) (d : Tree) → IsDerived x.forest x.root tokens rules before d
+      → parts ≡ parts_of (placed (shape_of_rule rules) (end_behind before) d)) → parts ≡ parts_of placed_of
+  listed_so rules same tokens at parts told =
+      told h.derived.before h.tree (subst (λ rs. IsDerived x.forest x.root tokens rs h.derived.before h.tree) same
+      (is_derived tokens at))
+      ∙ ap (λ rs. parts_of (placed (shape_of_rule rs) (end_behind h.derived.before) h.tree)) (sym same)
+
+  -- it stands in the text
+  pub stands_within : StandsWithin (length text) placed_of
+  stands_within = placed_within (scan_part_of s) text h.tokens Clean (shape_of_rule s.rules) h.derived.before h.tree
+      h.derived.are_tokens h.derived.yields
+
+  -- its line is the text's answer
+  pub tree_answer : (names : Named) → names ≡ names_in s → (line : List ℕ)
+      → line ≡ placed_json (vocabulary_in names) text placed_of ++ newline ∷ [] → PlacedAnswer s text AsTree line
+  tree_answer names same line is = (
+    accepted placed_of,
+    record {
+      tokens = h.tokens;
+      are_tokens = h.derived.are_tokens;
+      before = h.derived.before;
+      tree = h.tree;
+      yields = h.derived.yields;
+      says = h.derived.says;
+      stands = refl;
+    },
+    refl,
+    is ∙ ap (λ n. placed_json (vocabulary_in n) text placed_of ++ newline ∷ []) same,
+  )

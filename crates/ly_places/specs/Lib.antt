@@ -1,0 +1,10 @@
+pub mod Derived
+pub mod Parts
+pub mod Placed
+pub mod PlacedAnswer
+pub mod PlacedJson
+pub mod PlacedLaws
+pub mod Placing
+pub mod Private
+pub mod Shapes
+pub mod Within

@@ -1,0 +1,5 @@
+pub mod Derived
+pub mod Kept
+pub mod Measured
+pub mod Printing
+pub mod Waiting

@@ -1,0 +1,257 @@
+//! From a derivation to the parts of its tree, in two passes that take time by its length, whatever its depth.
+//!
+//! The first one measures the children of all nodes, in the order in which they stand in the forest: how many tokens
+//! each has, and how many parts the rules make of it. The second one lists the parts, with a stack in place of
+//! recursion. A term that waits on the stack knows where its tokens begin, whatever the order in which an action names
+//! them; and since a node's parts are counted before, none is changed once it is listed.
+
+ghost use Rattle.std.specs.Prelude.{◌≡◌, ◌≤◌, ◌+◌, ℕ, List, ◌++◌, All, IfOk, OnOk, drop, length, map, reverse, take};
+ghost use Rattle.ly_base.specs.Lexed.{Token};
+ghost use Rattle.ly_base.specs.Trees.{Tree};
+ghost use Rattle.ly_pack.specs.Machine.{IsShapeFor};
+ghost use Rattle.ly_pack.specs.Values.{rule_from};
+ghost use Rattle.ly_places.specs.Derived.{IsDerived, IsShaped};
+ghost use Rattle.ly_places.specs.Parts.{parts_of};
+ghost use Rattle.ly_places.specs.Placed.{end_behind, placed};
+ghost use Rattle.ly_places.specs.Private.Kept.{first_extent};
+ghost use Rattle.ly_places.specs.Private.Measured.{tokens_among};
+ghost use Rattle.ly_places.specs.Private.Waiting.{body_from, kind_of, last_end, shapes_of, waiting_at};
+ghost use Rattle.ly_places.specs.Private.Waiting.{IsListed, IsMeasured, IsOpened, IsReady};
+ghost use Rattle.ly_places.specs.Shapes.{shape_of_rule};
+
+use crate::measure::{Measure, measure_children, measured, tree_of};
+use crate::part::{Part, PartKind};
+use ly_base::{OutOfMemory, RuleTree};
+use ly_extents::Extent;
+use ly_pack::TableRule;
+use ly_tree::{Forest, Look, Span, TermRef};
+use std::alloc::Global;
+
+/// The parts of the tree that rules make of a derivation, whose tokens are the last ones of a text.
+///
+/// The derivation stands in a forest, as a term whose nodes have all of their bodies.
+pub(crate) fn parts_of(
+    alloc: Global,
+    forest: &Forest,
+    root: TermRef,
+    tokens: &[Extent],
+    rules: &[TableRule],
+) -> Result<Vec<Part>, OutOfMemory>
+    requires derived { (before : List (Token ℕ)) × (d : Tree)
+        × IsDerived forest.now root tokens.now (map rule_from rules.now) before d }
+    requires shaped { All IsShaped (map rule_from rules.now) }
+    ensures { IfOk result (λ parts. (before : List (Token ℕ)) (d : Tree)
+        → IsDerived forest.now root tokens.now (map rule_from rules.now) before d
+        → parts.items ≡ parts_of (placed (shape_of_rule (map rule_from rules.now)) (end_behind before) d)) }
+{
+    let measures = measure_children(alloc, forest, rules)?;
+    let whole = measured(rules, &measures, forest.look(root))?;
+    let first = tokens.len() - whole.tokens;
+    let mut listing = Listing {
+        parts: Vec::with_capacity(alloc, whole.parts)?,
+        waiting: Vec::new(alloc),
+        body: Vec::new(alloc),
+    };
+    listing.waiting.push(Waiting {
+        term: root,
+        first,
+        last: last_end(&tokens[..first]),
+    })?;
+    let derivation = Flattening {
+        forest,
+        children: forest.children(),
+        measures: &measures,
+        rules,
+        tokens,
+    };
+    while let Some(next) = listing.waiting.pop() {
+        derivation.list(next, &mut listing)?;
+    }
+    Ok(listing.parts)
+}
+
+/// A derivation that a forest holds, as a term whose nodes have all of their bodies.
+#[derive(Clone, Copy)]
+struct Flattening<'d> {
+    /// The forest.
+    forest: &'d Forest,
+    /// The children of its nodes.
+    children: &'d [TermRef],
+    /// Their measures.
+    measures: &'d [Measure],
+    /// The rules, with what they make of their bodies.
+    rules: &'d [TableRule],
+    /// Where the tokens of the text stand.
+    tokens: &'d [Extent],
+}
+
+/// A term whose parts are to be listed.
+#[derive(Clone, Copy)]
+struct Waiting {
+    /// The term.
+    term: TermRef,
+    /// How many tokens stand before its own.
+    first: usize,
+    /// Where the last of them ends, or where the innermost node around it that has tokens begins, if that is later.
+    last: usize,
+}
+
+/// The parts of a tree, as far as they are listed.
+#[derive(Drop)]
+struct Listing {
+    /// The parts that are listed.
+    parts: Vec<Part>,
+    /// The terms whose parts are to follow them, the first one at the end.
+    waiting: Vec<Waiting>,
+    /// The body of the node that was listed last.
+    body: Vec<Waiting>,
+}
+
+/// Where so many tokens stand, from one on; or else no bytes there.
+fn extent_at(tokens: &[Extent], first: usize, count: usize, last: usize) -> Extent
+    requires { first + count ≤ length tokens.now }
+    ensures { result ≡ first_extent last count (drop first tokens.now) }
+{
+    if count == 0 {
+        return Extent {
+            start: last,
+            end: last,
+        };
+    }
+    Extent {
+        start: tokens[first].start,
+        end: tokens[first + count - 1].end,
+    }
+}
+
+/// Appends those at these places, which count from 1, the last one first.
+fn push_places(
+    waiting: &mut Vec<Waiting>,
+    body: &[Waiting],
+    places: &[u32],
+) -> Result<(), OutOfMemory>
+    requires { All (λ i. (1 ≤ i) × (i ≤ length body.now)) places.now }
+    ensures { OnOk result (waiting.new.items ≡ waiting.old.items ++ reverse (map (waiting_at body.now) places.now)) }
+{
+    let others = waiting.len();
+    for place in places {
+        waiting.push(body[*place as usize - 1])?;
+    }
+    waiting[others..].reverse();
+    Ok(())
+}
+
+impl Flattening<'_> {
+    /// The body of a node, by where its first token stands and where it begins.
+    fn body_of(
+        &self,
+        span: Span,
+        first: usize,
+        start: usize,
+        body: &mut Vec<Waiting>,
+    ) -> Result<(), OutOfMemory>
+        requires children { span.start + span.count ≤ length self.now.children.now }
+        requires measures { span.start + span.count ≤ length self.now.measures.now }
+        requires tokens { first + tokens_among (take span.count (drop span.start self.now.measures.now))
+            ≤ length self.now.tokens.now }
+        ensures { OnOk result (body.new.items ≡ body_from self.now.tokens.now first start
+            (take span.count (drop span.start self.now.children.now))
+            (take span.count (drop span.start self.now.measures.now))) }
+    {
+        let children = &self.children[span.start..span.start + span.count];
+        let measures = &self.measures[span.start..span.start + span.count];
+        let mut first = first;
+        let mut last = start;
+        body.clear();
+        for (k, child) in children.iter().enumerate() {
+            body.push(Waiting {
+                term: *child,
+                first,
+                last,
+            })?;
+            let count = measures[k].tokens;
+            last = extent_at(self.tokens, first, count, last).end;
+            first += count;
+        }
+        Ok(())
+    }
+
+    /// Lists a node by its rule: its part, where it makes one of its own; and the terms that it consists of wait.
+    fn list_node(
+        &self,
+        span: Span,
+        part: Part,
+        first: usize,
+        listing: &mut Listing,
+    ) -> Result<(), OutOfMemory>
+        requires children { span.start + span.count ≤ length self.now.children.now }
+        requires measures { span.start + span.count ≤ length self.now.measures.now }
+        requires tokens { first + tokens_among (take span.count (drop span.start self.now.measures.now))
+            ≤ length self.now.tokens.now }
+        requires shape { IsShapeFor span.count (shapes_of self.now span.rule.0) }
+        ensures { OnOk result (IsOpened (shapes_of self.now span.rule.0) part
+            (body_from self.now.tokens.now first part.extent.start
+            (take span.count (drop span.start self.now.children.now))
+            (take span.count (drop span.start self.now.measures.now))) listing.old listing.new) }
+    {
+        self.body_of(span, first, part.extent.start, &mut listing.body)?;
+        match tree_of(self.rules, span.rule) {
+            None | Some(RuleTree::Nil) => listing.parts.push(Part {
+                kind: PartKind::Nothing,
+                ..part
+            })?,
+            Some(RuleTree::Pass(place)) => {
+                listing.waiting.push(listing.body[*place as usize - 1])?;
+            }
+            Some(RuleTree::Build { places, .. }) => {
+                listing.parts.push(part)?;
+                push_places(&mut listing.waiting, &listing.body, places)?;
+            }
+        }
+        Ok(())
+    }
+
+    /// Lists a term: its part, if it has one of its own; and what it consists of waits.
+    fn list(&self, next: Waiting, listing: &mut Listing) -> Result<(), OutOfMemory>
+        requires measured { IsMeasured self.now }
+        requires ready { IsReady (shapes_of self.now) self.now.tokens.now self.now.forest.now next }
+        requires others { All (IsReady (shapes_of self.now) self.now.tokens.now self.now.forest.now)
+            listing.old.waiting.items }
+        ensures { OnOk result (IsListed (shapes_of self.now) self.now.tokens.now self.now.forest.now next
+            listing.old listing.new) }
+    {
+        let look = self.forest.look(next.term);
+        let measure = measured(self.rules, self.measures, look)?;
+        let part = Part {
+            kind: kind_of(look),
+            extent: extent_at(self.tokens, next.first, measure.tokens, next.last),
+            parts: measure.parts,
+        };
+        if let Look::Node(span) = look {
+            return self.list_node(span, part, next.first, listing);
+        }
+        listing.parts.push(part)?;
+        Ok(())
+    }
+}
+
+/// What the part of a term is.
+fn kind_of(look: Look) -> PartKind
+    ensures { result ≡ kind_of look }
+{
+    match look {
+        Look::Nothing => PartKind::Nothing,
+        Look::Leaf(terminal) => PartKind::Token(terminal),
+        Look::Node(span) => PartKind::Node(span.rule),
+    }
+}
+
+/// Where the last token ends, or the start of the text.
+fn last_end(tokens: &[Extent]) -> usize
+    ensures { result ≡ last_end tokens.now }
+{
+    match tokens.last() {
+        Some(token) => token.end,
+        None => 0,
+    }
+}

@@ -1,0 +1,58 @@
+ghost use Rattle.std.specs.Prelude.{◌≡◌, ◌≤◌, ◌+◌, length, map, IfOk};
+ghost use Rattle.ly_feed.specs.Flaw.{token_of};
+ghost use Rattle.ly_feed.specs.Vocabularies.{vocabulary_of};
+ghost use Rattle.ly_extents.specs.Extents.{json_extent, IsWithin};
+ghost use Rattle.ly_places.specs.PlacedAnswer.{placed_line, refused, unmatched};
+ghost use Rattle.ly_tree.specs.Shown.{Vocabulary};
+
+use ly_base::{OutOfMemory, Sym};
+use ly_extents::{Extent, LineStarts, push_json_extent};
+use ly_feed::{json_refused_line, json_unmatched_line};
+use ly_parse::Token;
+use ly_tables::TableSet;
+use std::alloc::Global;
+
+/// The line of JSON that says which token of a text is refused, or that its end is, with where that stands. The number
+/// of the token counts from 1.
+///
+/// It fails where memory runs out.
+pub fn refused_line(
+    alloc: Global,
+    set: &TableSet,
+    text: &[u8],
+    number: u64,
+    token: &Token<'_>,
+    expected: &[Sym],
+) -> Result<Vec<u8>, OutOfMemory>
+    requires { token.now.at + length token.now.text ≤ length text.now }
+    ensures { IfOk result (λ line. line.items ≡ placed_line (vocabulary_of set.now) text.now
+        (refused number (token_of token.now) (map (λ t. t.0) expected.now))) }
+{
+    let start = token.at as usize;
+    let end = start + token.text.len();
+    let places = places(alloc, text, Extent { start, end })?;
+    json_refused_line(alloc, set, number, token, &places, expected)
+}
+
+/// The line of JSON that says at which byte of a text no rule matches, with where that is.
+///
+/// It fails where memory runs out.
+pub fn unmatched_line(alloc: Global, text: &[u8], byte: u64) -> Result<Vec<u8>, OutOfMemory>
+    requires { byte ≤ length text.now }
+    ensures { (v : Vocabulary) → IfOk result (λ line. line.items ≡ placed_line v text.now (unmatched byte)) }
+{
+    let start = byte as usize;
+    let places = places(alloc, text, Extent { start, end: start })?;
+    json_unmatched_line(alloc, byte, &places)
+}
+
+/// The members that tell where a part of a text stands. It fails where memory runs out.
+fn places(alloc: Global, text: &[u8], extent: Extent) -> Result<Vec<u8>, OutOfMemory>
+    requires { IsWithin (length text.now) extent }
+    ensures { IfOk result (λ members. members.items ≡ json_extent text.now extent) }
+{
+    let lines = LineStarts::of(alloc, text)?;
+    let mut members = Vec::new(alloc);
+    push_json_extent(&mut members, &lines, extent)?;
+    Ok(members)
+}

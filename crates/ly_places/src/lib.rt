@@ -1,0 +1,26 @@
+//! From a table set and a text to its tree with where each part stands, as a list of parts and as a line of JSON.
+//!
+//! The parser runs over rules that keep all of their bodies (`keeping`), so that its term is the derivation of the
+//! text; its leaves are the tokens in their order. From both the parts of the tree are made (`parts_of`, `placed`).
+//!
+//! `drive_placed` reads a text from a reader and writes its answer.
+#![tactic(auto)]
+
+mod derivation;
+mod flattening;
+mod flaw_lines;
+mod keeping;
+mod laws;
+mod measure;
+mod part;
+mod part_notation;
+mod placed_line;
+mod placing;
+mod printing;
+
+pub use flaw_lines::{refused_line, unmatched_line};
+pub use laws::{parts_are_nested, places_are_forgotten};
+pub use ly_extents::{Extent, LineStarts};
+pub use part::{Part, PartKind};
+pub use placed_line::PlacedLine;
+pub use placing::{drive_placed, place_text, run_placed};

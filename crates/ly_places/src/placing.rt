@@ -1,0 +1,184 @@
+ghost use Rattle.std.specs.Prelude.{◌≡◌, ◌≢◌, ℕ, List, Err, IfErr, IfOk, IsErrOf, OnOk};
+ghost use Rattle.std.specs.Io.KnownBytes.{Appends, IsAtEnd};
+ghost use Rattle.ly_drive.specs.Answering.{IsDriven, IsFaultyOn};
+ghost use Rattle.ly_drive.specs.DriveFault as drive;
+ghost use Rattle.ly_drive.specs.DriveFault.{IsOfFile};
+ghost use Rattle.ly_feed.specs.TableAnswer.{IsVerdict};
+ghost use Rattle.ly_feed.specs.TextFault.{IsBeforeWriting, IsOfEnding, IsOfWriting, IsWrite};
+ghost use Rattle.ly_feed.specs.Verdict.{faulty};
+ghost use Rattle.ly_feed.specs.declared.outcome.Outcome.{Outcome as Answered};
+ghost use Rattle.ly_feed.specs.Flaw.{verdict_of};
+ghost use Rattle.ly_feed.specs.Vocabularies.{vocabulary_of};
+ghost use Rattle.ly_places.specs.PlacedAnswer.{placed_line, verdict_of as plain_of, IsPlacedVerdict, PlacedAnswer};
+ghost use Rattle.ly_places.specs.PlacedAnswer.{PlacedVerdict};
+ghost use Rattle.ly_places.specs.Private.Derived.{IsDerivationOf};
+ghost use Rattle.ly_places.specs.Placing.{IsPlacedFor, IsPlacingBegun};
+ghost use Rattle.ly_print.specs.Device.{next_count};
+ghost use Rattle.ly_print.specs.TextWriter.{IsCutShort};
+ghost use Rattle.ly_tables.specs.Refusal.{IsRefusedAs};
+ghost use Rattle.ly_tables.specs.TableSet.{TableSet as Tables};
+ghost use Rattle.ly_tables.specs.declared.fault.TableFault as file;
+ghost use Rattle.ly_tables.specs.declared.fault.TableFault.TheVariants.{OutOfMemory as NoMemory};
+
+use crate::derivation::{Derivation, Derived, derive};
+use crate::flattening::parts_of;
+use crate::flaw_lines::{refused_line, unmatched_line};
+use crate::placed_line::PlacedLine;
+use ly_base::OutOfMemory;
+use ly_drive::DriveFault;
+use ly_feed::{Flaw, NameLabels, Outcome, TextFault};
+use ly_print::{ReadFault, Sink, Source, read_whole, write_whole};
+use ly_tables::{TableSet, read_tables};
+use std::alloc::Global;
+
+/// Answers the text that a reader gives by the bytes of a table file, and writes the answer as a line of JSON in which
+/// each part has where it begins and ends. Nothing is read before the table file is; then the text is read whole, and
+/// nothing is written before the outcome is known.
+///
+/// Its faults are those of `DriveFault` but `TooLong`.
+pub fn drive_placed<R: Source, W: Sink>(
+    alloc: Global,
+    tables: &[u8],
+    reader: &mut R,
+    writer: &mut W,
+) -> Result<Outcome, DriveFault>
+    ensures answered { IfOk result (λ o. (s : Tables) × IsDriven tables.now s
+        × IsPlacedFor s (R.remaining reader.old) (W.contents writer.old) (W.contents writer.new) o) }
+    ensures beginning { (written : ℕ) → result ≡ Err (DriveFault.Text (TextFault.Write written))
+        → (s : Tables) × IsDriven tables.now s
+        × IsPlacingBegun s (R.remaining reader.old) (W.contents writer.old) (W.contents writer.new) written }
+    ensures refused { (fault : file.TableFault) → result ≡ Err (DriveFault.Tables fault)
+        → (fault ≢ NoMemory) × IsRefusedAs tables.now fault }
+    ensures faulty { result ≡ Err (DriveFault.Text TextFault.FaultyTables) → (s : Tables) × IsDriven tables.now s
+        × IsFaultyOn s (R.remaining reader.old) }
+    ensures never_long { result ≢ Err (DriveFault.Text TextFault.TooLong) }
+    ensures unread { IfErr result (λ e. IsOfFile e → reader.new ≡ reader.old) }
+    ensures ended { OnOk result (IsAtEnd (R.remaining reader.new)) }
+    ensures read { IsErrOf result (DriveFault.Text TextFault.Read)
+        → R.failures reader.new ≡ next_count (R.failures reader.old) }
+    ensures reader_held { (IsErrOf result (DriveFault.Text TextFault.Read) → ⊥)
+        → R.failures reader.new ≡ R.failures reader.old }
+    ensures write { IfErr result (λ e. drive.IsWrite e → W.failures writer.new ≡ next_count (W.failures writer.old)) }
+    ensures writer_held { OnOk result (W.failures writer.new ≡ W.failures writer.old) }
+    ensures untouched { IfErr result (λ e. drive.IsBeforeWriting e → writer.new ≡ writer.old) }
+{
+    let (set, _version) = read_tables(alloc, tables)?;
+    let answered = run_placed(alloc, &set, reader, writer);
+    drop(set);
+    Ok(answered?)
+}
+
+/// Answers the text that a reader gives by a table set, and writes the answer as `drive_placed` does.
+///
+/// Its faults are those of `TextFault` but `TooLong`.
+pub fn run_placed<R: Source, W: Sink>(
+    alloc: Global,
+    set: &TableSet,
+    reader: &mut R,
+    writer: &mut W,
+) -> Result<Outcome, TextFault>
+    ensures answered { IfOk result (IsPlacedFor set.now (R.remaining reader.old) (W.contents writer.old)
+        (W.contents writer.new)) }
+    ensures beginning { (written : ℕ) → result ≡ Err (TextFault.Write written)
+        → IsPlacingBegun set.now (R.remaining reader.old) (W.contents writer.old) (W.contents writer.new) written }
+    ensures faulty { result ≡ Err TextFault.FaultyTables → IsFaultyOn set.now (R.remaining reader.old) }
+    ensures never_long { result ≢ Err TextFault.TooLong }
+    ensures ended { OnOk result (IsAtEnd (R.remaining reader.new)) }
+    ensures read { IsErrOf result TextFault.Read → R.failures reader.new ≡ next_count (R.failures reader.old) }
+    ensures reader_held { (IsErrOf result TextFault.Read → ⊥) → R.failures reader.new ≡ R.failures reader.old }
+    ensures write { IfErr result (λ e. IsWrite e → W.failures writer.new ≡ next_count (W.failures writer.old)) }
+    ensures writer_held { OnOk result (W.failures writer.new ≡ W.failures writer.old) }
+    ensures untouched { IfErr result (λ e. IsBeforeWriting e → writer.new ≡ writer.old) }
+{
+    let text = match read_whole(alloc, reader) {
+        Ok(text) => text,
+        Err(ReadFault::Read) => return Err(TextFault::Read),
+        Err(ReadFault::OutOfMemory) => return Err(TextFault::OutOfMemory),
+    };
+    place_text(alloc, set, &text, writer)
+}
+
+/// Answers a text by a table set, and writes the answer as `drive_placed` does.
+///
+/// Its faults are `FaultyTables`, `Write` and `OutOfMemory` of `TextFault`.
+pub fn place_text<W: Sink>(
+    alloc: Global,
+    set: &TableSet,
+    text: &[u8],
+    writer: &mut W,
+) -> Result<Outcome, TextFault>
+    ensures answered { IfOk result (λ o. (answer : List ℕ) × PlacedAnswer set.now text.now o answer
+        × Appends (W.contents writer.old) (W.contents writer.new) answer) }
+    ensures beginning { (written : ℕ) → result ≡ Err (TextFault.Write written)
+        → (answer : List ℕ) × (o : Answered) × PlacedAnswer set.now text.now o answer
+        × IsCutShort (W.contents writer.old) (W.contents writer.new) written answer }
+    ensures faulty { result ≡ Err TextFault.FaultyTables → IsVerdict set.now text.now faulty }
+    ensures ending { IfErr result IsOfEnding }
+    ensures write { IfErr result (λ e. IsWrite e → W.failures writer.new ≡ next_count (W.failures writer.old)) }
+    ensures writer_held { OnOk result (W.failures writer.new ≡ W.failures writer.old) }
+    ensures untouched { IfErr result (λ e. IsBeforeWriting e → writer.new ≡ writer.old) }
+{
+    match derive(alloc, set, text)? {
+        Derived::Accepted(derivation) => write_tree(alloc, set, text, derivation, writer),
+        Derived::Refused(flaw) => {
+            let line = flaw_line(alloc, set, text, &flaw)?;
+            write_whole(writer, &line)?;
+            Ok(flaw.into_outcome())
+        }
+    }
+}
+
+/// Writes the line of the tree that a text has by a derivation of it.
+fn write_tree<W: Sink>(
+    alloc: Global,
+    set: &TableSet,
+    text: &[u8],
+    derivation: Derivation,
+    writer: &mut W,
+) -> Result<Outcome, TextFault>
+    requires { IsDerivationOf set.now text.now derivation }
+    ensures answered { IfOk result (λ o. (answer : List ℕ) × PlacedAnswer set.now text.now o answer
+        × Appends (W.contents writer.old) (W.contents writer.new) answer) }
+    ensures beginning { (written : ℕ) → result ≡ Err (TextFault.Write written)
+        → (answer : List ℕ) × (o : Answered) × PlacedAnswer set.now text.now o answer
+        × IsCutShort (W.contents writer.old) (W.contents writer.new) written answer }
+    ensures of_writing { IfErr result IsOfWriting }
+    ensures write { IfErr result (λ e. IsWrite e → W.failures writer.new ≡ next_count (W.failures writer.old)) }
+    ensures writer_held { OnOk result (W.failures writer.new ≡ W.failures writer.old) }
+    ensures untouched { IfErr result (λ e. IsBeforeWriting e → writer.new ≡ writer.old) }
+{
+    let Derivation {
+        forest,
+        root,
+        tokens,
+    } = derivation;
+    let machine = set.machine();
+    let parts = parts_of(alloc, &forest, root, &tokens, machine.rules())?;
+    drop(forest);
+    drop(tokens);
+    let line = PlacedLine::new(alloc, NameLabels::of(alloc, set)?, text, &parts)?;
+    line.write(writer)?;
+    Ok(Outcome::Tree)
+}
+
+/// The line that says what is wrong with a text, of which a table set says so.
+fn flaw_line(
+    alloc: Global,
+    set: &TableSet,
+    text: &[u8],
+    flaw: &Flaw<'_>,
+) -> Result<Vec<u8>, OutOfMemory>
+    requires { IsVerdict set.now text.now (verdict_of flaw.now) }
+    ensures { IfOk result (λ line. (v : PlacedVerdict) × IsPlacedVerdict set.now text.now v
+        × (plain_of text.now v ≡ verdict_of flaw.now)
+        × (line.items ≡ placed_line (vocabulary_of set.now) text.now v)) }
+{
+    match flaw {
+        Flaw::Refused {
+            number,
+            token,
+            expected,
+        } => refused_line(alloc, set, text, *number, token, expected),
+        Flaw::NoRule { byte } => unmatched_line(alloc, text, *byte),
+    }
+}

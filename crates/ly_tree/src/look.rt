@@ -1,0 +1,13 @@
+use crate::span::Span;
+use ly_base::Sym;
+
+/// What a look at a term shows: all but the text of a leaf.
+#[derive(Clone, Copy)]
+pub enum Look {
+    /// Nothing.
+    Nothing,
+    /// A leaf of this terminal.
+    Leaf(Sym),
+    /// A node.
+    Node(Span),
+}
