@@ -87,6 +87,8 @@ answer_one form limits others lex text e f answer other a b =
     (condition_set a.file.actions.items) (condition_set b.file.actions.items)
     (conditions_same a.file.actions.items b.file.actions.items same.actions) (start_of text) here.0 e here.1 in
     let one = lexing_one (defined b.file.names) b.file.rules.items (condition_set b.file.actions.items)
-    (start_of text) here.0 there.0 e f (rules_cut lex b.file b.spelled) under there.1 in
-    (one.1, here.2 ∙ lines_same form a.file.actions.items b.file.actions.items same.actions text here.0 e
-    ∙ ap₂ (λ ts end. lines_in form b.file.actions.items text ts end) one.0 one.1 ∙ sym there.2)
+    (start_of text) here.0 there.0 e f (rules_cut lex b.file b.spelled) under there.1 in (
+      one.1,
+      here.2 ∙ lines_same form a.file.actions.items b.file.actions.items same.actions text here.0 e
+          ∙ ap₂ (λ ts end. lines_in form b.file.actions.items text ts end) one.0 one.1 ∙ sym there.2,
+    )

@@ -65,7 +65,13 @@ enum Trial {
 /// Writes the tokens of `TEXT` into some room.
 fn tokens_into(alloc: Global, room: &mut [u8]) -> Result<TokenEnd, TokensFault> {
     let mut writer = Counted::new(room);
-    tokens(alloc, LEX, AnswerForm::Plain, &mut MemSource::new(TEXT), &mut writer)
+    tokens(
+        alloc,
+        LEX,
+        AnswerForm::Plain,
+        &mut MemSource::new(TEXT),
+        &mut writer,
+    )
 }
 
 /// How a try ends, with room for one byte more than the lines have.

@@ -157,7 +157,10 @@ fn carry_out<'a, F: Files, R: Source + Recall, W: Sink>(
             ended
         }
         Command::TryPlaced {
-            lex, yacc, text, ..
+            lex,
+            yacc,
+            text,
+            ..
         } => {
             let lex_bytes = read_file(files, alloc, lex, notes)?;
             let yacc_bytes = read_file(files, alloc, yacc, notes)?;
