@@ -5,7 +5,10 @@ use Rattle.std.proofs.Common.{append-nil, append_assoc, leb}
 use Rattle.std.proofs.lemmas.Bool.Decides.{nat_tests}
 use Rattle.std.proofs.lemmas.List.{length-reverse, reverse-append}
 use Rattle.std.proofs.lemmas.List.Sums.{sum_by-cons, take_while-cons}
+use Rattle.std.proofs.lemmas.Bool.{OnTrue_from}
+use Rattle.std.specs.Bool.{OnTrue}
 use Rattle.std.specs.List.{count_by, take_while}
+use Rattle.std.specs.Prelude.{nat_lt}
 use Rattle.std.proofs.lemmas.List.Sorted.{IsPartitionedBy-leb}
 use Rattle.std.specs.List.Sorted.{IsNonDecreasing, IsPartitionPoint, IsPartitionedBy}
 use Rattle.ly_base.specs.Location.{column_behind, is_newline, line_behind}
@@ -201,6 +204,53 @@ pub line_is : (text starts : List ℕ) (o line : ℕ) → starts ≡ line_starts
     → line ≡ line_behind (take o text)
 line_is text starts o line is within point =
     sym (count_at_point (no_later o) starts line within point) ∙ (ap (count_by (no_later o)) is ∙ lines_counted text o)
+
+-- a line that begins no later than an offset is that of it, where the next one, if there is one, begins later
+pub is_line : (text starts : List ℕ) (o before : ℕ) → starts ≡ line_starts text → before < length starts
+    → get_or starts before 0 ≤ o → (suc before < length starts → o < get_or starts (suc before) 0)
+    → suc before ≡ line_behind (take o text)
+is_line text starts o before is within start next =
+    let rising = subst IsNonDecreasing (sym is) (line_starts_rise text) in
+    line_is text starts o (suc before) is (omega (arith, within)) (
+      λ k d low high. no_later-true (get_or starts k d) o
+          (omega (arith, rising k before d (omega (arith, low)) within, same_or starts before d within, start)),
+      λ k d low high. no_later-false (get_or starts k d) o (omega (
+        arith,
+        rising (suc before) k d (omega (arith, low)) high,
+        same_or starts (suc before) d (omega (arith, low, high)),
+        next (omega (arith, low, high)),
+      )),
+    )
+  where
+    same_or : (xs : List ℕ) (k d : ℕ) → k < length xs → get_or xs k d ≡ get_or xs k 0
+    same_or [] k d within = absurd (omega (arith, within))
+    same_or (x ∷ xs) zero d within = refl
+    same_or (x ∷ xs) (suc k) d within = same_or xs k d (omega (arith, within))
+
+-- by the starts that are found of a line and of the next one
+pub before_next : (text xs ys : List ℕ) (o line before start next : ℕ) → xs ≡ line_starts text → ys ≡ line_starts text
+    → line ≡ suc before → before < length xs → start ≡ get_or xs before 0 → start ≤ o → next ≡ get_or ys line 0
+    → OnTrue (nat_lt o next) (line ≡ line_behind (take o text))
+before_next text xs ys o line before start next isx isy follows within first low second =
+    OnTrue_from (nat_lt o next) (line ≡ line_behind (take o text)) (λ less. follows ∙ is_line text xs o before isx
+    within (omega (arith, first, low)) (λ more. omega (
+      arith,
+      less_of o next less,
+      second,
+      ap (λ n. get_or ys n 0) follows,
+      ap (λ zs. get_or zs (suc before) 0) (isx ∙ sym isy),
+    )))
+  where
+    less_of : (a b : ℕ) → nat_lt a b ≡ true → a < b
+    less_of a b less = grind (arith, nat_tests)
+
+-- where there is no next one
+pub at_last : (text xs ys : List ℕ) (o line before start : ℕ) → xs ≡ line_starts text → ys ≡ line_starts text
+    → line ≡ suc before → before < length xs → start ≡ get_or xs before 0 → start ≤ o → length ys ≤ line
+    → line ≡ line_behind (take o text)
+at_last text xs ys o line before start isx isy follows within first low last =
+    follows ∙ is_line text xs o before isx within (omega (arith, first, low))
+    (λ more. absurd (omega (arith, more, last, follows, ap length (isx ∙ sym isy))))
 
 -- and the start before it is that of its line
 pub column_is : (text starts : List ℕ) (o line start : ℕ) → starts ≡ line_starts text → o ≤ length text

@@ -1,5 +1,5 @@
-ghost use Rattle.std.specs.Prelude.{◌≡◌, ◌≤◌, ◌++◌, OnOk, length};
-ghost use Rattle.ly_extents.specs.Extents.{json_extent, json_location, IsWithin};
+ghost use Rattle.std.specs.Prelude.{◌≡◌, ◌++◌, OnOk, length};
+ghost use Rattle.ly_extents.specs.Extents.{json_extent, IsWithin};
 
 use crate::extent::Extent;
 use crate::line_starts::LineStarts;
@@ -16,20 +16,10 @@ pub fn push_json_extent(
     requires { IsWithin (length lines.now) extent }
     ensures { OnOk result (out.new.items ≡ out.old.items ++ json_extent lines.now extent) }
 {
+    let start = lines.locate(extent.start);
+    let end = lines.locate_near(extent.end, start.line);
     out.extend_from_slice(b",\"start\":")?;
-    push_location(out, lines, extent.start)?;
+    push_json_location(out, extent.start as u64, start)?;
     out.extend_from_slice(b",\"end\":")?;
-    push_location(out, lines, extent.end)
-}
-
-/// Appends an offset, with its line and its column.
-fn push_location(
-    out: &mut Vec<u8>,
-    lines: &LineStarts<'_>,
-    offset: usize,
-) -> Result<(), OutOfMemory>
-    requires { offset ≤ length lines.now }
-    ensures { OnOk result (out.new.items ≡ out.old.items ++ json_location lines.now offset) }
-{
-    Ok(push_json_location(out, offset as u64, lines.locate(offset))?)
+    Ok(push_json_location(out, extent.end as u64, end)?)
 }

@@ -1,4 +1,5 @@
 ghost use Rattle.std.specs.Prelude.{◌≡◌, ◌≤◌, IfOk, length, take};
+ghost use Rattle.std.specs.Bool.{OnTrue};
 ghost use Rattle.ly_base.specs.Location.{column_behind, line_behind};
 ghost use Rattle.ly_extents.specs.Private.LineStarts.{line_starts};
 
@@ -31,8 +32,7 @@ impl<'t> LineStarts<'t> {
     pub fn of(alloc: Global, text: &'t [u8]) -> Result<LineStarts<'t>, OutOfMemory>
         ensures { IfOk result (λ lines. lines ≡ text.now) }
     {
-        let newlines = text.iter().filter(|byte| **byte == b'\n').count();
-        let mut starts = Vec::with_capacity(alloc, newlines + 1)?;
+        let mut starts = Vec::new(alloc);
         starts.push(0)?;
         for (index, byte) in text.iter().enumerate() {
             if *byte == b'\n' {
@@ -55,17 +55,64 @@ impl<'t> LineStarts<'t> {
         ensures line { result.line ≡ line_behind (take offset self.now) }
         ensures column { result.column ≡ column_behind (take offset self.now) }
     {
-        let line = self.line_of(offset);
+        self.on_line(offset, self.line_of(offset))
+    }
+
+    /// What `locate` says, which is looked for first on a line that may be near, and on the next one.
+    pub fn locate_near(&self, offset: usize, near: u64) -> Location
+        requires { offset ≤ length self.now }
+        ensures line { result.line ≡ line_behind (take offset self.now) }
+        ensures column { result.column ≡ column_behind (take offset self.now) }
+    {
+        let near = near as usize;
+        if self.is_on(offset, near) {
+            return self.on_line(offset, near);
+        }
+        let next = near.wrapping_add(1);
+        if self.is_on(offset, next) {
+            return self.on_line(offset, next);
+        }
+        self.locate(offset)
+    }
+
+    /// The location of an offset that is on this line.
+    fn on_line(&self, offset: usize, line: usize) -> Location
+        requires within { offset ≤ length self.now }
+        requires line { line ≡ line_behind (take offset self.now) }
+        requires there { line ≤ length (line_starts self.now) }
+        ensures line { result.line ≡ line_behind (take offset self.now) }
+        ensures column { result.column ≡ column_behind (take offset self.now) }
+    {
         Location {
             line: line as u64,
             column: (offset - self.starts[line - 1]) as u64 + 1,
         }
     }
 
+    /// Whether an offset is on a line.
+    fn is_on(&self, offset: usize, line: usize) -> bool
+        ensures line { OnTrue result (line ≡ line_behind (take offset self.now)) }
+        ensures there { OnTrue result (line ≤ length (line_starts self.now)) }
+    {
+        let Some(before) = line.checked_sub(1) else {
+            return false;
+        };
+        let Some(start) = self.starts.get(before) else {
+            return false;
+        };
+        if offset < *start {
+            return false;
+        }
+        match self.starts.get(line) {
+            Some(next) => offset < *next,
+            None => true,
+        }
+    }
+
     /// On which line an offset is: it is the last one that begins no later.
     fn line_of(&self, offset: usize) -> usize
         ensures line { result ≡ line_behind (take offset self.now) }
-        ensures within { result ≤ length (line_starts self.now) }
+        ensures there { result ≤ length (line_starts self.now) }
     {
         self.starts.partition_point(|start| *start <= offset)
     }
