@@ -70,11 +70,13 @@ first_sixteen =
 
 first_twenty_four : AllBelow Reads 24
 first_twenty_four =
-    ((((((((first_sixteen, λ r. refl), λ r. refl), λ r. refl), λ r. refl), λ r. refl), λ r. refl), λ r. refl), λ r. refl)
+    let half : AllBelow Reads 20 = ((((first_sixteen, λ r. refl), λ r. refl), λ r. refl), λ r. refl) in
+    ((((half, λ r. refl), λ r. refl), λ r. refl), λ r. refl)
 
 controls_read : AllBelow Reads 32
 controls_read =
-    ((((((((first_twenty_four, λ r. refl), λ r. refl), λ r. refl), λ r. refl), λ r. refl), λ r. refl), λ r. refl), λ r. refl)
+    let half : AllBelow Reads 28 = ((((first_twenty_four, λ r. refl), λ r. refl), λ r. refl), λ r. refl) in
+    ((((half, λ r. refl), λ r. refl), λ r. refl), λ r. refl)
 
 -- a byte in a string is read by what it is written as
 reads : (b : ℕ) → Reads b
@@ -104,10 +106,10 @@ no_quote b r is = elim (eqb_tells b 34) as (λ _. ⊥) [
     first_is_quote (c ∷ rest) b r is read =
         sym (ap (λ p. p.0) read) ∙ ap (λ x. (first_byte (x ∷ rest)).0) is
 
-heads : (x y : ℕ) (a b : List ℕ) → x ∷ a ≡ y ∷ b → x ≡ y
+pub heads : (x y : ℕ) (a b : List ℕ) → x ∷ a ≡ y ∷ b → x ≡ y
 heads x y a b e = ap (λ l. get_or l 0 0) e
 
-tails : (x y : ℕ) (a b : List ℕ) → x ∷ a ≡ y ∷ b → a ≡ b
+pub tails : (x y : ℕ) (a b : List ℕ) → x ∷ a ≡ y ∷ b → a ≡ b
 tails x y a b e = ap tail_of e
   where
     tail_of : List ℕ → List ℕ
@@ -139,7 +141,7 @@ characters : (name : List ℕ) → flat_map encode_utf8 name ≡ encode_utf8_all
 characters [] = refl
 characters (b ∷ bs) = ap (λ t. encode_utf8 b ++ t) (characters bs)
 
-name_one : (a b r q : List ℕ) → json_name a ++ r ≡ json_name b ++ q → (a ≡ b) × (r ≡ q)
+pub name_one : (a b r q : List ℕ) → json_name a ++ r ≡ json_name b ++ q → (a ≡ b) × (r ≡ q)
 name_one a b r q e =
     let read = string_one (flat_map encode_utf8 a) (flat_map encode_utf8 b) r q e in
     (encodes_same a b (sym (characters a) ∙ read.0 ∙ characters b), read.1)
@@ -152,7 +154,7 @@ AllFigures [] = Unit {0}
 AllFigures (d ∷ ds) = (is_figure d ≡ true) × AllFigures ds
 
 -- no further figure follows
-abbrev EndsNumber : List ℕ → Type 0
+abbrev pub EndsNumber : List ℕ → Type 0
 EndsNumber r = is_figure (get_or r 0 0) ≡ false
 
 figures_one : (a b r q : List ℕ) → AllFigures a → AllFigures b → EndsNumber r → EndsNumber q → a ++ r ≡ b ++ q
@@ -180,7 +182,7 @@ all_figures : (n : ℕ) → n < 2 ^ 64 → AllFigures (decimal n)
 all_figures n less = decimal_by_steps (λ _ ds. AllFigures ds) (λ k small. (figure k small, tt))
     (λ k ds _ all. figures_more ds (48 + k % 10) all (figure (k % 10) (omega arith))) n less
 
-decimal_one : (m n : ℕ) (r q : List ℕ) → m < 2 ^ 64 → n < 2 ^ 64 → EndsNumber r → EndsNumber q
+pub decimal_one : (m n : ℕ) (r q : List ℕ) → m < 2 ^ 64 → n < 2 ^ 64 → EndsNumber r → EndsNumber q
     → decimal m ++ r ≡ decimal n ++ q → (m ≡ n) × (r ≡ q)
 decimal_one m n r q mm nn h i e =
     let parts = figures_one (decimal m) (decimal n) r q (all_figures m mm) (all_figures n nn) h i e in
@@ -196,7 +198,7 @@ begins_number (d ∷ ds) x r all some h e =
 abbrev other_numbers : List ℕ → List ℕ
 other_numbers ns = flat_map other_number ns
 
-abbrev AreBytes : List ℕ → Type 0
+abbrev pub AreBytes : List ℕ → Type 0
 AreBytes bytes = All (λ b. b < 256) bytes
 
 small : (n : ℕ) → n < 256 → n < 2 ^ 64
@@ -241,18 +243,18 @@ numbers_one (x ∷ a) (y ∷ b) r q f g e =
     (ap₂ (λ z zs. z ∷ zs) first.0 rest.0, rest.1)
 
 -- what stands behind a common beginning
-peel : (w x y r q : List ℕ) → (w ++ x) ++ r ≡ (w ++ y) ++ q → x ++ r ≡ y ++ q
+pub peel : (w x y r q : List ℕ) → (w ++ x) ++ r ≡ (w ++ y) ++ q → x ++ r ≡ y ++ q
 peel w x y r q e = append_cancel_left w (x ++ r) (y ++ q)
     (sym (append_assoc w x r) ∙ e ∙ append_assoc w y q)
 
 -- what stands behind two texts
-apart : (v w x y r q : List ℕ) → (v ++ x) ++ r ≡ (w ++ y) ++ q → v ++ (x ++ r) ≡ w ++ (y ++ q)
+pub apart : (v w x y r q : List ℕ) → (v ++ x) ++ r ≡ (w ++ y) ++ q → v ++ (x ++ r) ≡ w ++ (y ++ q)
 apart v w x y r q e = sym (append_assoc v x r) ∙ e ∙ append_assoc w y q
 
-abbrev content_by : Bool → List ℕ → List ℕ
+abbrev pub content_by : Bool → List ℕ → List ℕ
 content_by utf8 text = if utf8 then text_member text else bytes_member text
 
-content_one : (u v : Bool) (a b r q : List ℕ) → AreBytes a → AreBytes b
+pub content_one : (u v : Bool) (a b r q : List ℕ) → AreBytes a → AreBytes b
     → content_by u a ++ r ≡ content_by v b ++ q → (a ≡ b) × (r ≡ q)
 content_one true true a b r q f g e
     = string_one a b r q (peel (codes "\"text\":") (json_string a) (json_string b) r q e)
