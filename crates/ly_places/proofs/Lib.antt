@@ -10,6 +10,7 @@ pub mod NodesLemmas
 pub mod NotationLemmas
 pub mod PlaceLemmas
 pub mod PlacedLineLemmas
+pub mod PlacedReadingLemmas
 pub mod PlacingLemmas
 pub mod PrintingLemmas
 pub mod SizeLemmas

@@ -7,9 +7,10 @@ use Rattle.ly_base.specs.Trees.{Tree}
 use Rattle.ly_base.specs.declared.lexeme.End.TheVariants.{Clean}
 use Rattle.ly_extents.specs.Extents.{extent_of}
 use Rattle.ly_extents.specs.declared.extent.Extent.{Extent}
-use Rattle.ly_feed.specs.Flaw.{verdict_of}
+use Rattle.ly_feed.specs.Flaw.{token_of, verdict_of}
 use Rattle.ly_feed.specs.NameMembers.{names_in, vocabulary_in, Named}
 use Rattle.ly_feed.specs.ScanPart.{scan_part_of}
+use Rattle.ly_feed.specs.TableAnswer.{IsVerdict}
 use Rattle.ly_feed.specs.Verdict.{IsOutcome, Verdict}
 use Rattle.ly_feed.specs.Vocabularies.{vocabulary_of}
 use Rattle.ly_feed.specs.declared.flaw.Flaw.{Flaw}
@@ -23,7 +24,8 @@ use Rattle.ly_places.specs.Derived.{IsDerived}
 use Rattle.ly_places.specs.Parts.{parts_of}
 use Rattle.ly_places.specs.Placed.{Placed, end_behind, placed}
 use Rattle.ly_places.specs.PlacedAnswer as answer
-use Rattle.ly_places.specs.PlacedAnswer.{accepted, placed_line, IsPlacedVerdict, PlacedAnswer, PlacedVerdict}
+use Rattle.ly_places.specs.PlacedAnswer.{accepted, placed_line, IsPlacedBy, IsPlacedVerdict, PlacedAnswer}
+use Rattle.ly_places.specs.PlacedAnswer.{PlacedVerdict}
 use Rattle.ly_places.specs.PlacedJson.{placed_json}
 use Rattle.ly_places.specs.Private.Derived.{IsDerivationOf}
 use Rattle.ly_places.specs.Shapes.{shape_of_rule}
@@ -46,6 +48,23 @@ pub some_outcome : (flaw : Flaw) → (o : Outcome) × IsOutcome (verdict_of flaw
 some_outcome (Refused number token expected) =
     (Syntax number token.at (length token.text) expected, (refl, refl, refl, refl))
 some_outcome (NoRule byte) = (outcome.NoRule byte, refl)
+
+-- what is wrong with a text is said with places too
+pub placed_flaw : (s : TableSet) (text : List ℕ) (flaw : Flaw) → IsVerdict s text (verdict_of flaw)
+    → (v : PlacedVerdict) × IsPlacedVerdict s text v × (answer.verdict_of text v ≡ verdict_of flaw)
+placed_flaw s text (Refused number token expected) is =
+    (answer.refused number (token_of token) (map (λ s. s.0) expected.items), is, refl)
+placed_flaw s text (NoRule byte) is = (answer.unmatched byte, is, refl)
+
+-- and without them
+pub plain_flaw : (s : TableSet) (text : List ℕ) (v : PlacedVerdict) (flaw : Flaw) → IsPlacedVerdict s text v
+    → answer.verdict_of text v ≡ verdict_of flaw → IsVerdict s text (verdict_of flaw)
+plain_flaw s text (accepted t) (Refused number token expected) is same = absurd cc
+plain_flaw s text (accepted t) (NoRule byte) is same = absurd cc
+plain_flaw s text (answer.refused k t ts) flaw is same = subst (IsVerdict s text) same is
+plain_flaw s text (answer.unmatched byte) flaw is same = subst (IsVerdict s text) same is
+plain_flaw s text answer.faulty (Refused number token expected) is same = absurd cc
+plain_flaw s text answer.faulty (NoRule byte) is same = absurd cc
 
 module _ (s : TableSet) (text : List ℕ) (x : Derivation) (h : IsDerivationOf s text x) where
   -- the term of a derivation, with its places
@@ -70,25 +89,36 @@ module _ (s : TableSet) (text : List ℕ) (x : Derivation) (h : IsDerivationOf s
       (is_derived tokens at))
       ∙ ap (λ rs. parts_of (placed (shape_of_rule rs) (end_behind h.derived.before) h.tree)) (sym same)
 
-  -- it stands in the text
-  pub stands_within : StandsWithin (length text) placed_of
-  stands_within = placed_within (scan_part_of s) text h.tokens Clean (shape_of_rule s.rules) h.derived.before h.tree
-      h.derived.are_tokens h.derived.yields
+  -- it is placed by the set
+  pub is_placed : IsPlacedBy s text placed_of
+  is_placed = record {
+    tokens = h.tokens;
+    are_tokens = h.derived.are_tokens;
+    before = h.derived.before;
+    tree = h.tree;
+    yields = h.derived.yields;
+    says = h.derived.says;
+    stands = refl;
+  }
+
+  -- so its parts are those of a placed term
+  pub parts_placed : {A E : Type 0} (r : Result A E) (items : A → List Part) (rules : List TableRule)
+      → s.rules ≡ rules → (tokens : List Extent) → tokens ≡ x.tokens.items
+      → IfOk r (λ parts. (before : List (Token ℕ)) (d : Tree) → IsDerived x.forest x.root tokens rules before d
+      → items parts ≡ parts_of (placed (shape_of_rule rules) (end_behind before) d))
+      → IfOk r (λ parts. (t : Placed) × IsPlacedBy s text t × (items parts ≡ parts_of t))
+  parts_placed (Ok parts) items rules same tokens at told =
+      (placed_of, is_placed, listed_so rules same tokens at (items parts) told)
+  parts_placed (Err e) items rules same tokens at told = tt
+
+module _ (s : TableSet) (text : List ℕ) (t : Placed) (h : IsPlacedBy s text t) where
+  -- a placed term stands in the text
+  pub stands_within : StandsWithin (length text) t
+  stands_within = subst (StandsWithin (length text)) (sym h.stands)
+      (placed_within (scan_part_of s) text h.tokens Clean (shape_of_rule s.rules) h.before h.tree h.are_tokens h.yields)
 
   -- its line is the text's answer
   pub tree_answer : (names : Named) → names ≡ names_in s → (line : List ℕ)
-      → line ≡ placed_json (vocabulary_in names) text placed_of ++ newline ∷ [] → PlacedAnswer s text AsTree line
-  tree_answer names same line is = (
-    accepted placed_of,
-    record {
-      tokens = h.tokens;
-      are_tokens = h.derived.are_tokens;
-      before = h.derived.before;
-      tree = h.tree;
-      yields = h.derived.yields;
-      says = h.derived.says;
-      stands = refl;
-    },
-    refl,
-    is ∙ ap (λ n. placed_json (vocabulary_in n) text placed_of ++ newline ∷ []) same,
-  )
+      → line ≡ placed_json (vocabulary_in names) text t ++ newline ∷ [] → PlacedAnswer s text AsTree line
+  tree_answer names same line is =
+      (accepted t, h, refl, is ∙ ap (λ n. placed_json (vocabulary_in n) text t ++ newline ∷ []) same)

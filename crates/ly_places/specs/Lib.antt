@@ -1,8 +1,10 @@
 pub mod Derived
+pub mod Parsing
 pub mod Parts
 pub mod Placed
 pub mod PlacedAnswer
 pub mod PlacedJson
+pub mod PlacedJsonLaws
 pub mod PlacedLaws
 pub mod Placing
 pub mod Private

@@ -1,3 +1,4 @@
+ghost use Rattle.ly_places.specs.PlacedJsonLaws.{IsOfNamedPlaces, SaysOnePlacedTree};
 ghost use Rattle.ly_places.specs.PlacedLaws.{PartsAreNested, PlacesAreForgotten};
 
 /// Without its places a placed term is what the rules build of the derivation.
@@ -8,4 +9,11 @@ pub fn places_are_forgotten()
 /// Where tokens follow one another, the parts of a placed term stand within their nodes.
 pub fn parts_are_nested()
     ensures { PartsAreNested }
+{}
+
+/// The JSON text of a placed term is that of its names and of the spots where its parts begin and end, and whatever
+/// stands behind it, it is that of no others.
+pub fn a_placed_json_text_says_one_tree()
+    ensures of_names { IsOfNamedPlaces }
+    ensures one { SaysOnePlacedTree }
 {}

@@ -3,7 +3,8 @@
 //! The parser runs over rules that keep all of their bodies (`keeping`), so that its term is the derivation of the
 //! text; its leaves are the tokens in their order. From both the parts of the tree are made (`parts_of`, `placed`).
 //!
-//! `drive_placed` reads a text from a reader and writes its answer.
+//! `parse` gives the parts, or what is wrong with a text; `drive_placed` reads a text from a reader and writes its
+//! answer.
 #![tactic(auto)]
 
 mod derivation;
@@ -12,6 +13,7 @@ mod flaw_lines;
 mod keeping;
 mod laws;
 mod measure;
+mod parsing;
 mod part;
 mod part_notation;
 mod placed_line;
@@ -19,8 +21,9 @@ mod placing;
 mod printing;
 
 pub use flaw_lines::{refused_line, unmatched_line};
-pub use laws::{parts_are_nested, places_are_forgotten};
+pub use laws::{a_placed_json_text_says_one_tree, parts_are_nested, places_are_forgotten};
 pub use ly_extents::{Extent, LineStarts};
+pub use parsing::{Parsed, parse};
 pub use part::{Part, PartKind};
 pub use placed_line::PlacedLine;
 pub use placing::{drive_placed, place_text, run_placed};

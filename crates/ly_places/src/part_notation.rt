@@ -1,5 +1,6 @@
-ghost use Rattle.std.specs.Prelude.{◌≡◌, ◌<◌, ◌≤◌, ◌+◌, ◌^◌, ◌++◌, [], length, codes, sum_by, IfOk, IfSome, OnErr};
-ghost use Rattle.std.specs.Prelude.{OnOk};
+ghost use Rattle.std.specs.Prelude.{◌≡◌, ◌<◌, ◌≤◌, ◌+◌, ◌^◌, ◌++◌, [], length, codes, sum_by, take, IfOk, IfSome};
+ghost use Rattle.std.specs.Prelude.{OnErr, OnOk};
+ghost use Rattle.ly_base.specs.Location.{column_behind, line_behind};
 ghost use Rattle.ly_feed.specs.NameMembers.{vocabulary_in};
 ghost use Rattle.ly_extents.specs.Extents.{bytes_at, json_extent, json_location, IsWithin};
 ghost use Rattle.ly_places.specs.Private.Printing.{most_of, opening, parts_text, AreSound};
@@ -8,7 +9,7 @@ ghost use Rattle.ly_print.specs.Device.{next_count};
 ghost use Rattle.ly_print.specs.TextWriter.{bytes_of, IsAppended};
 
 use crate::part::{Part, PartKind};
-use ly_base::{OutOfMemory, RuleNo, Sym};
+use ly_base::{Location, OutOfMemory, RuleNo, Sym};
 use ly_extents::{Extent, LineStarts};
 use ly_feed::NameLabels;
 use ly_print::{Front, Label, Sink, TextWriter, WriteFault, are_bytes};
@@ -57,7 +58,8 @@ impl<'a> PartNotation<'a> {
         most_bytes(parts, self.names.longest().checked_add(BESIDE)?)
     }
 
-    /// Prints what stands before the children of a part: of one that is no node, all of it.
+    /// Prints what stands before the children of a part: of one that is no node, all of it. The line on which the part
+    /// begins is looked for from that of the one before it on.
     ///
     /// It fails where the writer does.
     pub(crate) fn push_opening<S: Sink>(
@@ -65,6 +67,7 @@ impl<'a> PartNotation<'a> {
         out: &mut TextWriter,
         writer: &mut S,
         part: &Part,
+        line: &mut u64,
     ) -> Result<(), WriteFault>
         requires within { IsWithin (length self.now.lines) part.now.extent }
         requires countable { bytes_of out.old
@@ -78,8 +81,8 @@ impl<'a> PartNotation<'a> {
     {
         match part.kind {
             PartKind::Nothing => out.push_bytes(writer, b"null"),
-            PartKind::Token(terminal) => self.push_token(out, writer, terminal, part.extent),
-            PartKind::Node(rule) => self.push_node(out, writer, rule, part.extent),
+            PartKind::Token(terminal) => self.push_token(out, writer, terminal, part.extent, line),
+            PartKind::Node(rule) => self.push_node(out, writer, rule, part.extent, line),
         }
     }
 
@@ -90,6 +93,7 @@ impl<'a> PartNotation<'a> {
         writer: &mut S,
         terminal: Sym,
         extent: Extent,
+        line: &mut u64,
     ) -> Result<(), WriteFault>
         requires within { IsWithin (length self.now.lines) extent }
         requires countable { bytes_of out.old
@@ -102,7 +106,7 @@ impl<'a> PartNotation<'a> {
         ensures failed { OnErr result (S.failures writer.new ≡ next_count (S.failures writer.old)) }
     {
         out.push_label(writer, self.names.leaf(terminal))?;
-        self.push_extent(out, writer, extent)?;
+        self.push_extent(out, writer, extent, line)?;
         out.push_json_leaf(writer, &self.comma, &self.bytes_at(extent))
     }
 
@@ -122,6 +126,7 @@ impl<'a> PartNotation<'a> {
         writer: &mut S,
         rule: RuleNo,
         extent: Extent,
+        line: &mut u64,
     ) -> Result<(), WriteFault>
         requires within { IsWithin (length self.now.lines) extent }
         requires countable { bytes_of out.old
@@ -134,16 +139,17 @@ impl<'a> PartNotation<'a> {
         ensures failed { OnErr result (S.failures writer.new ≡ next_count (S.failures writer.old)) }
     {
         out.push_label(writer, self.names.node(rule))?;
-        self.push_extent(out, writer, extent)?;
+        self.push_extent(out, writer, extent, line)?;
         out.push_bytes(writer, b",\"children\":[")
     }
 
-    /// Prints where a part stands.
+    /// Prints where a part stands, and says on which line it begins.
     fn push_extent<S: Sink>(
         &self,
         out: &mut TextWriter,
         writer: &mut S,
         extent: Extent,
+        line: &mut u64,
     ) -> Result<(), WriteFault>
         requires within { IsWithin (length self.now.lines) extent }
         requires countable { bytes_of out.old + length (json_extent self.now.lines extent) < 2 ^ 64 }
@@ -154,8 +160,11 @@ impl<'a> PartNotation<'a> {
         ensures no_failure { OnOk result (S.failures writer.new ≡ S.failures writer.old) }
         ensures failed { OnErr result (S.failures writer.new ≡ next_count (S.failures writer.old)) }
     {
-        self.push_place(out, writer, b",\"start\":", extent.start)?;
-        self.push_place(out, writer, b",\"end\":", extent.end)
+        let start = self.lines.locate_near(extent.start, *line);
+        let end = self.lines.locate_near(extent.end, start.line);
+        *line = start.line;
+        self.push_place(out, writer, b",\"start\":", extent.start, start)?;
+        self.push_place(out, writer, b",\"end\":", extent.end, end)
     }
 
     /// Prints a key, and an offset with its location behind it.
@@ -165,8 +174,10 @@ impl<'a> PartNotation<'a> {
         writer: &mut S,
         key: &[u8],
         offset: usize,
+        location: Location,
     ) -> Result<(), WriteFault>
-        requires within { offset ≤ length self.now.lines }
+        requires line { location.line ≡ line_behind (take offset self.now.lines) }
+        requires column { location.column ≡ column_behind (take offset self.now.lines) }
         requires countable { bytes_of out.old + length (key.now ++ json_location self.now.lines offset) < 2 ^ 64 }
         ensures text { IsAppended out.old out.new (S.contents writer.old) (S.contents writer.new)
             (key.now ++ json_location self.now.lines offset) result }
@@ -176,7 +187,7 @@ impl<'a> PartNotation<'a> {
         ensures failed { OnErr result (S.failures writer.new ≡ next_count (S.failures writer.old)) }
     {
         out.push_bytes(writer, key)?;
-        out.push_json_location(writer, offset as u64, self.lines.locate(offset))
+        out.push_json_location(writer, offset as u64, location)
     }
 }
 

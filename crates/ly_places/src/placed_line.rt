@@ -67,6 +67,7 @@ impl<'a> PlacedLine<'a> {
             printing: Printing {
                 out: TextWriter::new(alloc)?,
                 nodes: Vec::with_capacity(alloc, parts.len())?,
+                line: 1,
             },
         })
     }

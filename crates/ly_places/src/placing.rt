@@ -9,9 +9,10 @@ ghost use Rattle.ly_feed.specs.Verdict.{faulty};
 ghost use Rattle.ly_feed.specs.declared.outcome.Outcome.{Outcome as Answered};
 ghost use Rattle.ly_feed.specs.Flaw.{verdict_of};
 ghost use Rattle.ly_feed.specs.Vocabularies.{vocabulary_of};
-ghost use Rattle.ly_places.specs.PlacedAnswer.{placed_line, verdict_of as plain_of, IsPlacedVerdict, PlacedAnswer};
-ghost use Rattle.ly_places.specs.PlacedAnswer.{PlacedVerdict};
-ghost use Rattle.ly_places.specs.Private.Derived.{IsDerivationOf};
+ghost use Rattle.ly_places.specs.PlacedAnswer.{placed_line, verdict_of as plain_of, IsPlacedBy, IsPlacedVerdict};
+ghost use Rattle.ly_places.specs.PlacedAnswer.{PlacedAnswer, PlacedVerdict};
+ghost use Rattle.ly_places.specs.Parts.{parts_of};
+ghost use Rattle.ly_places.specs.Placed.{Placed};
 ghost use Rattle.ly_places.specs.Placing.{IsPlacedFor, IsPlacingBegun};
 ghost use Rattle.ly_print.specs.Device.{next_count};
 ghost use Rattle.ly_print.specs.TextWriter.{IsCutShort};
@@ -20,9 +21,9 @@ ghost use Rattle.ly_tables.specs.TableSet.{TableSet as Tables};
 ghost use Rattle.ly_tables.specs.declared.fault.TableFault as file;
 ghost use Rattle.ly_tables.specs.declared.fault.TableFault.TheVariants.{OutOfMemory as NoMemory};
 
-use crate::derivation::{Derivation, Derived, derive};
-use crate::flattening::parts_of;
 use crate::flaw_lines::{refused_line, unmatched_line};
+use crate::parsing::{Parsed, parse};
+use crate::part::Part;
 use crate::placed_line::PlacedLine;
 use ly_base::OutOfMemory;
 use ly_drive::DriveFault;
@@ -118,9 +119,9 @@ pub fn place_text<W: Sink>(
     ensures writer_held { OnOk result (W.failures writer.new ≡ W.failures writer.old) }
     ensures untouched { IfErr result (λ e. IsBeforeWriting e → writer.new ≡ writer.old) }
 {
-    match derive(alloc, set, text)? {
-        Derived::Accepted(derivation) => write_tree(alloc, set, text, derivation, writer),
-        Derived::Refused(flaw) => {
+    match parse(alloc, set, text)? {
+        Parsed::Tree(parts) => write_tree(alloc, set, text, &parts, writer),
+        Parsed::Refused(flaw) => {
             let line = flaw_line(alloc, set, text, &flaw)?;
             write_whole(writer, &line)?;
             Ok(flaw.into_outcome())
@@ -128,15 +129,15 @@ pub fn place_text<W: Sink>(
     }
 }
 
-/// Writes the line of the tree that a text has by a derivation of it.
+/// Writes the line of the tree that a text has, by its parts.
 fn write_tree<W: Sink>(
     alloc: Global,
     set: &TableSet,
     text: &[u8],
-    derivation: Derivation,
+    parts: &[Part],
     writer: &mut W,
 ) -> Result<Outcome, TextFault>
-    requires { IsDerivationOf set.now text.now derivation }
+    requires { (t : Placed) × IsPlacedBy set.now text.now t × (parts.now ≡ parts_of t) }
     ensures answered { IfOk result (λ o. (answer : List ℕ) × PlacedAnswer set.now text.now o answer
         × Appends (W.contents writer.old) (W.contents writer.new) answer) }
     ensures beginning { (written : ℕ) → result ≡ Err (TextFault.Write written)
@@ -147,16 +148,7 @@ fn write_tree<W: Sink>(
     ensures writer_held { OnOk result (W.failures writer.new ≡ W.failures writer.old) }
     ensures untouched { IfErr result (λ e. IsBeforeWriting e → writer.new ≡ writer.old) }
 {
-    let Derivation {
-        forest,
-        root,
-        tokens,
-    } = derivation;
-    let machine = set.machine();
-    let parts = parts_of(alloc, &forest, root, &tokens, machine.rules())?;
-    drop(forest);
-    drop(tokens);
-    let line = PlacedLine::new(alloc, NameLabels::of(alloc, set)?, text, &parts)?;
+    let line = PlacedLine::new(alloc, NameLabels::of(alloc, set)?, text, parts)?;
     line.write(writer)?;
     Ok(Outcome::Tree)
 }

@@ -15,6 +15,8 @@ pub(crate) struct Printing {
     pub(crate) out: TextWriter,
     /// Of each node that is begun and isn't ended, the outermost first, how many parts stand behind it.
     pub(crate) nodes: Vec<usize>,
+    /// The line on which the part before the next one begins.
+    pub(crate) line: u64,
 }
 
 impl Printing {
@@ -43,7 +45,7 @@ impl Printing {
         ensures no_failure { OnOk result (S.failures writer.new ≡ S.failures writer.old) }
         ensures failed { OnErr result (S.failures writer.new ≡ next_count (S.failures writer.old)) }
     {
-        notation.push_opening(&mut self.out, writer, part)?;
+        notation.push_opening(&mut self.out, writer, part, &mut self.line)?;
         self.begin(part, left);
         if part.parts > 1 {
             return Ok(());

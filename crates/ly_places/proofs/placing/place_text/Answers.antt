@@ -20,5 +20,6 @@ returns-in_err-write_whole-in-Refused-clause-beginning g c written is =
       outcome.0,
       (told.0, told.1, subst (λ v. IsOutcome v outcome.0) (sym told.2) outcome.1, told.3),
       cut_short (g.W.Sink.contents c.args.writer.now) (g.W.Sink.contents c.write_whole.new.writer) count written
-          c.deref.result.now line same c.deref.ensures.value failed.ensures.within failed.ensures.partial,
+          c.deref-in-Refused.result.now line same c.deref-in-Refused.ensures.value failed.ensures.within
+          failed.ensures.partial,
     )

@@ -15,4 +15,4 @@ returns-clause-text g c =
     appended_twice c.args.out.now c.push_bytes.new.self c.push_json_location.new.self _ _ _ c.args.key.now
     (json_location c.args.self.now.lines c.args.offset) tt c.push_json_location.result c.in_ok-push_bytes.ensures.text
     (same_bytes c.push_bytes.new.self c.push_json_location.new.self _ _ _ _ c.push_json_location.result
-    (ap₂ (json_located c.args.offset) c.locate.ensures.line c.locate.ensures.column) c.push_json_location.ensures.text)
+    (ap₂ (json_located c.args.offset) c.requires.line c.requires.column) c.push_json_location.ensures.text)
