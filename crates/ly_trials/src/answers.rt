@@ -7,7 +7,7 @@ use std::alloc::Global;
 use std::test::Fail;
 
 /// The table file of a lex file and a yacc file.
-fn table_file(alloc: Global, lex: &[u8], yacc: &[u8]) -> Result<Vec<u8>, Fail> {
+pub(crate) fn table_file(alloc: Global, lex: &[u8], yacc: &[u8]) -> Result<Vec<u8>, Fail> {
     Ok(generate(alloc, lex, yacc, &Limits::V2, Version::V2)?)
 }
 

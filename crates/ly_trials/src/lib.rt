@@ -30,4 +30,6 @@ mod specifications;
 #[cfg(test)]
 mod tables;
 #[cfg(test)]
+mod trees;
+#[cfg(test)]
 mod walks;

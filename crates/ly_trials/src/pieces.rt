@@ -250,7 +250,7 @@ fn taken_of_all_room(
     set: &TableSet,
     blanks: &[u8],
 ) -> Result<(u32, [bool; 3]), Fail> {
-    let mut blocks = small_blocks(alloc)?;
+    let mut blocks = small_blocks(alloc, TRIES)?;
     let _all_else = hog(alloc);
     first_taken(alloc, set, blanks, &mut blocks)
 }
