@@ -40,7 +40,8 @@ typedef struct lytab_report {
                            0 where no rule matches a byte */
     uint64_t start;     /* status 1: where the token begins, or the byte that no rule matches */
     uint64_t end;       /* status 1: where the token ends; of the end of the text, and of a byte, `start` */
-    uint64_t needed;    /* status 0, 1 and 5: how many items the answer has, bytes or parts */
+    uint64_t needed;    /* status 0 and 5: how many items the answer has, bytes or parts; status 1: how many bytes it
+                           has, of lytab_parse 0 */
     uint64_t expected;  /* status 1: how many terminals are expected in the token's place */
 } lytab_report;
 
@@ -96,10 +97,10 @@ enum lytab_file { LYTAB_NO_FILE = 0, LYTAB_LEX = 1, LYTAB_YACC = 2 };
 
 /* What there is to tell of a build beside the status. What isn't named for a status is 0. */
 typedef struct lytab_built {
-    uint32_t fault;          /* status 2: the fault's number, 10 to 79 */
-    uint32_t file;           /* status 2: the lytab_file that is refused by itself, or LYTAB_NO_FILE where a fault is
-                                of both together */
-    uint64_t line;           /* status 2 of one file: where the fault stands in it */
+    uint32_t fault;          /* status 2: the fault's number, as `lytab build` prints it */
+    uint32_t file;           /* status 2: the lytab_file in which the fault stands, or LYTAB_NO_FILE where it stands at
+                                no place: it is of both files together, or of all patterns */
+    uint64_t line;           /* status 2 in a file: where the fault stands in it */
     uint64_t column;
     uint64_t needed;         /* status 0 and 5: how many bytes the table file has */
     uint64_t shift_reduce;   /* status 0 and 5: how many conflicts there are of each kind */

@@ -1,0 +1,10 @@
+pub mod Answered
+pub mod Block
+pub mod Building
+pub mod Faults
+pub mod Naming
+pub mod Parsing
+pub mod Private
+pub mod Reports
+pub mod Statuses
+pub mod Walks

@@ -1,0 +1,64 @@
+-- What a call that lists the names of a table file says, by its status.
+use Rattle.std.specs.Prelude.{◌≡◌, ◌≢◌, ◌<◌, ◌⊎◌, ℕ, ◌+◌, List, [], ◌∷◌, ◌++◌, Some, length, map}
+use Rattle.std.specs.List.{flat_map}
+use Rattle.ly_drive.specs.Answering.{IsDriven}
+use Rattle.ly_feed.specs.Vocabularies.{constructor_of}
+use Rattle.ly_tables.specs.FaultNames.{table_number}
+use Rattle.ly_tables.specs.Refusal.{IsRefusedAs}
+use Rattle.ly_tables.specs.TableSet.{TableSet}
+use Rattle.ly_tables.specs.declared.fault.TableFault.{TableFault}
+use Rattle.ly_tables.specs.declared.fault.TableFault.TheVariants.{OutOfMemory}
+use Rattle.lytab_c.specs.Block.{IsPut}
+use Rattle.lytab_c.specs.Faults.{section_of}
+use Rattle.lytab_c.specs.declared.counts.Counts.{Counts}
+use Rattle.lytab_c.specs.declared.status.Status.{Status}
+use Rattle.lytab_c.specs.declared.status.Status.TheVariants.{Done, Fault, Memory, Refused, Short}
+
+-- the names of a set: those of its terminals, and behind them the constructors of its rules
+abbrev pub names_of : TableSet → List (List ℕ)
+names_of s = s.terminals ++ map (λ r. constructor_of r.shape) s.rules
+
+-- names one behind another
+abbrev pub joined : List (List ℕ) → List ℕ
+joined names = flat_map (λ name. name) names
+
+-- where each of them ends, if the first begins at this byte
+abbrev pub ends_from : ℕ → List (List ℕ) → List ℕ
+ends_from at [] = []
+ends_from at (name ∷ names) = (at + length name) ∷ ends_from (at + length name) names
+
+-- how many names a set has, and how many bytes they have
+abbrev pub counts_of : TableSet → Counts
+counts_of s = record {
+  fault = 0;
+  section = 0;
+  terminals = length s.terminals;
+  rules = length s.rules;
+  bytes = length (joined (names_of s));
+}
+
+-- there is nothing to tell
+abbrev pub nothing_counted : Counts
+nothing_counted = record { fault = 0; section = 0; terminals = 0; rules = 0; bytes = 0 }
+
+-- a fault that has a number is told
+abbrev pub TellsRefusal : TableFault → Counts → Type 0
+TellsRefusal fault counts = (number : ℕ) × (table_number fault ≡ Some number)
+    × (counts ≡ record nothing_counted { fault = number; section = section_of fault })
+
+-- The two blocks.
+pub record NameBlocks : Type 0 where
+  pub ends : List ℕ
+  pub names : List ℕ
+
+-- The names of the set that the bytes of the table file spell are put into the blocks; the table file is refused;
+-- memory ran out; or a block is too short for them. What isn't said to be written is as it was.
+abbrev pub AreNamed : List ℕ → NameBlocks → NameBlocks → Counts → Status → Type 0
+AreNamed tables old new counts Done = (s : TableSet) × IsDriven tables s × (counts ≡ counts_of s)
+    × IsPut (ends_from 0 (names_of s)) old.ends new.ends × IsPut (joined (names_of s)) old.names new.names
+AreNamed tables old new counts Refused = ⊥
+AreNamed tables old new counts Fault = (fault : TableFault) × (fault ≢ OutOfMemory) × IsRefusedAs tables fault
+    × TellsRefusal fault counts × (new ≡ old)
+AreNamed tables old new counts Memory = (counts ≡ nothing_counted) × (new ≡ old)
+AreNamed tables old new counts Short = (s : TableSet) × IsDriven tables s × (counts ≡ counts_of s)
+    × ((length old.ends < length (names_of s)) ⊎ (length old.names < length (joined (names_of s)))) × (new ≡ old)

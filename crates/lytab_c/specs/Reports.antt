@@ -1,0 +1,59 @@
+-- What is told of a text beside the status.
+use Rattle.std.specs.Prelude.{◌≡◌, ℕ, ◌+◌, Some, length}
+use Rattle.ly_drive.specs.DriveFault.{drive_number}
+use Rattle.ly_drive.specs.declared.fault.DriveFault.{DriveFault}
+use Rattle.ly_feed.specs.declared.flaw.Flaw as flaw
+use Rattle.ly_feed.specs.declared.flaw.Flaw.TheVariants as flaws
+use Rattle.ly_feed.specs.declared.outcome.Outcome.{Outcome}
+use Rattle.ly_feed.specs.declared.outcome.Outcome.TheVariants.{NoRule, Syntax, Tree}
+use Rattle.lytab_c.specs.Faults.{drive_section}
+use Rattle.lytab_c.specs.declared.report.Report.{Report}
+
+-- an answer has so many items; of the text there is nothing else to tell
+abbrev pub needing : ℕ → Report
+needing needed = record {
+  fault = 0;
+  section = 0;
+  terminal = 0;
+  unused = 0;
+  number = 0;
+  start = 0;
+  end = 0;
+  needed = needed;
+  expected = 0;
+}
+
+-- there is nothing to tell
+abbrev pub nothing_told : Report
+nothing_told = needing 0
+
+-- a fault of this number, in this section
+abbrev pub at_fault : ℕ → ℕ → Report
+at_fault number section = record nothing_told { fault = number; section = section }
+
+-- a fault that has a number is told
+abbrev pub TellsFault : DriveFault → Report → Type 0
+TellsFault fault report = (number : ℕ) × (drive_number fault ≡ Some number)
+    × (report ≡ at_fault number (drive_section fault))
+
+-- what is told of an outcome whose answer has so many bytes
+abbrev pub outcome_report : Outcome → ℕ → Report
+outcome_report Tree needed = needing needed
+outcome_report (Syntax token byte count expected) needed = record (needing needed) {
+  number = token;
+  start = byte;
+  end = byte + count;
+  expected = length expected.items;
+}
+outcome_report (NoRule byte) needed = record (needing needed) { start = byte; end = byte }
+
+-- what is told of what is wrong with a text of which there are no parts
+abbrev pub flaw_report : flaw.Flaw → Report
+flaw_report (flaws.Refused number token expected) = record nothing_told {
+  terminal = token.terminal.0;
+  number = number;
+  start = token.at;
+  end = token.at + length token.text;
+  expected = length expected.items;
+}
+flaw_report (flaws.NoRule byte) = record nothing_told { start = byte; end = byte }

@@ -1,0 +1,107 @@
+ghost use Rattle.std.specs.Prelude.{◌≡◌};
+ghost use Rattle.lytab_c.specs.Building.{built_of, fault_at, fault_built, nothing_built};
+ghost use Rattle.lytab_c.specs.Private.Putting.{IsBuildFaultTold};
+
+use crate::status::Status;
+use ly_base::locate;
+use ly_generate::GenFault;
+use ly_lexread::LexFault;
+use ly_report::ConflictCounts;
+use ly_yaccread::YaccFault;
+
+/// What there is to tell of a build beside the status. What doesn't belong to a status is 0.
+#[repr(C)]
+#[derive(Clone, Copy)]
+pub struct Built {
+    /// The number of a fault.
+    pub fault: u32,
+    /// The file that is refused by itself, where the fault stands in it: 1 the lex file, 2 the yacc file; else 0.
+    pub file: u32,
+    /// The line where it stands there.
+    pub line: u64,
+    /// The column.
+    pub column: u64,
+    /// How many bytes the table file has.
+    pub needed: u64,
+    /// How many conflicts are between a shift and a reduction.
+    pub shift_reduce: u64,
+    /// How many are between two reductions.
+    pub reduce_reduce: u64,
+}
+
+impl Built {
+    /// What is told of a table file of so many bytes, and of its conflicts.
+    pub(crate) fn of_tables(needed: u64, conflicts: &ConflictCounts) -> Built
+        ensures { result ≡ built_of needed conflicts.now }
+    {
+        Built {
+            needed,
+            shift_reduce: conflicts.shift_reduce as u64,
+            reduce_reduce: conflicts.reduce_reduce as u64,
+            ..Built::nothing()
+        }
+    }
+
+    /// Tells a fault of a lex file and a yacc file.
+    pub(crate) fn tell_fault(&mut self, fault: &GenFault, lex: &[u8], yacc: &[u8]) -> Status
+        ensures { IsBuildFaultTold fault.now lex.now yacc.now self.new result }
+    {
+        match fault.number() {
+            Some(number) => {
+                *self = Built::of_fault(fault, u32::from(number), lex, yacc);
+                Status::Fault
+            }
+            None => {
+                *self = Built::nothing();
+                Status::Memory
+            }
+        }
+    }
+
+    /// What is told of a fault of this number.
+    fn of_fault(fault: &GenFault, number: u32, lex: &[u8], yacc: &[u8]) -> Built
+        ensures { result ≡ fault_built fault.now number lex.now yacc.now }
+    {
+        match fault {
+            GenFault::Lex(LexFault::Refused { offset, .. }) => {
+                Built::at_byte(number, 1, lex, *offset)
+            }
+            GenFault::Yacc(YaccFault::Refused { offset, .. }) => {
+                Built::at_byte(number, 2, yacc, *offset)
+            }
+            _ => Built {
+                fault: number,
+                ..Built::nothing()
+            },
+        }
+    }
+
+    /// What is told of a fault of this number at a byte of one file.
+    fn at_byte(number: u32, file: u32, bytes: &[u8], offset: usize) -> Built
+        ensures { result ≡ fault_at number file bytes.now offset }
+    {
+        let location = locate(bytes, offset);
+        Built {
+            fault: number,
+            file,
+            line: location.line,
+            column: location.column,
+            ..Built::nothing()
+        }
+    }
+
+    /// Nothing to tell.
+    fn nothing() -> Built
+        ensures { result ≡ nothing_built }
+    {
+        Built {
+            fault: 0,
+            file: 0,
+            line: 0,
+            column: 0,
+            needed: 0,
+            shift_reduce: 0,
+            reduce_reduce: 0,
+        }
+    }
+}

@@ -1,0 +1,73 @@
+ghost use Rattle.std.specs.Prelude.{◌≡◌};
+ghost use Rattle.lytab_c.specs.Naming.{counts_of, names_of, nothing_counted};
+ghost use Rattle.lytab_c.specs.Private.Listing.{IsListOf};
+ghost use Rattle.lytab_c.specs.Private.Putting.{IsRefusalTold};
+
+use crate::name_list::NameList;
+use crate::report::table_section;
+use crate::status::Status;
+use ly_tables::{TableFault, TableSet};
+
+/// How many names a table file has. What isn't known is 0.
+#[repr(C)]
+#[derive(Clone, Copy)]
+pub struct Counts {
+    /// The number of a fault.
+    pub fault: u32,
+    /// The section of the table file that is out of range.
+    pub section: u32,
+    /// How many names of terminals there are.
+    pub terminals: u64,
+    /// How many names of rules there are.
+    pub rules: u64,
+    /// How many bytes all of them have.
+    pub bytes: u64,
+}
+
+impl Counts {
+    /// What is told of the names of a set.
+    pub(crate) fn of(set: &TableSet, list: &NameList) -> Counts
+        requires { IsListOf (names_of set.now) list.now }
+        ensures { result ≡ counts_of set.now }
+    {
+        Counts {
+            terminals: set.terminals().len() as u64,
+            rules: set.rules().len() as u64,
+            bytes: list.bytes.len() as u64,
+            ..Counts::nothing()
+        }
+    }
+
+    /// Nothing to tell.
+    pub(crate) fn nothing() -> Counts
+        ensures { result ≡ nothing_counted }
+    {
+        Counts {
+            fault: 0,
+            section: 0,
+            terminals: 0,
+            rules: 0,
+            bytes: 0,
+        }
+    }
+
+    /// Tells a fault of a table file.
+    pub(crate) fn tell_fault(&mut self, fault: &TableFault) -> Status
+        ensures { IsRefusalTold fault.now self.new result }
+    {
+        match fault.number() {
+            Some(number) => {
+                *self = Counts {
+                    fault: u32::from(number),
+                    section: table_section(fault),
+                    ..Counts::nothing()
+                };
+                Status::Fault
+            }
+            None => {
+                *self = Counts::nothing();
+                Status::Memory
+            }
+        }
+    }
+}

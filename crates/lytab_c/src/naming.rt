@@ -1,0 +1,90 @@
+ghost use Rattle.std.specs.Prelude.{◌≡◌, length};
+ghost use Rattle.lytab_c.specs.Naming.{names_of, AreNamed};
+ghost use Rattle.lytab_c.specs.Private.Listing.{IsListOf};
+ghost use Rattle.lytab_c.specs.Private.Putting.{AreNamesPut, AreSetNamed};
+ghost use Rattle.lytab_c.specs.Statuses.{status_number};
+ghost use Rattle.lytab_c.specs.declared.status.Status.{Status as Code};
+
+use crate::block::put;
+use crate::counts::Counts;
+use crate::name_list::NameList;
+use crate::status::Status;
+use ly_tables::{TableSet, read_tables};
+use std::alloc::Global;
+
+/// The names of a table file: first those of the terminals, as they are printed, then the constructors of the rules,
+/// which are empty for rules that make no node. They stand one behind another, and it is said where each ends.
+#[unsafe(no_mangle)]
+pub extern "C" fn lytab_names(
+    alloc: Global,
+    tables: &[u8],
+    ends: &mut [u64],
+    names: &mut [u8],
+    counts: &mut Counts,
+) -> u32
+    ensures named { (status : Code) × (result ≡ status_number status)
+        × AreNamed tables.now (record { ends = ends.old; names = names.old })
+        (record { ends = ends.new; names = names.new }) counts.new status }
+    ensures ends { length ends.new ≡ length ends.old }
+    ensures names { length names.new ≡ length names.old }
+{
+    name_into(alloc, tables, ends, names, counts).number()
+}
+
+/// The names of a table file, into blocks where there is room.
+fn name_into(
+    alloc: Global,
+    tables: &[u8],
+    ends: &mut [u64],
+    names: &mut [u8],
+    counts: &mut Counts,
+) -> Status
+    ensures { AreNamed tables.now (record { ends = ends.old; names = names.old })
+        (record { ends = ends.new; names = names.new }) counts.new result }
+{
+    match read_tables(alloc, tables) {
+        Ok((set, _version)) => name_set(alloc, &set, ends, names, counts),
+        Err(fault) => counts.tell_fault(&fault),
+    }
+}
+
+/// The names of a set, into blocks where there is room.
+fn name_set(
+    alloc: Global,
+    set: &TableSet,
+    ends: &mut [u64],
+    names: &mut [u8],
+    counts: &mut Counts,
+) -> Status
+    ensures { AreSetNamed set.now (record { ends = ends.old; names = names.old })
+        (record { ends = ends.new; names = names.new }) counts.new result }
+{
+    match NameList::of(alloc, set) {
+        Ok(list) => put_names(set, &list, ends, names, counts),
+        Err(_) => {
+            *counts = Counts::nothing();
+            Status::Memory
+        }
+    }
+}
+
+/// Puts the names of a set into blocks where there is room, and tells of them.
+fn put_names(
+    set: &TableSet,
+    list: &NameList,
+    ends: &mut [u64],
+    names: &mut [u8],
+    counts: &mut Counts,
+) -> Status
+    requires { IsListOf (names_of set.now) list.now }
+    ensures { AreNamesPut set.now (record { ends = ends.old; names = names.old })
+        (record { ends = ends.new; names = names.new }) counts.new result }
+{
+    *counts = Counts::of(set, list);
+    if ends.len() < list.ends.len() || names.len() < list.bytes.len() {
+        return Status::Short;
+    }
+    put(&list.ends, ends);
+    put(&list.bytes, names);
+    Status::Done
+}

@@ -1,0 +1,116 @@
+ghost use Rattle.std.specs.Prelude.{◌≡◌, ◌≤◌, IfErr, IfOk, length, map};
+ghost use Rattle.ly_places.specs.Parts.{parts_of};
+ghost use Rattle.ly_places.specs.Placed.{Placed};
+ghost use Rattle.lytab_c.specs.Block.{IsFilled, IsPut};
+ghost use Rattle.lytab_c.specs.Faults.{IsFaultOn};
+ghost use Rattle.lytab_c.specs.Parsing.{listed, IsParsed};
+ghost use Rattle.lytab_c.specs.Private.Putting.{ArePartsPut, EndWithin, FitsFlaw, IsFlawPut, IsParsedBy};
+ghost use Rattle.lytab_c.specs.Statuses.{status_number};
+ghost use Rattle.lytab_c.specs.declared.status.Status.{Status as Code};
+
+use crate::part::Part;
+use crate::report::Report;
+use crate::status::Status;
+use ly_base::Sym;
+use ly_drive::DriveFault;
+use ly_feed::Flaw;
+use ly_places::{Parsed, Part as TreePart, parse};
+use ly_tables::read_tables;
+use std::alloc::Global;
+
+/// Answers a text by a table file, with the parts of its tree. Where the text is refused the parts are left alone, and
+/// of the terminals that are expected, by rising number, as many are written as there is room for.
+#[unsafe(no_mangle)]
+pub extern "C" fn lytab_parse(
+    alloc: Global,
+    tables: &[u8],
+    text: &[u8],
+    parts: &mut [Part],
+    expected: &mut [u32],
+    report: &mut Report,
+) -> u32
+    ensures parsed { (status : Code) × (result ≡ status_number status)
+        × IsParsed tables.now text.now (record { parts = parts.old; expected = expected.old })
+        (record { parts = parts.new; expected = expected.new }) report.new status }
+    ensures parts { length parts.new ≡ length parts.old }
+    ensures expected { length expected.new ≡ length expected.old }
+{
+    parse_into(alloc, tables, text, parts, expected, report).number()
+}
+
+/// Answers a text by a table file with the parts of its tree, into blocks where there is room.
+fn parse_into(
+    alloc: Global,
+    tables: &[u8],
+    text: &[u8],
+    parts: &mut [Part],
+    expected: &mut [u32],
+    report: &mut Report,
+) -> Status
+    ensures { IsParsed tables.now text.now (record { parts = parts.old; expected = expected.old })
+        (record { parts = parts.new; expected = expected.new }) report.new result }
+{
+    match parse_by(alloc, tables, text) {
+        Ok(Parsed::Tree(list)) => put_parts(&list, parts, report),
+        Ok(Parsed::Refused(flaw)) => put_flaw(&flaw, expected, report),
+        Err(fault) => report.tell_fault(&fault),
+    }
+}
+
+/// The parts of the tree that a text has by a table file, or what is wrong with it.
+fn parse_by<'t>(alloc: Global, tables: &[u8], text: &'t [u8]) -> Result<Parsed<'t>, DriveFault>
+    ensures parsed { IfOk result (IsParsedBy tables.now text.now) }
+    ensures fault { IfErr result (IsFaultOn tables.now text.now) }
+{
+    let (set, _version) = read_tables(alloc, tables)?;
+    let parsed = parse(alloc, &set, text);
+    drop(set);
+    Ok(parsed?)
+}
+
+/// Puts the parts of a tree into a block where there is room, and tells of them.
+fn put_parts(list: &[TreePart], block: &mut [Part], report: &mut Report) -> Status
+    requires { (t : Placed) × (list.now ≡ parts_of t) }
+    ensures { ArePartsPut list.now block.old block.new report.new result }
+{
+    *report = Report::needing(list.len() as u64);
+    if block.len() < list.len() {
+        return Status::Short;
+    }
+    put_list(list, block);
+    Status::Done
+}
+
+/// Puts a list of parts into the front of a block that is long enough.
+fn put_list(list: &[TreePart], block: &mut [Part])
+    requires room { length list.now ≤ length block.old }
+    requires ends { EndWithin (length list.now) 0 list.now }
+    ensures { IsPut (listed 0 list.now) block.old block.new }
+{
+    for (index, part) in list.iter().enumerate() {
+        block[index] = Part::at(index, part);
+    }
+}
+
+/// Tells what is wrong with a text, and puts the terminals that are expected into a block, as far as there is room.
+fn put_flaw(flaw: &Flaw<'_>, block: &mut [u32], report: &mut Report) -> Status
+    requires { FitsFlaw flaw.now }
+    ensures { IsFlawPut flaw.now block.old block.new report.new result }
+{
+    *report = Report::of_flaw(flaw);
+    match flaw {
+        Flaw::Refused { expected, .. } => fill(expected, block),
+        Flaw::NoRule { .. } => {}
+    }
+    Status::Refused
+}
+
+/// Puts the numbers of terminals into the front of a block, as many as there is room for.
+fn fill(terminals: &[Sym], block: &mut [u32])
+    ensures { IsFilled (map (λ t. t.0) terminals.now) block.old block.new }
+{
+    let count = terminals.len().min(block.len());
+    for index in 0..count {
+        block[index] = terminals[index].0;
+    }
+}

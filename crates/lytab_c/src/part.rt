@@ -1,0 +1,58 @@
+ghost use Rattle.std.specs.Prelude.{◌≡◌, ◌<◌, ◌+◌, ◌^◌};
+ghost use Rattle.lytab_c.specs.Parsing.{kind_number, kind_symbol, part_at};
+
+use ly_places::{Part as TreePart, PartKind};
+
+/// A part of a tree. A tree is a list of its parts, each in front of those that it consists of.
+#[repr(C)]
+#[derive(Clone, Copy)]
+pub struct Part {
+    /// What it is: 0 nothing, 1 a token, 2 a node.
+    pub kind: u32,
+    /// The terminal of a token, the rule of a node, of nothing 0.
+    pub number: u32,
+    /// Where it begins in the text.
+    pub start: u64,
+    /// The byte behind its last one.
+    pub end: u64,
+    /// The index behind its own last part.
+    pub next: u64,
+}
+
+impl Part {
+    /// A part of a list at an index.
+    pub(crate) fn at(index: usize, part: &TreePart) -> Part
+        requires { index + part.now.parts < 2 ^ 64 }
+        ensures { result ≡ part_at index part.now }
+    {
+        Part {
+            kind: kind_number(part.kind),
+            number: kind_symbol(part.kind),
+            start: part.extent.start as u64,
+            end: part.extent.end as u64,
+            next: (index + part.parts) as u64,
+        }
+    }
+}
+
+/// Of which kind a part is.
+fn kind_number(kind: PartKind) -> u32
+    ensures { result ≡ kind_number kind }
+{
+    match kind {
+        PartKind::Nothing => 0,
+        PartKind::Token(_) => 1,
+        PartKind::Node(_) => 2,
+    }
+}
+
+/// The terminal of a token, the rule of a node.
+fn kind_symbol(kind: PartKind) -> u32
+    ensures { result ≡ kind_symbol kind }
+{
+    match kind {
+        PartKind::Nothing => 0,
+        PartKind::Token(terminal) => terminal.0,
+        PartKind::Node(rule) => rule.0,
+    }
+}

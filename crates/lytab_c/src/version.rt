@@ -1,0 +1,9 @@
+ghost use Rattle.std.specs.Prelude.{◌≡◌};
+
+/// The version of the calls and of their structs.
+#[unsafe(no_mangle)]
+pub extern "C" fn lytab_version() -> u32
+    ensures { result ≡ 1 }
+{
+    1
+}
