@@ -1,0 +1,310 @@
+"""Trees of texts by lytab's driver, over its library for C.
+
+    import lytab
+
+    tables = lytab.Tables.build(open("sums.l", "rb").read(), open("sums.y", "rb").read())
+    tree = tables.parse(b"8 - 2 * 3")
+    print(tree.name, [child.text for child in tree.walk() if isinstance(child, lytab.Token)])
+
+This file isn't proved. What it calls is, where liblytab.so was installed without `--quick`: the statuses, the faults
+and the lists of parts. What this file makes of them is only tested.
+
+The library is the file that LYTAB_LIBRARY names in the environment, or the one of the installation in which this file
+lies, or the one that the system's loader finds. All bytes count from 0, tokens, rules, lines and columns from 1; a
+column counts bytes. Calls may be made by many threads at a time.
+"""
+from __future__ import annotations
+
+import ctypes
+import functools
+import os
+import pathlib
+import struct
+from typing import Callable, Iterator, List, Optional, Tuple, Union
+
+VERSION = 1
+_DONE, _REFUSED, _FAULT, _MEMORY, _SHORT = 0, 1, 2, 3, 5
+_TOKEN, _NODE = 1, 2
+_FILES = (None, "lex", "yacc")
+_PART = struct.Struct("=IIQQQ")
+
+
+class _Report(ctypes.Structure):
+    _fields_ = [(name, ctypes.c_uint32) for name in ("fault", "section", "terminal", "unused")]
+    _fields_ += [(name, ctypes.c_uint64) for name in ("number", "start", "end", "needed", "expected")]
+
+
+class _Counts(ctypes.Structure):
+    _fields_ = [(name, ctypes.c_uint32) for name in ("fault", "section")]
+    _fields_ += [(name, ctypes.c_uint64) for name in ("terminals", "rules", "bytes")]
+
+
+class _Built(ctypes.Structure):
+    _fields_ = [(name, ctypes.c_uint32) for name in ("fault", "file")]
+    _fields_ += [(name, ctypes.c_uint64) for name in ("line", "column", "needed", "shift_reduce", "reduce_reduce")]
+
+
+class TableFault(ValueError):
+    """The bytes are no table file, or (90) one that is at fault on a text.
+
+    `number` is the fault's, 80 to 85 and 90, and `section` of fault 84 the section that is out of range, else 0.
+    """
+
+    def __init__(self, number: int, section: int) -> None:
+        super().__init__(number, section)
+        self.number, self.section = number, section
+
+    def __str__(self) -> str:
+        return f"tables: fault {self.number}" + (f", section {self.section}" if self.section else "")
+
+
+class BuildFault(ValueError):
+    """A lex file, a yacc file, or both together are refused.
+
+    `number` is the fault's. `file` is "lex" or "yacc", and `line` and `column` say where the fault stands in it; where
+    the fault is of both files together, or of all patterns together, they are None and 0.
+    """
+
+    def __init__(self, number: int, file: Optional[str], line: int, column: int) -> None:
+        super().__init__(number, file, line, column)
+        self.number, self.file, self.line, self.column = number, file, line, column
+
+    def __str__(self) -> str:
+        where = f"{self.file}:{self.line}:{self.column}: " if self.file else ""
+        return f"{where}fault {self.number}"
+
+
+class SyntaxFault(ValueError):
+    """A text has no tree.
+
+    A token is refused, or the end of the text, or no rule matches a byte; `number` is that of the token, and 0 where no
+    rule matches. `offset` is where it stands, on line `line` in column `column`. `name` is the token's, "$end" of the
+    end, and None where no rule matches; `text` are its bytes, or the byte that no rule matches. `expected` are the
+    names of what could have stood there.
+    """
+
+    def __init__(
+        self,
+        number: int,
+        offset: int,
+        line: int,
+        column: int,
+        name: Optional[str],
+        text: bytes,
+        expected: Tuple[str, ...],
+    ) -> None:
+        super().__init__(number, offset, line, column, name, text, expected)
+        self.number, self.offset, self.line, self.column = number, offset, line, column
+        self.name, self.text, self.expected = name, text, expected
+
+    def __str__(self) -> str:
+        if self.name is None:
+            what = f"no rule matches {self.text!r}"
+        else:
+            what = "the text can't end here" if not self.text else f"{self.name} {self.text!r} can't stand here"
+        expected = f"; expected: {' '.join(self.expected)}" if self.expected else ""
+        return f"{self.line}:{self.column}: {what}{expected}"
+
+
+class Token:
+    """A token of a tree: the name of its terminal, its bytes, and that they are `text[start:end]` of the text."""
+
+    __slots__ = ("name", "text", "start", "end")
+
+    def __init__(self, name: str, text: bytes, start: int, end: int) -> None:
+        self.name, self.text, self.start, self.end = name, text, start, end
+
+    def __repr__(self) -> str:
+        return f"Token({self.name!r}, {self.text!r}, {self.start}, {self.end})"
+
+
+class Node:
+    """A node of a tree: its constructor, its children, and that it is at `text[start:end]` of the text. A child that is
+    nothing is None."""
+
+    __slots__ = ("name", "children", "start", "end")
+
+    def __init__(self, name: str, children: List[Part], start: int, end: int) -> None:
+        self.name, self.children, self.start, self.end = name, children, start, end
+
+    def __repr__(self) -> str:
+        return f"Node({self.name!r}, [{len(self.children)} children], {self.start}, {self.end})"
+
+    def walk(self) -> Iterator[Part]:
+        """The node and all that it consists of, each in front of its own children."""
+        return walk(self)
+
+
+Part = Union[Node, Token, None]
+
+
+def walk(part: Part) -> Iterator[Part]:
+    """A part of a tree and all that it consists of, each in front of its own children, without recursion."""
+    waiting = [part]
+    while waiting:
+        next_ = waiting.pop()
+        yield next_
+        if isinstance(next_, Node):
+            waiting.extend(reversed(next_.children))
+
+
+@functools.lru_cache(maxsize=None)
+def _library() -> ctypes.CDLL:
+    """The library, with the types of its functions."""
+    here = pathlib.Path(__file__).resolve()
+    installed = here.parents[3] / "lib/liblytab.so" if len(here.parents) > 3 else here
+    path = os.environ.get("LYTAB_LIBRARY") or (str(installed) if installed.is_file() else "liblytab.so")
+    library = ctypes.CDLL(path)
+    size, u32, u64 = ctypes.c_size_t, ctypes.POINTER(ctypes.c_uint32), ctypes.POINTER(ctypes.c_uint64)
+    bytes_, block = [ctypes.c_char_p, size], [ctypes.c_void_p, size]
+    answer = [*bytes_, *bytes_, *block, ctypes.POINTER(_Report)]
+    for name, kinds in (
+        ("answer", answer),
+        ("json", answer),
+        ("parse", [*bytes_, *bytes_, *block, *block, ctypes.POINTER(_Report)]),
+        ("names", [*bytes_, *block, *block, ctypes.POINTER(_Counts)]),
+        ("build", [*bytes_, *bytes_, *block, ctypes.POINTER(_Built)]),
+        ("locate", [*bytes_, size, u64, u64]),
+        ("version", []),
+    ):
+        function = getattr(library, f"lytab_{name}")
+        function.argtypes, function.restype = kinds, None if name == "locate" else ctypes.c_uint32
+    if library.lytab_version() != VERSION:
+        raise ImportError(f"{path} has version {library.lytab_version()} of the calls, and this file needs {VERSION}")
+    return library
+
+
+def locate(text: bytes, byte: int) -> Tuple[int, int]:
+    """On which line of a text a byte is, and in which column of it; of a byte past the text, where the text ends."""
+    line, column = ctypes.c_uint64(), ctypes.c_uint64()
+    _library().lytab_locate(text, len(text), byte, ctypes.byref(line), ctypes.byref(column))
+    return line.value, column.value
+
+
+def _wanted(status: int, fault: int, section: int) -> None:
+    """Raises what a status tells that isn't one of an answer."""
+    if status == _FAULT:
+        raise TableFault(fault, section)
+    if status == _MEMORY:
+        raise MemoryError("lytab: out of memory")
+    if status not in (_DONE, _REFUSED):
+        raise RuntimeError(f"lytab: status {status}")
+
+
+def _build(lex: bytes, yacc: bytes) -> Tuple[bytes, Tuple[int, int]]:
+    """The table file of a lex file and a yacc file, and how many conflicts there are of each kind."""
+    room = 64 * 1024
+    while True:
+        block, built = ctypes.create_string_buffer(room), _Built()
+        words = [lex, len(lex), yacc, len(yacc), block, room, ctypes.byref(built)]
+        status = _library().lytab_build(*words)
+        if status != _SHORT:
+            break
+        room = built.needed
+    if status == _FAULT:
+        raise BuildFault(built.fault, _FILES[built.file], built.line, built.column)
+    _wanted(status, 0, 0)
+    return block.raw[: built.needed], (built.shift_reduce, built.reduce_reduce)
+
+
+def _names(tables: bytes) -> Tuple[Tuple[str, ...], Tuple[str, ...]]:
+    """The names of a table file: those of its terminals, and those of its rules."""
+    rooms = 256, 4096
+    while True:
+        ends, names, counts = (ctypes.c_uint64 * rooms[0])(), ctypes.create_string_buffer(rooms[1]), _Counts()
+        words = [tables, len(tables), ends, rooms[0], names, rooms[1], ctypes.byref(counts)]
+        status = _library().lytab_names(*words)
+        if status != _SHORT:
+            break
+        rooms = max(rooms[0], counts.terminals + counts.rules), max(rooms[1], counts.bytes)
+    _wanted(status, counts.fault, counts.section)
+    places = [0, *ends[: counts.terminals + counts.rules]]
+    bytes_ = names.raw
+    found = [bytes_[start:end].decode("latin-1") for start, end in zip(places, places[1:])]
+    return tuple(found[: counts.terminals]), tuple(found[counts.terminals :])
+
+
+class Tables:
+    """A table file, by which texts are answered.
+
+    `bytes` is the file, as `lytab build` writes it. `terminals` are the names of terminals 0, 1, ..; `rules` are the
+    constructors of rules 1, 2, .., empty for rules that make no node. `conflicts`, of tables that were built here, says
+    how many there are between a shift and a reduction, and between two reductions.
+    """
+
+    def __init__(self, tables: bytes) -> None:
+        """Takes the bytes of a table file. Raises TableFault where they are none."""
+        self.bytes = bytes(tables)
+        self.terminals, self.rules = _names(self.bytes)
+        self.conflicts: Optional[Tuple[int, int]] = None
+
+    @classmethod
+    def build(cls, lex: bytes, yacc: bytes) -> Tables:
+        """Makes the tables of a lex file and a yacc file. Raises BuildFault where these are refused."""
+        tables, conflicts = _build(bytes(lex), bytes(yacc))
+        made = cls(tables)
+        made.conflicts = conflicts
+        return made
+
+    def answer(self, text: bytes) -> bytes:
+        """What `lytab run` writes for a text: a line for its tree, or why there is none."""
+        return self._said(_library().lytab_answer, bytes(text))
+
+    def json(self, text: bytes) -> bytes:
+        """What `lytab run --json` writes for a text: a line of JSON."""
+        return self._said(_library().lytab_json, bytes(text))
+
+    def _said(self, call: Callable[..., int], text: bytes) -> bytes:
+        room = 4 * len(text) + 1024
+        while True:
+            block, report = ctypes.create_string_buffer(room), _Report()
+            status = call(self.bytes, len(self.bytes), text, len(text), block, room, ctypes.byref(report))
+            if status != _SHORT:
+                break
+            room = report.needed
+        _wanted(status, report.fault, report.section)
+        return block.raw[: report.needed]
+
+    def parse(self, text: bytes) -> Part:
+        """The tree of a text: a node, a token, or None for nothing. Raises SyntaxFault where it has none."""
+        text = bytes(text)
+        expected = (ctypes.c_uint32 * len(self.terminals))()
+        room = len(text) // 4 + 64
+        while True:
+            parts, report = ctypes.create_string_buffer(room * _PART.size), _Report()
+            blocks = [parts, room, expected, len(expected)]
+            words = [self.bytes, len(self.bytes), text, len(text), *blocks, ctypes.byref(report)]
+            status = _library().lytab_parse(*words)
+            if status != _SHORT:
+                break
+            room = report.needed
+        _wanted(status, report.fault, report.section)
+        if status == _REFUSED:
+            raise self._refused(text, report, expected[: report.expected])
+        return self._tree(text, memoryview(parts)[: report.needed * _PART.size])
+
+    def _refused(self, text: bytes, report: _Report, expected: List[int]) -> SyntaxFault:
+        """What is said of a text that is refused."""
+        names = tuple(self.terminals[terminal] for terminal in expected)
+        name = self.terminals[report.terminal] if report.number else None
+        bytes_ = text[report.start : report.end if report.number else report.start + 1]
+        return SyntaxFault(report.number, report.start, *locate(text, report.start), name, bytes_, names)
+
+    def _tree(self, text: bytes, parts: memoryview) -> Part:
+        """The tree of a list of parts, each of which stands in front of those that it consists of."""
+        whole: List[Part] = []
+        children, behind = whole, len(parts)
+        around: List[Tuple[List[Part], int]] = []
+        for index, (kind, number, start, end, next_) in enumerate(_PART.iter_unpack(parts)):
+            while index == behind:
+                children, behind = around.pop()
+            if kind == _NODE:
+                node = Node(self.rules[number - 1], [], start, end)
+                children.append(node)
+                around.append((children, behind))
+                children, behind = node.children, next_
+            elif kind == _TOKEN:
+                children.append(Token(self.terminals[number], text[start:end], start, end))
+            else:
+                children.append(None)
+        return whole[0]

@@ -1,0 +1,308 @@
+"""Tests of lytab.py: by hand, and beside examples/drivers/lydrive.py, a driver that was written apart from lytab, and
+tools/expected_tables, which works out table files apart.
+
+    python3 -m unittest discover python
+
+runs them over the library that lytab.py finds. The environment may say which by LYTAB_LIBRARY.
+"""
+import json
+import pathlib
+import random
+import re
+import subprocess
+import sys
+import tempfile
+import threading
+import unittest
+from bisect import bisect_right
+
+TOP = pathlib.Path(__file__).resolve().parent.parent
+sys.path[:0] = [str(TOP / "python"), str(TOP / "examples/drivers")]
+import lydrive
+import lytab
+
+
+def example(name):
+    return (TOP / "examples" / name).read_bytes()
+
+
+def tables_of(name):
+    return lytab.Tables.build(example(f"{name}.l"), example(f"{name}.y"))
+
+
+class Calculator(unittest.TestCase):
+    """Answers by the calculator's tables, worked out by hand."""
+
+    @classmethod
+    def setUpClass(cls):
+        cls.tables = tables_of("calc")
+
+    def parts(self, text):
+        kinds = {lytab.Node: lambda it: (it.name, len(it.children), it.start, it.end),
+                 lytab.Token: lambda it: (it.name, it.text, it.start, it.end), type(None): lambda it: it}
+        return [kinds[type(it)](it) for it in lytab.walk(self.tables.parse(text))]
+
+    def test_names(self):
+        wanted = "$end $undef NUMBER '+' '-' '*' '/' NEGATED '^' ';' '(' ')'".split()
+        self.assertEqual(list(self.tables.terminals), wanted)
+        wanted = ["", "Sheet", "Add", "Subtract", "Multiply", "Divide", "Power", "Negate", "", ""]
+        self.assertEqual(list(self.tables.rules), wanted)
+        self.assertEqual(self.tables.conflicts, (0, 0))
+
+    def test_a_tree_with_places(self):
+        wanted = [("Sheet", 2, 0, 11), ("Sheet", 2, 0, 2), None, ("NUMBER", b"5", 0, 1), ("Add", 2, 4, 9),
+                  ("NUMBER", b"1", 4, 5), ("NUMBER", b"2", 8, 9)]
+        self.assertEqual(self.parts(b"5; (1 + 2);"), wanted)
+
+    def test_children(self):
+        tree = self.tables.parse(b"(1 + 2) * 3;")
+        nothing, product = tree.children
+        sum_, three = product.children
+        self.assertIsNone(nothing)
+        self.assertEqual([it.text for it in sum_.children], [b"1", b"2"])
+        self.assertEqual((sum_.name, three.text), ("Add", b"3"))
+
+    def test_nothing(self):
+        self.assertIsNone(self.tables.parse(b""))
+
+    def test_a_refused_token(self):
+        with self.assertRaises(lytab.SyntaxFault) as raised:
+            self.tables.parse(b"1;\n1 + * 3;")
+        fault = raised.exception
+        self.assertEqual((fault.number, fault.offset, fault.line, fault.column), (5, 7, 2, 5))
+        self.assertEqual((fault.name, fault.text, fault.expected), ("'*'", b"*", ("NUMBER", "'-'", "'('")))
+        self.assertEqual(str(fault), "2:5: '*' b'*' can't stand here; expected: NUMBER '-' '('")
+
+    def test_a_refused_end(self):
+        with self.assertRaises(lytab.SyntaxFault) as raised:
+            self.tables.parse(b"1 +")
+        fault = raised.exception
+        self.assertEqual((fault.number, fault.offset, fault.line, fault.column), (3, 3, 1, 4))
+        self.assertEqual((fault.name, fault.text, fault.expected), ("$end", b"", ("NUMBER", "'-'", "'('")))
+
+    def test_an_unmatched_byte(self):
+        with self.assertRaises(lytab.SyntaxFault) as raised:
+            self.tables.parse(b"1\n @")
+        fault = raised.exception
+        self.assertEqual((fault.number, fault.offset, fault.line, fault.column), (0, 3, 2, 2))
+        self.assertEqual((fault.name, fault.text, fault.expected), (None, b"@", ()))
+
+    def test_answers(self):
+        self.assertEqual(self.tables.answer(b"1;"), b'Sheet((),NUMBER"1")\n')
+        wanted = b"syntax error at token 3, byte 4: '*'\"*\"\nexpected: NUMBER '-' '('\n"
+        self.assertEqual(self.tables.answer(b"1 + * 3;"), wanted)
+        self.assertEqual(json.loads(self.tables.json(b"1 @")), {"error": "unmatched", "byte": 2})
+
+    def test_an_answer_that_needs_more_room(self):
+        names = "NodeOfALongName" * 16
+        tables = lytab.Tables.build(b"%%\nx return 'x';\n", f"%%\ns : s 'x' {{ $$ = {names}($1); }} | ;".encode())
+        self.assertEqual(tables.answer(b"x" * 900), f"{names}(".encode() * 900 + b"()" + b")" * 900 + b"\n")
+        self.assertEqual([it and it.start for it in lytab.walk(tables.parse(b"x" * 900))], [0] * 900 + [None])
+
+    def test_names_that_need_more_room(self):
+        names = [f"TERMINAL_{number}_{'X' * 40}" for number in range(300)]
+        lex = "%%\n" + "".join(f"t{number}/x return {name};\n" for number, name in enumerate(names))
+        yacc = f"%token {' '.join(names)}\n%%\ns : {' | '.join(names)} ;\n"
+        tables = lytab.Tables.build(lex.encode(), yacc.encode())
+        self.assertEqual(tables.terminals, ("$end", "$undef", *names))
+        self.assertEqual(tables.rules, ("",) * 300)
+
+    def test_depth_is_no_limit(self):
+        depth = 300_000
+        tree = self.tables.parse(b"-" * depth + b"1;")
+        count = sum(1 for it in tree.walk() if isinstance(it, lytab.Node) and it.name == "Negate")
+        self.assertEqual(count, depth)
+
+    def test_located(self):
+        text = b"ab\n\ncde"
+        found = [lytab.locate(text, byte) for byte in (0, 2, 3, 4, 6, 7, 99)]
+        self.assertEqual(found, [(1, 1), (1, 3), (2, 1), (3, 1), (3, 3), (3, 4), (3, 4)])
+
+
+class Faults(unittest.TestCase):
+    """Files that are refused, with faults of the documents."""
+
+    def test_a_yacc_file(self):
+        with self.assertRaises(lytab.BuildFault) as raised:
+            lytab.Tables.build(b"%%\nx return A;\n", b"%token A\n\n%%\ns : A { $$ = N($2); } ;\n")
+        fault = raised.exception
+        self.assertEqual((fault.number, fault.file, fault.line, fault.column), (35, "yacc", 4, 17))
+
+    def test_a_lex_file(self):
+        with self.assertRaises(lytab.BuildFault) as raised:
+            lytab.Tables.build(b"%%\nx return A;\nyy return;\n", b"%token A\n%%\ns : A ;\n")
+        fault = raised.exception
+        self.assertEqual((fault.number, fault.file, fault.line, fault.column), (24, "lex", 3, 10))
+
+    def test_both_files(self):
+        with self.assertRaises(lytab.BuildFault) as raised:
+            lytab.Tables.build(b"%%\nx return A;\n", b"%token A\n%%\ns : q ;\n")
+        fault = raised.exception
+        self.assertEqual((fault.number, fault.file, fault.line, fault.column), (40, None, 0, 0))
+
+    def refused(self, tables):
+        with self.assertRaises(lytab.TableFault) as raised:
+            lytab.Tables(tables)
+        return raised.exception.number, raised.exception.section
+
+    def test_a_table_file(self):
+        tables = tables_of("calc").bytes
+        found = [self.refused(it) for it in (b"", b"x", b"LYTB\0\3", tables[:-1], tables + b"x")]
+        self.assertEqual(found, [(82, 0), (80, 0), (81, 0), (82, 0), (83, 0)])
+
+    def test_a_number_out_of_range(self):
+        tables = bytearray(lytab.Tables.build(b"%%\nx return 'x';\n", b"%%\ns : 'x' ;\n").bytes)
+        tables[33] = 1  # the first literal, which stands there by docs/table-file.md
+        self.assertEqual(self.refused(tables), (84, 3))
+
+
+class Places:
+    """Writes a tree as `lytab run --places` does, from docs/trees.md alone."""
+
+    def __init__(self, text):
+        self.text = text
+        self.lines = [0] + [at + 1 for at, byte in enumerate(text) if byte == 10]
+
+    def place(self, byte):
+        line = bisect_right(self.lines, byte)
+        return [byte, line, byte - self.lines[line - 1] + 1]
+
+    def content(self, bytes_):
+        try:
+            return {"text": bytes_.decode()}
+        except UnicodeDecodeError:
+            return {"bytes": list(bytes_)}
+
+    def head(self, kind, part):
+        return {kind: part.name, "start": self.place(part.start), "end": self.place(part.end)}
+
+    def tree(self, tree):
+        """The line of a tree, without recursion."""
+        written, waiting = [], [tree]
+        while waiting:
+            part = waiting.pop()
+            if part is None:
+                written.append("null")
+            elif isinstance(part, str):
+                written.append(part)
+            elif isinstance(part, lytab.Token):
+                written.append(compact({**self.head("token", part), **self.content(part.text)}))
+            else:
+                written.append(compact({**self.head("node", part), "children": []})[:-2])
+                waiting.append("]}")
+                between = [it for child in part.children for it in (",", child)][1:]
+                waiting.extend(reversed(between))
+        return "".join(written)
+
+    def fault(self, fault):
+        """The line of a text that is refused."""
+        place = self.place(fault.offset)
+        if fault.name is None:
+            return compact({"error": "unmatched", "byte": fault.offset, "start": place, "end": place})
+        said = {"error": "refused", "number": fault.number, "byte": fault.offset, "start": place}
+        said |= {"end": self.place(fault.offset + len(fault.text)), "token": fault.name}
+        said |= self.content(fault.text) if fault.text else {}
+        return compact({**said, "expected": list(fault.expected)})
+
+
+def compact(value):
+    return json.dumps(value, ensure_ascii=False, separators=(",", ":"))
+
+
+class Apart(unittest.TestCase):
+    """Answers beside those of a driver that was written apart."""
+
+    def compare(self, tables, driver, text):
+        self.assertEqual(tables.answer(text), lydrive.answer(driver, text)[0], text)
+        self.assertEqual(tables.json(text), lydrive.answer(driver, text, is_json=True)[0], text)
+        try:
+            said = Places(text).tree(tables.parse(text))
+        except lytab.SyntaxFault as fault:
+            said = Places(text).fault(fault)
+        self.assertEqual(said.encode() + b"\n", lydrive.answer(driver, text, has_places=True)[0], text)
+
+    def damaged(self, text, draws):
+        """A piece of a text in which some bytes are others, or left out, or stand twice."""
+        start = draws.randrange(len(text))
+        piece = bytearray(text[start : start + draws.randrange(1, 200)])
+        for _ in range(draws.randrange(4)):
+            at = draws.randrange(len(piece) + 1)
+            piece[at : at + draws.randrange(3)] = draws.choice([b"", b";", b"(", b"\n", b"\xff", piece[:at][-3:]])
+        return bytes(piece)
+
+    def over(self, name, text, count):
+        tables, draws = tables_of(name), random.Random(65)
+        driver = lydrive.Tables(tables.bytes)
+        for it in [b"", text, *(self.damaged(text, draws) for _ in range(count))]:
+            self.compare(tables, driver, it)
+
+    def test_calculator(self):
+        self.over("calc", example("calc.txt"), 300)
+
+    def test_json(self):
+        self.over("json", example("json.txt"), 300)
+
+    def test_c(self):
+        self.over("c", example("c-program.txt"), 60)
+
+
+class WholeTables(unittest.TestCase):
+    """Table files, byte for byte, beside those that are worked out from the definitions."""
+
+    def test_pairs(self):
+        with tempfile.TemporaryDirectory() as name:
+            room = pathlib.Path(name)
+            pairs = TOP / "cases/whole-tables/pairs"
+            subprocess.run([sys.executable, "-B", TOP / "tools/expected_tables", pairs], cwd=room, check=True)
+            runs = (room / "runs").read_text()
+            built = re.findall(r"^build (lex\d+) (yacc\d+) (tables\d+\.2) --report (report\d+\.2)$", runs, re.M)
+            self.assertGreater(len(built), 80)
+            for names in built:
+                self.compare(*(room / name for name in names))
+
+    def compare(self, lex, yacc, tables, report):
+        tables, report = (path.with_name(f"{path.name}.wanted") for path in (tables, report))
+        if not tables.exists():
+            with self.assertRaises(lytab.BuildFault) as raised:
+                lytab.Tables.build(lex.read_bytes(), yacc.read_bytes())
+            self.assertIn(raised.exception.number, (60, 70))
+            return
+        made = lytab.Tables.build(lex.read_bytes(), yacc.read_bytes())
+        self.assertEqual(made.bytes, tables.read_bytes(), yacc.read_bytes())
+        found = re.search(r"^conflicts: (\d+) shift/reduce, (\d+) reduce/reduce$", report.read_text(), re.M)
+        self.assertEqual(made.conflicts, tuple(map(int, found.groups())))
+
+
+class Hostile(unittest.TestCase):
+    """Damaged table files, and many threads."""
+
+    def test_damaged_tables(self):
+        tables, draws = tables_of("calc").bytes, random.Random(66)
+        for _ in range(10_000):
+            damaged = bytearray(tables)
+            for _ in range(draws.randrange(1, 4)):
+                damaged[draws.randrange(len(damaged))] = draws.randrange(256)
+            try:
+                lytab.Tables(damaged).parse(b"(1 + 2) * 3; -4 ^ 5;")
+            except (lytab.TableFault, lytab.SyntaxFault):
+                pass
+
+    def test_threads(self):
+        tables, wrong = tables_of("calc"), []
+
+        def ask():
+            for _ in range(50):
+                text = b"(1 + 2) * 3;"
+                if tables.parse(text).end != len(text) or tables.answer(b"") != b"()\n":
+                    wrong.append(text)
+
+        threads = [threading.Thread(target=ask) for _ in range(8)]
+        for thread in threads:
+            thread.start()
+        for thread in threads:
+            thread.join()
+        self.assertEqual(wrong, [])
+
+
+if __name__ == "__main__":
+    unittest.main()
