@@ -24,9 +24,10 @@ loop-byte-init c = record {
 }
 
 pub lead-requires-clause-from : goal.lead-requires-clause-from
-lead-requires-clause-from c = subst (λ ps. All (λ p. p < length c.args.self.nfa.now.positions) ps)
-    (sym c.loop-byte.invariant.from)
-    (set_within (length c.args.self.nfa.now.positions) c.args.found.now.keys c.args.state c.requires.found.kept.are_sets)
+lead-requires-clause-from c =
+    let count = length c.args.self.nfa.now.positions in
+    subst (λ ps. All (λ p. p < count) ps) (sym c.loop-byte.invariant.from)
+    (set_within count c.args.found.now.keys c.args.state c.requires.found.kept.are_sets)
 
 pub lead-requires-clause-rising : goal.lead-requires-clause-rising
 lead-requires-clause-rising c = subst (λ ps. AllPairs (λ p q. p < q) ps)
