@@ -9,7 +9,7 @@ use Rattle.ly_report.specs.declared.counts.ConflictCounts.{ConflictCounts}
 use Rattle.lytab_c.specs.Answered.{IsAnswer, IsAnswered}
 use Rattle.lytab_c.specs.Building.{IsBuildOf, IsBuilt}
 use Rattle.lytab_c.specs.Private.Putting.{AreTablesPut, IsAnswerPut, IsBuildFaultTold}
-use Rattle.lytab_c.specs.declared.built.Built.{Built}
+use Rattle.lytab_c.specs.declared.build_report.BuildReport.{BuildReport}
 use Rattle.lytab_c.specs.declared.report.Report.{Report}
 use Rattle.lytab_c.specs.declared.status.Status.{Status}
 use Rattle.lytab_c.specs.declared.status.Status.TheVariants.{Done, Fault, Memory, Refused, Short}
@@ -26,7 +26,7 @@ answer_told form tables text old new report Memory o answer is put = absurd put
 answer_told form tables text old new report Short o answer is put = (o, answer, is, put.0, put.1, put.2)
 
 -- a table file
-pub build_told : (lex yacc old new : List ℕ) (built : Built) (status : Status) (bytes : List ℕ)
+pub build_told : (lex yacc old new : List ℕ) (built : BuildReport) (status : Status) (bytes : List ℕ)
     (conflicts : ConflictCounts) → IsBuildOf lex yacc bytes conflicts
     → AreTablesPut bytes conflicts old new built status → IsBuilt lex yacc old new built status
 build_told lex yacc old new built Done bytes conflicts is put = (bytes, conflicts, is, put.0, put.1)
@@ -36,7 +36,7 @@ build_told lex yacc old new built Memory bytes conflicts is put = absurd put
 build_told lex yacc old new built Short bytes conflicts is put = (bytes, conflicts, is, put.0, put.1, put.2)
 
 -- a refusal of two files
-pub refusal_told : (lex yacc old new : List ℕ) (built : Built) (status : Status) (fault : GenFault)
+pub refusal_told : (lex yacc old new : List ℕ) (built : BuildReport) (status : Status) (fault : GenFault)
     → IsRefusedFor version_2 lex yacc fault → IsBuildFaultTold fault lex yacc built status → new ≡ old
     → IsBuilt lex yacc old new built status
 refusal_told lex yacc old new built Done fault is told same = absurd told

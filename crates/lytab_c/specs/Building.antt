@@ -15,12 +15,12 @@ use Rattle.ly_tables.specs.TableSet.{TableSet}
 use Rattle.ly_tables.specs.TableText.{TableText}
 use Rattle.ly_yaccread.specs.declared.fault.YaccFault.TheVariants as yacc_fault
 use Rattle.lytab_c.specs.Block.{IsPut}
-use Rattle.lytab_c.specs.declared.built.Built.{Built}
+use Rattle.lytab_c.specs.declared.build_report.BuildReport.{BuildReport}
 use Rattle.lytab_c.specs.declared.status.Status.{Status}
 use Rattle.lytab_c.specs.declared.status.Status.TheVariants.{Done, Fault, Memory, Refused, Short}
 
 -- there is nothing to tell
-abbrev pub nothing_built : Built
+abbrev pub nothing_built : BuildReport
 nothing_built = record {
   fault = 0;
   file = 0;
@@ -32,7 +32,7 @@ nothing_built = record {
 }
 
 -- a table file of so many bytes, and so many conflicts
-abbrev pub built_of : ℕ → ConflictCounts → Built
+abbrev pub built_of : ℕ → ConflictCounts → BuildReport
 built_of needed conflicts = record nothing_built {
   needed = needed;
   shift_reduce = conflicts.shift_reduce;
@@ -40,7 +40,7 @@ built_of needed conflicts = record nothing_built {
 }
 
 -- a fault of this number, at this byte of one file
-abbrev pub fault_at : ℕ → ℕ → List ℕ → ℕ → Built
+abbrev pub fault_at : ℕ → ℕ → List ℕ → ℕ → BuildReport
 fault_at number file bytes offset = record nothing_built {
   fault = number;
   file = file;
@@ -49,7 +49,7 @@ fault_at number file bytes offset = record nothing_built {
 }
 
 -- what is told of a fault of this number of a lex file and a yacc file: of one of them with where it stands there
-abbrev pub fault_built : GenFault → ℕ → List ℕ → List ℕ → Built
+abbrev pub fault_built : GenFault → ℕ → List ℕ → List ℕ → BuildReport
 fault_built (Lex (lex_fault.Refused kind offset)) number lex yacc = fault_at number 1 lex offset
 fault_built (Yacc (yacc_fault.Refused kind offset)) number lex yacc = fault_at number 2 yacc offset
 fault_built fault number lex yacc = record nothing_built { fault = number }
@@ -61,7 +61,7 @@ IsBuildOf lex yacc bytes conflicts = (s : TableSet) × (g : IsGenerated V2 versi
 
 -- The table file is put into the block; the files are refused; memory ran out; or the block is too short for the table
 -- file. Where none is put into the block, it is as it was.
-abbrev pub IsBuilt : List ℕ → List ℕ → List ℕ → List ℕ → Built → Status → Type 0
+abbrev pub IsBuilt : List ℕ → List ℕ → List ℕ → List ℕ → BuildReport → Status → Type 0
 IsBuilt lex yacc old new built Done = (bytes : List ℕ) × (conflicts : ConflictCounts)
     × IsBuildOf lex yacc bytes conflicts × IsPut bytes old new × (built ≡ built_of (length bytes) conflicts)
 IsBuilt lex yacc old new built Refused = ⊥

@@ -10,7 +10,7 @@ use Rattle.ly_tables.specs.declared.fault.TableFault.{TableFault}
 use Rattle.ly_tables.specs.declared.fault.TableFault.TheVariants.{OutOfMemory}
 use Rattle.lytab_c.specs.Block.{IsPut}
 use Rattle.lytab_c.specs.Faults.{section_of}
-use Rattle.lytab_c.specs.declared.counts.Counts.{Counts}
+use Rattle.lytab_c.specs.declared.name_counts.NameCounts.{NameCounts}
 use Rattle.lytab_c.specs.declared.status.Status.{Status}
 use Rattle.lytab_c.specs.declared.status.Status.TheVariants.{Done, Fault, Memory, Refused, Short}
 
@@ -28,7 +28,7 @@ ends_from at [] = []
 ends_from at (name ∷ names) = (at + length name) ∷ ends_from (at + length name) names
 
 -- how many names a set has, and how many bytes they have
-abbrev pub counts_of : TableSet → Counts
+abbrev pub counts_of : TableSet → NameCounts
 counts_of s = record {
   fault = 0;
   section = 0;
@@ -38,11 +38,11 @@ counts_of s = record {
 }
 
 -- there is nothing to tell
-abbrev pub nothing_counted : Counts
+abbrev pub nothing_counted : NameCounts
 nothing_counted = record { fault = 0; section = 0; terminals = 0; rules = 0; bytes = 0 }
 
 -- a fault that has a number is told
-abbrev pub TellsRefusal : TableFault → Counts → Type 0
+abbrev pub TellsRefusal : TableFault → NameCounts → Type 0
 TellsRefusal fault counts = (number : ℕ) × (table_number fault ≡ Some number)
     × (counts ≡ record nothing_counted { fault = number; section = section_of fault })
 
@@ -53,12 +53,12 @@ pub record NameBlocks : Type 0 where
 
 -- The names of the set that the bytes of the table file spell are put into the blocks; the table file is refused;
 -- memory ran out; or a block is too short for them. What isn't said to be written is as it was.
-abbrev pub AreNamed : List ℕ → NameBlocks → NameBlocks → Counts → Status → Type 0
-AreNamed tables old new counts Done = (s : TableSet) × IsDriven tables s × (counts ≡ counts_of s)
+abbrev pub AreNamesTold : List ℕ → NameBlocks → NameBlocks → NameCounts → Status → Type 0
+AreNamesTold tables old new counts Done = (s : TableSet) × IsDriven tables s × (counts ≡ counts_of s)
     × IsPut (ends_from 0 (names_of s)) old.ends new.ends × IsPut (joined (names_of s)) old.names new.names
-AreNamed tables old new counts Refused = ⊥
-AreNamed tables old new counts Fault = (fault : TableFault) × (fault ≢ OutOfMemory) × IsRefusedAs tables fault
+AreNamesTold tables old new counts Refused = ⊥
+AreNamesTold tables old new counts Fault = (fault : TableFault) × (fault ≢ OutOfMemory) × IsRefusedAs tables fault
     × TellsRefusal fault counts × (new ≡ old)
-AreNamed tables old new counts Memory = (counts ≡ nothing_counted) × (new ≡ old)
-AreNamed tables old new counts Short = (s : TableSet) × IsDriven tables s × (counts ≡ counts_of s)
+AreNamesTold tables old new counts Memory = (counts ≡ nothing_counted) × (new ≡ old)
+AreNamesTold tables old new counts Short = (s : TableSet) × IsDriven tables s × (counts ≡ counts_of s)
     × ((length old.ends < length (names_of s)) ⊎ (length old.names < length (joined (names_of s)))) × (new ≡ old)

@@ -5,7 +5,7 @@ ghost use Rattle.lytab_c.specs.Statuses.{status_number};
 ghost use Rattle.lytab_c.specs.declared.status.Status.{Status as Code};
 
 use crate::block::put;
-use crate::built::Built;
+use crate::build_report::BuildReport;
 use crate::status::Status;
 use ly_base::{Limits, Version};
 use ly_engine::build;
@@ -20,7 +20,7 @@ pub extern "C" fn lytab_build(
     lex: &[u8],
     yacc: &[u8],
     tables: &mut [u8],
-    built: &mut Built,
+    built: &mut BuildReport,
 ) -> u32
     ensures built { (status : Code) × (result ≡ status_number status)
         × IsBuilt lex.now yacc.now tables.old tables.new built.new status }
@@ -30,7 +30,13 @@ pub extern "C" fn lytab_build(
 }
 
 /// The table file of a lex file and a yacc file, into a block where there is room.
-fn build_into(alloc: Global, lex: &[u8], yacc: &[u8], block: &mut [u8], built: &mut Built) -> Status
+fn build_into(
+    alloc: Global,
+    lex: &[u8],
+    yacc: &[u8],
+    block: &mut [u8],
+    built: &mut BuildReport,
+) -> Status
     ensures { IsBuilt lex.now yacc.now block.old block.new built.new result }
 {
     match build(alloc, lex, yacc, &Limits::V2, Version::V2, Report::Unwanted) {
@@ -44,11 +50,11 @@ fn put_tables(
     tables: &[u8],
     conflicts: &ConflictCounts,
     block: &mut [u8],
-    built: &mut Built,
+    built: &mut BuildReport,
 ) -> Status
     ensures { AreTablesPut tables.now conflicts.now block.old block.new built.new result }
 {
-    *built = Built::of_tables(tables.len() as u64, conflicts);
+    *built = BuildReport::of_tables(tables.len() as u64, conflicts);
     if block.len() < tables.len() {
         return Status::Short;
     }

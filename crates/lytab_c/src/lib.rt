@@ -2,7 +2,7 @@
 //! declarations are in `include/lytab.h`.
 //!
 //! `lytab_answer`, `lytab_json` and `lytab_parse` answer a text by the bytes of a table file (`IsAnswered`,
-//! `IsParsed`), `lytab_names` lists its names (`AreNamed`), `lytab_locate` tells lines and columns, and `lytab_build`
+//! `IsParsed`), `lytab_names` lists its names (`AreNamesTold`), `lytab_locate` tells lines and columns, and `lytab_build`
 //! makes a table file (`IsBuilt`). What each says goes by its status. A law says that a loop over the parts of a tree
 //! finds the tree (`walks_meet_children`).
 //!
@@ -11,11 +11,11 @@
 
 mod answering;
 mod block;
+mod build_report;
 mod building;
-mod built;
-mod counts;
 mod laws;
 mod locating;
+mod name_counts;
 mod name_list;
 mod naming;
 mod parsing;

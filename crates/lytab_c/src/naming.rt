@@ -1,12 +1,12 @@
 ghost use Rattle.std.specs.Prelude.{◌≡◌, length};
-ghost use Rattle.lytab_c.specs.Naming.{names_of, AreNamed};
+ghost use Rattle.lytab_c.specs.Naming.{names_of, AreNamesTold};
 ghost use Rattle.lytab_c.specs.Private.Listing.{IsListOf};
 ghost use Rattle.lytab_c.specs.Private.Putting.{AreNamesPut, AreSetNamed};
 ghost use Rattle.lytab_c.specs.Statuses.{status_number};
 ghost use Rattle.lytab_c.specs.declared.status.Status.{Status as Code};
 
 use crate::block::put;
-use crate::counts::Counts;
+use crate::name_counts::NameCounts;
 use crate::name_list::NameList;
 use crate::status::Status;
 use ly_tables::{TableSet, read_tables};
@@ -20,10 +20,10 @@ pub extern "C" fn lytab_names(
     tables: &[u8],
     ends: &mut [u64],
     names: &mut [u8],
-    counts: &mut Counts,
+    counts: &mut NameCounts,
 ) -> u32
     ensures named { (status : Code) × (result ≡ status_number status)
-        × AreNamed tables.now (record { ends = ends.old; names = names.old })
+        × AreNamesTold tables.now (record { ends = ends.old; names = names.old })
         (record { ends = ends.new; names = names.new }) counts.new status }
     ensures ends { length ends.new ≡ length ends.old }
     ensures names { length names.new ≡ length names.old }
@@ -37,9 +37,9 @@ fn name_into(
     tables: &[u8],
     ends: &mut [u64],
     names: &mut [u8],
-    counts: &mut Counts,
+    counts: &mut NameCounts,
 ) -> Status
-    ensures { AreNamed tables.now (record { ends = ends.old; names = names.old })
+    ensures { AreNamesTold tables.now (record { ends = ends.old; names = names.old })
         (record { ends = ends.new; names = names.new }) counts.new result }
 {
     match read_tables(alloc, tables) {
@@ -54,7 +54,7 @@ fn name_set(
     set: &TableSet,
     ends: &mut [u64],
     names: &mut [u8],
-    counts: &mut Counts,
+    counts: &mut NameCounts,
 ) -> Status
     ensures { AreSetNamed set.now (record { ends = ends.old; names = names.old })
         (record { ends = ends.new; names = names.new }) counts.new result }
@@ -62,7 +62,7 @@ fn name_set(
     match NameList::of(alloc, set) {
         Ok(list) => put_names(set, &list, ends, names, counts),
         Err(_) => {
-            *counts = Counts::nothing();
+            *counts = NameCounts::nothing();
             Status::Memory
         }
     }
@@ -74,13 +74,13 @@ fn put_names(
     list: &NameList,
     ends: &mut [u64],
     names: &mut [u8],
-    counts: &mut Counts,
+    counts: &mut NameCounts,
 ) -> Status
     requires { IsListOf (names_of set.now) list.now }
     ensures { AreNamesPut set.now (record { ends = ends.old; names = names.old })
         (record { ends = ends.new; names = names.new }) counts.new result }
 {
-    *counts = Counts::of(set, list);
+    *counts = NameCounts::of(set, list);
     if ends.len() < list.ends.len() || names.len() < list.bytes.len() {
         return Status::Short;
     }

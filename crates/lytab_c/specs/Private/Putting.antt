@@ -22,8 +22,8 @@ use Rattle.lytab_c.specs.Building.{built_of, fault_built, nothing_built}
 use Rattle.lytab_c.specs.Naming.{counts_of, ends_from, joined, names_of, nothing_counted, NameBlocks, TellsRefusal}
 use Rattle.lytab_c.specs.Parsing.{expected_in, listed, IsFlawOf, IsTreeOf}
 use Rattle.lytab_c.specs.Reports.{flaw_report, needing, nothing_told, outcome_report, TellsFault}
-use Rattle.lytab_c.specs.declared.built.Built.{Built}
-use Rattle.lytab_c.specs.declared.counts.Counts.{Counts}
+use Rattle.lytab_c.specs.declared.build_report.BuildReport.{BuildReport}
+use Rattle.lytab_c.specs.declared.name_counts.NameCounts.{NameCounts}
 use Rattle.lytab_c.specs.declared.part.Part.{Part}
 use Rattle.lytab_c.specs.declared.report.Report.{Report}
 use Rattle.lytab_c.specs.declared.status.Status.{Status}
@@ -56,13 +56,13 @@ IsAnswerPut outcome answer old new report Short = (length old < length answer) �
 IsAnswerPut outcome answer old new report _ = ⊥
 
 -- a fault of a table file that has a number is told, and one that has none is want of memory
-abbrev pub IsRefusalTold : TableFault → Counts → Status → Type 0
+abbrev pub IsRefusalTold : TableFault → NameCounts → Status → Type 0
 IsRefusalTold fault counts Fault = TellsRefusal fault counts
 IsRefusalTold fault counts Memory = (table_number fault ≡ None) × (counts ≡ nothing_counted)
 IsRefusalTold fault counts _ = ⊥
 
 -- the names of a set are put into blocks where there is room
-abbrev pub AreNamesPut : TableSet → NameBlocks → NameBlocks → Counts → Status → Type 0
+abbrev pub AreNamesPut : TableSet → NameBlocks → NameBlocks → NameCounts → Status → Type 0
 AreNamesPut s old new counts Done = (counts ≡ counts_of s) × IsPut (ends_from 0 (names_of s)) old.ends new.ends
     × IsPut (joined (names_of s)) old.names new.names
 AreNamesPut s old new counts Short = (counts ≡ counts_of s)
@@ -70,19 +70,19 @@ AreNamesPut s old new counts Short = (counts ≡ counts_of s)
 AreNamesPut s old new counts _ = ⊥
 
 -- so they are, or memory ran out
-abbrev pub AreSetNamed : TableSet → NameBlocks → NameBlocks → Counts → Status → Type 0
+abbrev pub AreSetNamed : TableSet → NameBlocks → NameBlocks → NameCounts → Status → Type 0
 AreSetNamed s old new counts Memory = (counts ≡ nothing_counted) × (new ≡ old)
 AreSetNamed s old new counts status = AreNamesPut s old new counts status
 
 -- a fault of two files that has a number is told, and one that has none is want of memory
-abbrev pub IsBuildFaultTold : GenFault → List ℕ → List ℕ → Built → Status → Type 0
+abbrev pub IsBuildFaultTold : GenFault → List ℕ → List ℕ → BuildReport → Status → Type 0
 IsBuildFaultTold fault lex yacc built Fault = (number : ℕ) × (gen_number fault ≡ Some number)
     × (built ≡ fault_built fault number lex yacc)
 IsBuildFaultTold fault lex yacc built Memory = (gen_number fault ≡ None) × (built ≡ nothing_built)
 IsBuildFaultTold fault lex yacc built _ = ⊥
 
 -- a table file is put into a block where there is room
-abbrev pub AreTablesPut : List ℕ → ConflictCounts → List ℕ → List ℕ → Built → Status → Type 0
+abbrev pub AreTablesPut : List ℕ → ConflictCounts → List ℕ → List ℕ → BuildReport → Status → Type 0
 AreTablesPut bytes conflicts old new built Done = IsPut bytes old new
     × (built ≡ built_of (length bytes) conflicts)
 AreTablesPut bytes conflicts old new built Short = (length old < length bytes)

@@ -11,7 +11,7 @@ use ly_tables::{TableFault, TableSet};
 /// How many names a table file has. What isn't known is 0.
 #[repr(C)]
 #[derive(Clone, Copy)]
-pub struct Counts {
+pub struct NameCounts {
     /// The number of a fault.
     pub fault: u32,
     /// The section of the table file that is out of range.
@@ -24,25 +24,25 @@ pub struct Counts {
     pub bytes: u64,
 }
 
-impl Counts {
+impl NameCounts {
     /// What is told of the names of a set.
-    pub(crate) fn of(set: &TableSet, list: &NameList) -> Counts
+    pub(crate) fn of(set: &TableSet, list: &NameList) -> NameCounts
         requires { IsListOf (names_of set.now) list.now }
         ensures { result ≡ counts_of set.now }
     {
-        Counts {
+        NameCounts {
             terminals: set.terminals().len() as u64,
             rules: set.rules().len() as u64,
             bytes: list.bytes.len() as u64,
-            ..Counts::nothing()
+            ..NameCounts::nothing()
         }
     }
 
     /// Nothing to tell.
-    pub(crate) fn nothing() -> Counts
+    pub(crate) fn nothing() -> NameCounts
         ensures { result ≡ nothing_counted }
     {
-        Counts {
+        NameCounts {
             fault: 0,
             section: 0,
             terminals: 0,
@@ -57,15 +57,15 @@ impl Counts {
     {
         match fault.number() {
             Some(number) => {
-                *self = Counts {
+                *self = NameCounts {
                     fault: u32::from(number),
                     section: table_section(fault),
-                    ..Counts::nothing()
+                    ..NameCounts::nothing()
                 };
                 Status::Fault
             }
             None => {
-                *self = Counts::nothing();
+                *self = NameCounts::nothing();
                 Status::Memory
             }
         }

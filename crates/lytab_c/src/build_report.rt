@@ -12,7 +12,7 @@ use ly_yaccread::YaccFault;
 /// What there is to tell of a build beside the status. What doesn't belong to a status is 0.
 #[repr(C)]
 #[derive(Clone, Copy)]
-pub struct Built {
+pub struct BuildReport {
     /// The number of a fault.
     pub fault: u32,
     /// The file that is refused by itself, where the fault stands in it: 1 the lex file, 2 the yacc file; else 0.
@@ -29,16 +29,16 @@ pub struct Built {
     pub reduce_reduce: u64,
 }
 
-impl Built {
+impl BuildReport {
     /// What is told of a table file of so many bytes, and of its conflicts.
-    pub(crate) fn of_tables(needed: u64, conflicts: &ConflictCounts) -> Built
+    pub(crate) fn of_tables(needed: u64, conflicts: &ConflictCounts) -> BuildReport
         ensures { result ≡ built_of needed conflicts.now }
     {
-        Built {
+        BuildReport {
             needed,
             shift_reduce: conflicts.shift_reduce as u64,
             reduce_reduce: conflicts.reduce_reduce as u64,
-            ..Built::nothing()
+            ..BuildReport::nothing()
         }
     }
 
@@ -48,53 +48,53 @@ impl Built {
     {
         match fault.number() {
             Some(number) => {
-                *self = Built::of_fault(fault, u32::from(number), lex, yacc);
+                *self = BuildReport::of_fault(fault, u32::from(number), lex, yacc);
                 Status::Fault
             }
             None => {
-                *self = Built::nothing();
+                *self = BuildReport::nothing();
                 Status::Memory
             }
         }
     }
 
     /// What is told of a fault of this number.
-    fn of_fault(fault: &GenFault, number: u32, lex: &[u8], yacc: &[u8]) -> Built
+    fn of_fault(fault: &GenFault, number: u32, lex: &[u8], yacc: &[u8]) -> BuildReport
         ensures { result ≡ fault_built fault.now number lex.now yacc.now }
     {
         match fault {
             GenFault::Lex(LexFault::Refused { offset, .. }) => {
-                Built::at_byte(number, 1, lex, *offset)
+                BuildReport::at_byte(number, 1, lex, *offset)
             }
             GenFault::Yacc(YaccFault::Refused { offset, .. }) => {
-                Built::at_byte(number, 2, yacc, *offset)
+                BuildReport::at_byte(number, 2, yacc, *offset)
             }
-            _ => Built {
+            _ => BuildReport {
                 fault: number,
-                ..Built::nothing()
+                ..BuildReport::nothing()
             },
         }
     }
 
     /// What is told of a fault of this number at a byte of one file.
-    fn at_byte(number: u32, file: u32, bytes: &[u8], offset: usize) -> Built
+    fn at_byte(number: u32, file: u32, bytes: &[u8], offset: usize) -> BuildReport
         ensures { result ≡ fault_at number file bytes.now offset }
     {
         let location = locate(bytes, offset);
-        Built {
+        BuildReport {
             fault: number,
             file,
             line: location.line,
             column: location.column,
-            ..Built::nothing()
+            ..BuildReport::nothing()
         }
     }
 
     /// Nothing to tell.
-    fn nothing() -> Built
+    fn nothing() -> BuildReport
         ensures { result ≡ nothing_built }
     {
-        Built {
+        BuildReport {
             fault: 0,
             file: 0,
             line: 0,
