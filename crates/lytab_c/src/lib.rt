@@ -2,9 +2,9 @@
 //! declarations are in `include/lytab.h`.
 //!
 //! `lytab_answer`, `lytab_json` and `lytab_parse` answer a text by the bytes of a table file (`IsAnswered`,
-//! `IsParsed`), `lytab_names` lists its names (`AreNamesTold`), `lytab_locate` tells lines and columns, and `lytab_build`
-//! makes a table file (`IsBuilt`). What each says goes by its status. A law says that a loop over the parts of a tree
-//! finds the tree (`walks_meet_children`).
+//! `IsParsed`), `lytab_names` lists its names (`AreNamesTold`), `lytab_locate` tells lines and columns, and
+//! `lytab_build` makes a table file (`IsBuilt`). What each says goes by its status. A law says that a loop over the
+//! parts of a tree finds the tree (`walks_meet_children`).
 //!
 //! Left out: how texts are answered and tables are made, which the crates below have.
 #![tactic(auto)]
