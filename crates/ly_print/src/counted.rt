@@ -24,6 +24,13 @@ impl<T> Counted<T> {
         Counted { inner, failures: 0 }
     }
 
+    /// The reader or the writer, whose failures are counted no more.
+    pub fn into_inner(self) -> T
+        ensures { result ≡ device_of self }
+    {
+        self.inner
+    }
+
     /// Counts a failure.
     fn fail(&mut self) -> DeviceFailed
         ensures counted { failures_of self.new ≡ next_count (failures_of self.old) }

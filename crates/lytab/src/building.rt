@@ -50,7 +50,7 @@ pub fn build_tables<'a, F: Files, W: Sink>(
         }
     };
     let line = conflicts_line(alloc, &built.conflicts)?;
-    write_files(files, paths, &built, notes)?;
+    write_files(files, alloc, paths, &built, notes)?;
     Completion::Done.said(output, &line)
 }
 
@@ -76,6 +76,7 @@ fn conflicts_line(alloc: Global, conflicts: &ConflictCounts) -> Result<Vec<u8>, 
 /// Writes the table file, and the report if it is asked for.
 fn write_files<'a, F: Files>(
     files: &F,
+    alloc: Global,
     paths: Paths<'a>,
     built: &Built,
     notes: &mut Notes,
@@ -84,7 +85,7 @@ fn write_files<'a, F: Files>(
     ensures report { OnOk result
         (IsWrittenIf ⟦<Counted<F::File> as Sink>⟧.contents paths.entry.report built.now.report) }
 {
-    write_file(files, paths.tables, &built.tables, notes)?;
-    write_if_named(files, paths.report, &built.report, notes)?;
+    write_file(files, alloc, paths.tables, &built.tables, notes)?;
+    write_if_named(files, alloc, paths.report, &built.report, notes)?;
     Ok(())
 }

@@ -46,13 +46,14 @@ pub fn explain_files<'a, F: Files, W: Sink>(
         bytes: &yacc,
     };
     let explanation = explain(alloc, lex, yacc, &Limits::V2, wish)?;
-    write_files(files, paths, &explanation, notes)?;
+    write_files(files, alloc, paths, &explanation, notes)?;
     Completion::of_files(explanation.accepted).said(output, &explanation.text)
 }
 
 /// Writes the states of the parser and a picture of them, if they are there and asked for.
 fn write_files<'a, F: Files>(
     files: &F,
+    alloc: Global,
     paths: ExplainPaths<'a>,
     explanation: &Explanation,
     notes: &mut Notes,
@@ -62,8 +63,8 @@ fn write_files<'a, F: Files>(
     ensures picture { OnOk result
         (IsWrittenIf ⟦<Counted<F::File> as Sink>⟧.contents paths.entry.graph explanation.now.picture) }
 {
-    write_if_named(files, paths.states, &explanation.states, notes)?;
-    write_if_named(files, paths.graph, &explanation.picture, notes)?;
+    write_if_named(files, alloc, paths.states, &explanation.states, notes)?;
+    write_if_named(files, alloc, paths.graph, &explanation.picture, notes)?;
     Ok(())
 }
 

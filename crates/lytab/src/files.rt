@@ -5,8 +5,9 @@ ghost use Rattle.ly_print.specs.Device.{next_count};
 ghost use Rattle.lytab.specs.Files.{HasTaken, IsWrittenIf};
 
 use crate::notes::Notes;
+use crate::replacement::Replacement;
 use ly_print::{Counted, ReadFault, Sink, read_whole, write_whole};
-use std::alloc::Global;
+use std::alloc::{AllocError, Global};
 use std::fs;
 use std::rt::Files;
 
@@ -22,6 +23,14 @@ pub enum FileFault<'a> {
     CannotWrite(&'a str),
     /// A growth was refused.
     OutOfMemory,
+}
+
+impl From<AllocError> for FileFault<'_> {
+    ghost from_gives = { λ _ f. f ≡ FileFault.OutOfMemory };
+
+    fn from(_error: AllocError) -> Self {
+        FileFault::OutOfMemory
+    }
 }
 
 /// Opens a file to read it.
@@ -62,7 +71,29 @@ pub fn read_file<'a, F: Files>(
 }
 
 /// Makes a file of these bytes, in place of an older one.
+///
+/// A new file beside it takes its name once it is whole: where something fails, the older file stands as it was, and there
+/// is none where there was none. What can't be replaced so is written to as it stands (`may_replace`), and so is a file
+/// beside which none may be made.
 pub fn write_file<'a, F: Files>(
+    files: &F,
+    alloc: Global,
+    path: &'a str,
+    bytes: &[u8],
+    notes: &mut Notes,
+) -> Result<(), FileFault<'a>>
+    ensures written { OnOk result (HasTaken ⟦<Counted<F::File> as Sink>⟧.contents bytes.now) }
+    ensures failed { IfErr result (λ fault. (fault ≡ FileFault.CannotWrite path.entry)
+        ⊎ (fault ≡ FileFault.OutOfMemory)) }
+{
+    match Replacement::begin(files, alloc, path)? {
+        Some(replacement) => replacement.complete(files, path, bytes, notes),
+        None => write_in_place(files, path, bytes, notes),
+    }
+}
+
+/// Writes bytes to a file under its own name, in place of what it held.
+fn write_in_place<'a, F: Files>(
     files: &F,
     path: &'a str,
     bytes: &[u8],
@@ -87,6 +118,7 @@ pub fn write_file<'a, F: Files>(
 /// Makes a file of bytes that there may be, where a path is named for it.
 pub fn write_if_named<'a, F: Files>(
     files: &F,
+    alloc: Global,
     path: Option<&'a str>,
     bytes: &Option<Vec<u8>>,
     notes: &mut Notes,
@@ -95,7 +127,7 @@ pub fn write_if_named<'a, F: Files>(
 {
     match path {
         Some(path) => match bytes {
-            Some(bytes) => write_file(files, path, bytes, notes),
+            Some(bytes) => write_file(files, alloc, path, bytes, notes),
             None => Ok(()),
         },
         None => Ok(()),

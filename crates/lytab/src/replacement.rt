@@ -1,0 +1,119 @@
+//! Files that take the place of older ones once they are whole.
+ghost use Rattle.std.specs.Prelude.{◌≡◌, IfErr, OnOk};
+ghost use Rattle.lytab.specs.Files.{HasTaken};
+
+use crate::files::{FileFault, write_to};
+use crate::notes::Notes;
+use ly_print::{Counted, Sink};
+use std::alloc::{AllocError, Global};
+use std::fs::{self, File, Metadata, OpenFile};
+use std::io;
+use std::io::{ErrorKind, Write};
+use std::os::unix::fs::MetadataExt;
+use std::path::PathBuf;
+use std::rt::Files;
+
+/// How many paths are tried for a new file.
+const TRIES: u32 = 100;
+
+/// A new file beside the one whose place it is to take.
+#[derive(Drop)]
+pub struct Replacement<T> {
+    /// The new file.
+    file: T,
+    /// Its path, as long as it has taken no other one's place.
+    path: String,
+    /// The path of the one whose place it is to take, which is no link.
+    place: PathBuf,
+}
+
+impl<T: Write + OpenFile + Drop> Replacement<T> {
+    /// A new file for the place of the one of this path, or none where nothing can take its place, or no file can be
+    /// made beside it. It fails where memory runs out.
+    pub fn begin<F: Files<File = T>>(
+        files: &F,
+        alloc: Global,
+        path: &str,
+    ) -> Result<Option<Self>, AllocError> {
+        let place = behind_links(files, alloc, path)?;
+        let older = match fs::symlink_metadata(files, &place) {
+            Ok(older) if may_be_replaced(files, &place, &older) => Some(older),
+            Err(reason) if reason.kind() == ErrorKind::NotFound => None,
+            _ => return Ok(None),
+        };
+        let Some((path, file)) = new_beside(files, alloc, &place)? else {
+            return Ok(None);
+        };
+        if take_after(&file, older).is_err() {
+            let _ = fs::remove_file(files, path);
+            return Ok(None);
+        }
+        Ok(Some(Replacement { file, path, place }))
+    }
+
+    /// Writes the bytes to the new file, which takes the place of the older one when they are on its device. Where
+    /// that fails the older one stands as it was, and the new one is removed.
+    pub fn complete<'a, F: Files<File = T>>(
+        self,
+        files: &F,
+        path: &'a str,
+        bytes: &[u8],
+        notes: &mut Notes,
+    ) -> Result<(), FileFault<'a>>
+        ensures written { OnOk result (HasTaken ⟦<Counted<T> as Sink>⟧.contents bytes.now) }
+        ensures failed { IfErr result (λ fault. fault ≡ FileFault.CannotWrite path.entry) }
+    {
+        let mut device = Counted::new(self.file);
+        let written = write_to(&mut device, path, bytes);
+        if written.is_ok() {
+            match device.into_inner().sync_all().and_then(|()| fs::rename(files, &self.path, &self.place)) {
+                Ok(()) => return Ok(()),
+                Err(reason) => notes.say_reason(path, &reason),
+            }
+        }
+        let _ = fs::remove_file(files, &self.path);
+        Err(FileFault::CannotWrite(path))
+    }
+}
+
+/// The path that links lead to from this one, or this one where there is no file.
+fn behind_links<F: Files>(files: &F, alloc: Global, path: &str) -> Result<PathBuf, AllocError> {
+    match files.canonicalize(alloc, path) {
+        Ok(place) => Ok(place),
+        Err(_) => PathBuf::from_str(alloc, path),
+    }
+}
+
+/// Whether a file may be replaced: a regular one without another name, into which one may write.
+fn may_be_replaced<F: Files>(files: &F, place: &PathBuf, older: &Metadata) -> bool {
+    older.is_file() && older.nlink() == 1 && File::options().write(true).open(files, place).is_ok()
+}
+
+/// Gives a new file the permissions of the older one, if there is one. It fails where they have other owners.
+fn take_after<T: OpenFile>(new: &T, older: Option<Metadata>) -> io::Result<()> {
+    let Some(older) = older else {
+        return Ok(());
+    };
+    let metadata = new.metadata()?;
+    if older.uid() != metadata.uid() || older.gid() != metadata.gid() {
+        return Err(io::Error::from(ErrorKind::Unsupported));
+    }
+    new.set_permissions(older.permissions())
+}
+
+/// A new file beside a path, with its own, or none where none can be made there.
+fn new_beside<F: Files>(
+    files: &F,
+    alloc: Global,
+    place: &PathBuf,
+) -> Result<Option<(String, F::File)>, AllocError> {
+    for number in 0..TRIES {
+        let path = format!(in alloc; "{}.{number}.new", place.display())?;
+        match File::create_new(files, path.as_str()) {
+            Ok(file) => return Ok(Some((path, file))),
+            Err(reason) if reason.kind() == ErrorKind::AlreadyExists => {}
+            Err(_) => return Ok(None),
+        }
+    }
+    Ok(None)
+}
