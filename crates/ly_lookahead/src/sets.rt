@@ -31,12 +31,12 @@ impl Model for Lookaheads {
 }
 
 impl Lookaheads {
-    /// Whether a terminal is a lookahead of the rule at a place among those that are complete in a state.
-    pub fn contains(&self, state: StateNo, place: usize, terminal: Sym) -> bool
-        requires { HasSet self.now state.0 place }
-        ensures { result ≡ set.contains (set_at self.now state.0 place) terminal.0 }
+    /// Whether a terminal is a lookahead of the rule of an index among those that are complete in a state.
+    pub fn contains(&self, state: StateNo, index: usize, terminal: Sym) -> bool
+        requires { HasSet self.now state.0 index }
+        ensures { result ≡ set.contains (set_at self.now state.0 index) terminal.0 }
     {
-        let row = self.first[state.0 as usize] + place;
+        let row = self.first[state.0 as usize] + index;
         (terminal.0 as usize) < self.sets.width() && self.sets.contains(row, terminal)
     }
 }

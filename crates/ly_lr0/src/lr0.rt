@@ -87,20 +87,20 @@ impl<'a> Lr0<'a> {
         target_at(transitions, place_of(transitions, symbol), symbol)
     }
 
-    /// Where a symbol leads from a state. Its transition is looked for at a place among those of the state, and by a
-    /// search if it isn't that; then the place is the one behind it. So symbols that rise are found without a search.
+    /// Where a symbol leads from a state. Its transition is looked for at an index of those of the state, and by a search
+    /// if it isn't there; then the index is the one behind it. So symbols that rise are found without a search.
     #[inline(always)] // it is asked for each state and symbol
-    pub fn goto_near(&self, state: StateNo, symbol: Symbol, place: &mut usize) -> Option<StateNo>
+    pub fn goto_near(&self, state: StateNo, symbol: Symbol, index: &mut usize) -> Option<StateNo>
         requires { state.0 < length self.now.states }
         ensures { option_map (λ s. s.0) result ≡ goto_of self.now state.0 (symbol_of symbol) }
     {
         let transitions: &[Transition] = &self.rows[state.0 as usize].transitions;
-        if !is_place_of(transitions, *place, symbol) {
-            *place = place_of(transitions, symbol);
+        if !is_place_of(transitions, *index, symbol) {
+            *index = place_of(transitions, symbol);
         }
-        let found = target_at(transitions, *place, symbol);
+        let found = target_at(transitions, *index, symbol);
         if found.is_some() {
-            *place += 1;
+            *index += 1;
         }
         found
     }

@@ -81,7 +81,7 @@ impl Dfa {
     {
         let place = 2 * condition as usize + usize::from(at_line_start);
         if place < self.starts {
-            self.entries[place].state()
+            self.entries[index].state()
         } else {
             None
         }
@@ -114,13 +114,13 @@ impl Dfa {
         self.rules[state as usize]
     }
 
-    /// The entry at a place: the starts, two for each condition, and then the rows of the states.
-    pub fn entry(&self, place: usize) -> Option<u32>
-        requires { place < length self.now.entries }
-        ensures state { result ≡ entry_at self.now.entries place }
+    /// The entry of an index: the starts, two for each condition, and then the rows of the states.
+    pub fn entry(&self, index: usize) -> Option<u32>
+        requires { index < length self.now.entries }
+        ensures state { result ≡ entry_at self.now.entries index }
         ensures within { IfSome result (λ s. s < length self.now.rules) }
     {
-        self.entries[place].state()
+        self.entries[index].state()
     }
 
     /// The automaton with the same classes and as many starts, but other states.

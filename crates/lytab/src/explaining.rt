@@ -1,5 +1,7 @@
 //! The command `explain`.
 ghost use Rattle.std.specs.Prelude.{IfErr, IfOk, OnOk};
+ghost use Rattle.ly_base.specs.Limits.{version_2};
+ghost use Rattle.ly_explain.specs.Explained.{IsExplained};
 ghost use Rattle.lytab.specs.CarriedOut.{IsExplanationTold};
 ghost use Rattle.lytab.specs.Devices.{IsOutputTold};
 ghost use Rattle.lytab.specs.Failure.{IsOfDevice};
@@ -9,7 +11,8 @@ use crate::completion::Completion;
 use crate::failure::Failure;
 use crate::files::{FileFault, read_file, write_if_named};
 use crate::notes::{Notes, reason};
-use ly_base::Limits;
+use crate::shown_path::ShownPath;
+use ly_base::{Limits, OutOfMemory};
 use ly_explain::{Explanation, Named, Wish, explain};
 use ly_print::{Counted, Sink};
 use ly_words::ExplainPaths;
@@ -37,17 +40,25 @@ pub fn explain_files<'a, F: Files, W: Sink>(
         states: paths.states.is_some(),
         picture: paths.graph.is_some(),
     };
-    let lex = Named {
-        name: paths.lex,
-        bytes: &lex,
-    };
-    let yacc = Named {
-        name: paths.yacc,
-        bytes: &yacc,
-    };
-    let explanation = explain(alloc, lex, yacc, &Limits::V2, wish)?;
+    let explanation = explained(alloc, paths, &lex, &yacc, wish)?;
     write_files(files, alloc, paths, &explanation, notes)?;
     Completion::of_files(explanation.accepted).said(output, &explanation.text)
+}
+
+/// What there is to say of these files, by their names as people see them.
+fn explained(
+    alloc: Global,
+    paths: ExplainPaths<'_>,
+    lex: &[u8],
+    yacc: &[u8],
+    wish: Wish,
+) -> Result<Explanation, OutOfMemory>
+    ensures { IfOk result (IsExplained version_2 lex.now yacc.now) }
+{
+    let lex_name = ShownPath(paths.lex).text(alloc)?;
+    let yacc_name = ShownPath(paths.yacc).text(alloc)?;
+    let (lex, yacc) = (Named::new(&lex_name, lex), Named::new(&yacc_name, yacc));
+    explain(alloc, lex, yacc, &Limits::V2, wish)
 }
 
 /// Writes the states of the parser and a picture of them, if they are there and asked for.

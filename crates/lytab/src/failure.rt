@@ -5,6 +5,7 @@ ghost use Rattle.lytab.specs.Failure.{failure_of_file, failure_status, IsOfAnswe
 ghost use Rattle.lytab.specs.declared.failure.Failure.TheVariants as failure;
 
 use crate::files::{FileFault, STANDARD};
+use crate::shown_path::ShownPath;
 use ly_base::OutOfMemory;
 use ly_drive::{DriveFault, TextFault};
 use ly_engine::GenFault;
@@ -148,9 +149,11 @@ fn status_of(failure: &Failure<'_>) -> u8
 fn push_line(out: &mut Vec<u8>, failure: &Failure<'_>) -> io::Result<()> {
     out.write_all(b"lytab: ")?;
     match failure {
-        Failure::CannotRead(path) => writeln!(out, "cannot read {path}"),
-        Failure::Unreadable(path, reason) => writeln!(out, "cannot read {path}: {reason}"),
-        Failure::CannotWrite(path) => writeln!(out, "cannot write {path}"),
+        Failure::CannotRead(path) => writeln!(out, "cannot read {}", ShownPath(path)),
+        Failure::Unreadable(path, reason) => {
+            writeln!(out, "cannot read {}: {reason}", ShownPath(path))
+        }
+        Failure::CannotWrite(path) => writeln!(out, "cannot write {}", ShownPath(path)),
         Failure::Refused(fault, line) => push_refusal(out, fault, *line),
         Failure::Tables(fault) => push_table_fault(out, fault),
         Failure::FaultyTables => writeln!(out, "tables: fault 90 TableFault"),

@@ -4,6 +4,7 @@
 //! `building`, `checking` and `explaining` the others. `completion` says how they are completed, `failure` why there is
 //! no answer.
 #![tactic(auto)]
+
 ghost use Rattle.std.specs.Prelude.{◌≡◌, ◌⊎◌};
 
 mod answering;
@@ -17,6 +18,7 @@ mod notes;
 mod perform;
 mod remembering;
 mod replacement;
+mod shown_path;
 
 use crate::remembering::Remembering;
 use ly_print::Counted;

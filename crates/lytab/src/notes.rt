@@ -2,6 +2,7 @@
 use crate::completion::Completion;
 use crate::failure::Failure;
 use crate::remembering::Recall;
+use crate::shown_path::ShownPath;
 use ly_base::{Limits, locate};
 use ly_engine::{Outcome, TextFault, TokenEnd};
 use ly_page::{Named, Page};
@@ -23,6 +24,8 @@ pub struct Notes {
     page: Page,
     /// Whether it is asked for.
     are_wanted: bool,
+    /// Where what is made for it stands.
+    alloc: Global,
 }
 
 impl Notes {
@@ -43,6 +46,7 @@ impl Notes {
         Notes {
             page: Page::new(alloc),
             are_wanted,
+            alloc,
         }
     }
 
@@ -58,12 +62,12 @@ impl Notes {
         }
     }
 
-    /// Where a text is refused that a reader of this name gave, as it is answered.
-    pub fn point_at_outcome<R: Recall>(&mut self, name: &str, reader: &R, outcome: &Outcome) {
-        let Some(bytes) = reader.recalled() else {
+    /// Where a text is refused that a reader of this path gave, as it is answered.
+    pub fn point_at_outcome<R: Recall>(&mut self, path: &str, reader: &R, outcome: &Outcome) {
+        let (Some(bytes), Ok(name)) = (reader.recalled(), ShownPath(path).text(self.alloc)) else {
             return;
         };
-        let text = Named { name, bytes };
+        let text = Named::new(&name, bytes);
         match outcome {
             Outcome::Tree => {}
             Outcome::Syntax { byte, length, .. } => self.point_at_token(text, *byte, *length),
@@ -71,10 +75,12 @@ impl Notes {
         }
     }
 
-    /// Where no rule matches a text that a reader of this name gave, as its tokens end.
-    pub fn point_at_end<R: Recall>(&mut self, name: &str, reader: &R, end: TokenEnd) {
+    /// Where no rule matches a text that a reader of this path gave, as its tokens end.
+    pub fn point_at_end<R: Recall>(&mut self, path: &str, reader: &R, end: TokenEnd) {
         if let (Some(bytes), TokenEnd::Stuck { byte }) = (reader.recalled(), end) {
-            self.point_at_byte(Named { name, bytes }, byte);
+            if let Ok(name) = ShownPath(path).text(self.alloc) {
+                self.point_at_byte(Named::new(&name, bytes), byte);
+            }
         }
     }
 
@@ -119,8 +125,18 @@ impl Notes {
         ended: &Result<Completion, Failure<'_>>,
     ) {
         if let (true, Err(Failure::Refused(fault, _))) = (self.are_wanted, ended) {
+            let names = (
+                ShownPath(lex.name).text(alloc),
+                ShownPath(yacc.name).text(alloc),
+            );
             // what there is no memory for isn't said
-            let _ = say_faults(alloc, &mut self.page, lex, yacc, limits, fault);
+            if let (Ok(lex_name), Ok(yacc_name)) = names {
+                let (lex, yacc) = (
+                    Named::new(&lex_name, lex.bytes),
+                    Named::new(&yacc_name, yacc.bytes),
+                );
+                let _ = say_faults(alloc, &mut self.page, lex, yacc, limits, fault);
+            }
         }
     }
 
@@ -132,7 +148,10 @@ impl Notes {
         ended: &Result<Completion, Failure<'_>>,
     ) {
         if let (true, Err(Failure::Refused(fault, _))) = (self.are_wanted, ended) {
-            let _ = say_lex_faults(alloc, &mut self.page, lex, &Limits::V2, fault);
+            if let Ok(name) = ShownPath(lex.name).text(alloc) {
+                let lex = Named::new(&name, lex.bytes);
+                let _ = say_lex_faults(alloc, &mut self.page, lex, &Limits::V2, fault);
+            }
         }
     }
 
@@ -199,7 +218,7 @@ impl Notes {
 
     /// The name of a file, as editors read it.
     fn say_file(&mut self, path: &str) {
-        self.page.say(path.as_bytes());
+        self.page.say_words(&ShownPath(path));
         self.page.say(b": ");
     }
 }

@@ -66,7 +66,11 @@ impl<T: Write + OpenFile + Drop> Replacement<T> {
         let mut device = Counted::new(self.file);
         let written = write_to(&mut device, path, bytes);
         if written.is_ok() {
-            match device.into_inner().sync_all().and_then(|()| fs::rename(files, &self.path, &self.place)) {
+            match device
+                .into_inner()
+                .sync_all()
+                .and_then(|()| fs::rename(files, &self.path, &self.place))
+            {
                 Ok(()) => return Ok(()),
                 Err(reason) => notes.say_reason(path, &reason),
             }

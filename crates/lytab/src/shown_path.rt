@@ -1,0 +1,38 @@
+//! Paths as people see them.
+use std::alloc::{AllocError, Global};
+use std::fmt::{self, Display, Formatter};
+
+/// A path whose control characters are escaped byte by byte, as those of texts are: a file's name can't move a
+/// terminal's cursor, or begin a line.
+#[derive(Clone, Copy)]
+pub struct ShownPath<'a>(pub &'a str);
+
+impl ShownPath<'_> {
+    /// The path as text. It fails where memory runs out.
+    pub fn text(&self, alloc: Global) -> Result<String, AllocError> {
+        Ok(format!(in alloc; "{self}")?)
+    }
+}
+
+impl Display for ShownPath<'_> {
+    fn fmt<W: fmt::Write>(&self, f: &mut Formatter<W>) -> fmt::Result {
+        for shown in self.0.chars() {
+            match shown {
+                '\n' => f.write_str("\\n")?,
+                '\t' => f.write_str("\\t")?,
+                _ if shown.is_control() => escape(f, shown)?,
+                _ => f.write_char(shown)?,
+            }
+        }
+        Ok(())
+    }
+}
+
+/// Writes the bytes of a character by their numbers.
+fn escape<W: fmt::Write>(f: &mut Formatter<W>, shown: char) -> fmt::Result {
+    let mut room = [0; 4];
+    for byte in shown.encode_utf8(&mut room).bytes() {
+        write!(f, "\\x{byte:02x}")?;
+    }
+    Ok(())
+}
