@@ -72,9 +72,8 @@ pub fn read_file<'a, F: Files>(
 
 /// Makes a file of these bytes, in place of an older one.
 ///
-/// A new file beside it takes its name once it is whole: where something fails, the older file stands as it was, and there
-/// is none where there was none. What can't be replaced so is written to as it stands (`may_replace`), and so is a file
-/// beside which none may be made.
+/// A new file beside it takes its name once it is whole: where something fails, the older file stands as it was, and
+/// there is none where there was none. What can't be replaced so (`Replacement::begin`) is written to as it stands.
 pub fn write_file<'a, F: Files>(
     files: &F,
     alloc: Global,
