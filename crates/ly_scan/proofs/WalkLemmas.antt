@@ -174,3 +174,9 @@ pub ends_within : (walk start : Walk) (text : List ℕ) (n : ℕ)
     → start (take n text) ≡ None → walk text ≡ None
 ends_within walk start text n stays begins ended = ap walk (sym (take-append-drop n text))
     ∙ stays (take n text) (drop n text) (sym (begins (take n text)) ∙ ended)
+
+-- A walk over a text stands behind some bytes, where it may stand, and goes on.
+pub record IsBehind (walk there : Walk) (may_stand : Type 0) (text : List ℕ) (passed : ℕ) : Type 0 where
+  pub stands : may_stand
+  pub alive : is_some (there []) ≡ true
+  pub ahead : (more : List ℕ) → there more ≡ walk (take passed text ++ more)

@@ -157,13 +157,32 @@ fn walk_on<S: Steps>(steps: &S, start: S::At, bytes: &[u8]) -> (usize, S::At)
     ensures ended { result.0 < length bytes.now → S.ahead steps.now start (take (result.0 + 1) bytes.now) ≡ None }
 {
     let mut at = start;
-    for (passed, byte) in bytes.iter().enumerate() {
-        let Some(next) = steps.step(at, *byte) else {
+    let mut passed = 0;
+    // one bound for four steps
+    while 4 <= bytes.len() - passed {
+        let Some(first) = steps.step(at, bytes[passed]) else {
+            return (passed, at);
+        };
+        let Some(second) = steps.step(first, bytes[passed + 1]) else {
+            return (passed + 1, first);
+        };
+        let Some(third) = steps.step(second, bytes[passed + 2]) else {
+            return (passed + 2, second);
+        };
+        let Some(fourth) = steps.step(third, bytes[passed + 3]) else {
+            return (passed + 3, third);
+        };
+        at = fourth;
+        passed += 4;
+    }
+    while passed < bytes.len() {
+        let Some(next) = steps.step(at, bytes[passed]) else {
             return (passed, at);
         };
         at = next;
+        passed += 1;
     }
-    (bytes.len(), at)
+    (passed, at)
 }
 
 /// The best of the places that a walk passes.
