@@ -3,7 +3,7 @@ ghost use Rattle.std.specs.Bool.{OnTrue};
 ghost use Rattle.std.specs.Fmt.{digit_glyph};
 ghost use Rattle.std.specs.List.{prefix_len};
 ghost use Rattle.ly_base.specs.Bytes.{double_quote};
-ghost use Rattle.ly_print.specs.Text.{escape_for, escaped, is_plain, no_rule_line, quoted};
+ghost use Rattle.ly_print.specs.Text.{escape_for, escaped, escaped_byte, is_plain, no_rule_line, quoted};
 ghost use lib.Lanes.{put_chunk};
 ghost use Rattle.ly_print.specs.Private.Room.{quoted_room};
 
@@ -43,8 +43,9 @@ pub(crate) fn put_quoted(room: &mut [u8], at: usize, label: &Front<'_>, text: &F
     put(room, end, b'"')
 }
 
-/// Writes a label and a text behind it from a place on, where both are short and all bytes of the text stand for
-/// themselves, and answers where they end. So each is one block. Otherwise what stands before the place is kept.
+/// Writes a label and a text behind it from a place on, where the label is short and there is room for the text, and
+/// answers where they end. A short text whose bytes all stand for themselves is one block. Otherwise what stands before
+/// the place is kept.
 #[inline(always)] // so that the loop that prints has the registers
 pub(crate) fn put_short(
     room: &mut [u8],
@@ -52,25 +53,31 @@ pub(crate) fn put_short(
     label: &Label,
     text: &Front<'_>,
 ) -> Option<usize>
-    requires { at + 33 ≤ length room.old }
+    requires { at + 34 ≤ length room.old }
     ensures bytes { IfSome result (λ end. take end room.new ≡ take at room.old ++ quoted label.now text.now) }
-    ensures within { IfSome result (λ end. end ≤ at + 33) }
+    ensures within { IfSome result (λ end. end + 1 ≤ length room.old) }
     ensures kept { result ≡ None → take at room.new ≡ take at room.old }
     ensures room { length room.new ≡ length room.old }
 {
-    if BLOCK < text.count {
-        return None;
-    }
     let Some(block) = label.block() else {
         return None;
     };
     put_block(room, at, block);
     let labelled = at + label.len();
-    if text.bytes.len() < BLOCK || plain_run(text.bytes) < text.count {
+    if text.bytes.len() < BLOCK {
+        return None;
+    }
+    let run = plain_run(text.bytes);
+    if text.count <= run {
+        put_block(room, labelled, text.bytes);
+        return Some(put(room, labelled + text.count, b'"'));
+    }
+    if SHORT < text.count || room.len() - labelled < 4 * SHORT + 2 * BLOCK + 1 {
         return None;
     }
     put_block(room, labelled, text.bytes);
-    Some(put(room, labelled + text.count, b'"'))
+    let end = put_runs(room, labelled + run, &text.bytes[run..], text.count - run);
+    Some(put(room, end, b'"'))
 }
 
 /// Writes a front from a place on as it is, and answers where it ends. A short one is one block.
@@ -105,6 +112,7 @@ fn put_text(room: &mut [u8], at: usize, text: &Front<'_>) -> usize
 
 /// Writes the first so many bytes from a place on as they stand between double quotes, run after run of those that
 /// stand for themselves, and answers where they end.
+#[inline(never)] // so that a text without an escape has the registers
 fn put_runs(room: &mut [u8], at: usize, bytes: &[u8], count: usize) -> usize
     requires within { count ≤ length bytes.now }
     requires room { at + 4 * count + 16 ≤ length room.old }
@@ -115,15 +123,31 @@ fn put_runs(room: &mut [u8], at: usize, bytes: &[u8], count: usize) -> usize
     let mut end = at;
     let mut done = 0;
     while done < count {
+        end = put_one(room, end, bytes[done]);
+        done += 1;
         let run = put_plain(room, end, &bytes[done..], count - done);
         end += run;
         done += run;
-        if done < count {
-            end = put_escaped(room, end, b'"', &[bytes[done]]);
-            done += 1;
-        }
     }
     end
+}
+
+/// Writes a byte from a place on as it stands between double quotes, and answers where it ends.
+#[inline(always)]
+fn put_one(room: &mut [u8], at: usize, byte: u8) -> usize
+    requires { at + 4 ≤ length room.old }
+    ensures byte { take result room.new ≡ take at room.old ++ escaped_byte double_quote byte }
+    ensures within { result ≤ at + 4 }
+    ensures room { length room.new ≡ length room.old }
+{
+    if byte == b'"' || byte == b'\\' {
+        let escaped = put(room, at, b'\\');
+        return put(room, escaped, byte);
+    }
+    if is_plain(b'"', byte) {
+        return put(room, at, byte);
+    }
+    put_escape(room, at, byte)
 }
 
 /// Copies those of the first bytes that stand for themselves between double quotes to a place, so many at most and no
@@ -179,24 +203,6 @@ fn plain_run(bytes: &[u8]) -> usize
         | block.simd_eq(u8x16::splat(b'\\'))
         | block.simd_eq(u8x16::splat(b'"'));
     BLOCK.min(special.to_bitmask().trailing_zeros() as usize)
-}
-
-/// Writes bytes from a place on as they stand between quotes, and answers where they end.
-pub(crate) fn put_escaped(room: &mut [u8], at: usize, quote: u8, bytes: &[u8]) -> usize
-    requires { at + 4 * length bytes.now ≤ length room.old }
-    ensures bytes { take result room.new ≡ take at room.old ++ escaped quote bytes.now }
-    ensures within { result ≤ at + 4 * length bytes.now }
-    ensures room { length room.new ≡ length room.old }
-{
-    let mut end = at;
-    for byte in bytes {
-        if is_plain(quote, *byte) {
-            end = put(room, end, *byte);
-        } else {
-            end = put_escape(room, end, *byte);
-        }
-    }
-    end
 }
 
 /// Writes a byte that doesn't stand for itself from a place on, and answers where it ends.
