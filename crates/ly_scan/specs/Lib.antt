@@ -1,4 +1,5 @@
 pub mod Cuts
+pub mod Facts
 pub mod KnownWalks
 pub mod Lexer
 pub mod Lexers

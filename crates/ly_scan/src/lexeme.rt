@@ -51,7 +51,7 @@ pub fn next_lexeme<S: Steps>(
 
 /// Whether a line begins at a place, as far as a walk minds it: one that doesn't needn't wait for the byte before it.
 #[inline(always)]
-fn line_at<S: Steps>(steps: &S, place: &Place<'_>) -> bool
+pub(crate) fn line_at<S: Steps>(steps: &S, place: &Place<'_>) -> bool
     ensures { (condition : ℕ) → S.walk steps.now condition result ≡ S.walk steps.now condition place.now.line }
 {
     steps.minds_lines() && place.at_line_start()

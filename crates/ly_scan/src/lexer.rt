@@ -1,18 +1,22 @@
-ghost use Rattle.std.specs.Prelude.{◌≡◌, ◌<◌, ◌≤◌, ◌+◌, ◌^◌, ℕ, drop, false, true, length, IfErr, IfOk, IfSome};
-ghost use Rattle.std.specs.Prelude.{MatchOption};
+ghost use Rattle.std.specs.Prelude.{◌≡◌, ◌<◌, ◌≤◌, ◌+◌, ◌^◌, ℕ, List, drop, false, true, length, IfErr, IfOk};
+ghost use Rattle.std.specs.Prelude.{IfSome, MatchOption};
 ghost use Rattle.ly_base.specs.Lexed as lexed;
+ghost use Rattle.ly_scan.specs.Facts.{fact_by, facts_by, IsTold};
 ghost use Rattle.ly_scan.specs.KnownWalks.{AreKnown};
 ghost use Rattle.ly_scan.specs.Lexers.{scanner_of, IsUnderwayAt};
 ghost use Rattle.ly_scan.specs.Pieces.{behind, EndsFast, IsUndecided, PassesOver, StandsFast};
 ghost use Rattle.ly_scan.specs.StateTable.{ahead_in, StandsIn};
 
 use crate::known_walks::KnownWalks;
-use crate::lexeme::next_lexeme;
+use crate::lexeme::{line_at, next_lexeme};
 use crate::lone_bytes::LoneBytes;
 use crate::matcher::Matcher;
+use crate::matching::walk_on;
 use crate::scanner::Scanner;
 use crate::state_rows::RowStart;
-use ly_base::{End, Lexeme, OutOfMemory, Place};
+use crate::steps::Steps;
+use crate::told::Told;
+use ly_base::{Cut, End, Lexeme, OutOfMemory, Place, RuleNo};
 use std::alloc::Global;
 use std::marker::Model;
 
@@ -84,6 +88,48 @@ impl Lexer {
         next_lexeme(&self.scanner, place, known, ended)
     }
 
+    /// The facts of states, by numbers for what is known of the lexemes of each rule: that of the state's rule, if no
+    /// part of its matches is cut off, and else 0. It fails where memory runs out.
+    pub fn facts(&self, alloc: Global, by_rule: &[u32]) -> Result<Vec<u32>, OutOfMemory>
+        ensures { IfOk result (λ f. f.items ≡ facts_by self.now.scanner by_rule.now) }
+    {
+        let rules = self.scanner.rules();
+        let mut facts = Vec::with_capacity(alloc, rules.len())?;
+        for rule in rules {
+            facts.push(fact_of(&self.scanner, by_rule, *rule))?;
+        }
+        Ok(facts)
+    }
+
+    /// Passes over lexemes of one byte, and tells what is taken behind them by the fact of the state where its walk
+    /// ends. It may tell nothing where something is taken: in another condition than the initial one, where no fact is
+    /// known, where the walk goes on to the end of the bytes, and where something is known of walks behind it.
+    #[inline(always)] // so that a loop over such lexemes has the registers
+    pub fn tell(&self, facts: &[u32], place: &mut Place<'_>, known: &KnownWalks) -> Option<Told>
+        requires full { length facts.now ≡ length self.now.scanner.rules }
+        ensures passed { PassesOver (scanner_of self.now.scanner) self.now.passed place.old place.new }
+        ensures left { length place.new.rest ≤ length place.old.rest }
+        ensures told { (by_rule : List ℕ) → facts.now ≡ facts_by self.now.scanner by_rule
+            → IfSome result (IsTold (scanner_of self.now.scanner) by_rule place.new) }
+    {
+        self.pass_over(place);
+        let rest = place.rest();
+        if place.condition() != 0 || known.reaches(rest.len()) {
+            return None;
+        }
+        let line = line_at(&self.scanner, place);
+        let start = self.scanner.start(0, line)?;
+        let (taken, at) = walk_on(&self.scanner, start, rest);
+        if taken == 0 || taken == rest.len() {
+            return None;
+        }
+        let fact = facts[at.state()];
+        if fact == 0 {
+            return None;
+        }
+        Some(Told { fact, taken })
+    }
+
     /// The match at a place where the bytes that are left don't decide it: all of them have come.
     pub fn matcher_at(&self, place: &Place<'_>) -> Matcher<RowStart>
         requires { IsUndecided (scanner_of self.now.scanner) place.now }
@@ -116,5 +162,21 @@ impl Lexer {
         while self.lone.at(place) {
             place.advance(1, None);
         }
+    }
+}
+
+/// The fact of a state by its rule.
+fn fact_of(scanner: &Scanner, by_rule: &[u32], rule: Option<RuleNo>) -> u32
+    ensures { result ≡ fact_by scanner.now by_rule.now rule }
+{
+    let Some(rule) = rule else {
+        return 0;
+    };
+    match scanner.cut(rule) {
+        Cut::Whole => match by_rule.get(rule.0 as usize) {
+            Some(fact) => *fact,
+            None => 0,
+        },
+        Cut::Head(_) | Cut::Tail(_) => 0,
     }
 }

@@ -146,7 +146,7 @@ pub(crate) fn match_of<S: Steps>(steps: &S, found: Longest) -> Match
 }
 
 /// Walks over bytes as far as it goes: how many they are, and where it stands behind them.
-fn walk_on<S: Steps>(steps: &S, start: S::At, bytes: &[u8]) -> (usize, S::At)
+pub(crate) fn walk_on<S: Steps>(steps: &S, start: S::At, bytes: &[u8]) -> (usize, S::At)
     requires stands { S.stands steps.now start }
     requires alive { is_some (S.ahead steps.now start []) ≡ true }
     ensures within { result.0 ≤ length bytes.now }

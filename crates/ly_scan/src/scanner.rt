@@ -50,6 +50,13 @@ impl Scanner {
         }
     }
 
+    /// The rule of each state, if it has one.
+    pub(crate) fn rules(&self) -> &[Option<RuleNo>]
+        ensures { result.now ≡ self.now.rules }
+    {
+        &self.parts.rules
+    }
+
     /// Where a walk begins, looked up.
     #[inline(never)] // so that where most walks begin has the registers
     fn start_at(&self, condition: u32, at_line_start: bool) -> Option<RowStart>
