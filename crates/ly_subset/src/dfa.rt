@@ -81,7 +81,7 @@ impl Dfa {
     {
         let place = 2 * condition as usize + usize::from(at_line_start);
         if place < self.starts {
-            self.entries[index].state()
+            self.entries[place].state()
         } else {
             None
         }
