@@ -6,7 +6,9 @@ use Rattle.std.proofs.lemmas.Bool.{and_parts}
 use Rattle.std.proofs.lemmas.Bool.Decides.{nat_tests}
 use Rattle.std.proofs.lemmas.List.{drop-drop, take-append-drop}
 use Rattle.std.proofs.lemmas.List.Elements.{All-push}
+use Rattle.std.proofs.lemmas.Map.Entries.{lookup-filter-keys}
 use Rattle.std.proofs.lemmas.Map.Views.{exact_unsigned_eq}
+use Rattle.std.specs.List.{filter}
 use Rattle.std.specs.Prelude.{[], ◌∷◌, All, Err, Ok, OnOk, Result, if◌then◌else◌, is_err, is_some, nat_lt}
 use Rattle.ly_base.specs.declared.numbers.RuleNo.{RuleNo}
 use Rattle.ly_scan.proofs.WalkLemmas.{best_stays}
@@ -160,6 +162,32 @@ pub known_again : (ahead : ℕ → Walk) (ended : Bool) (text : List ℕ) (old n
 known_again ahead ended text old new same known number left within =
     subst (λ o. IfSome o (IsFound (ahead number) ended (last left text))) (sym (same (number, left)))
     (known number left within)
+
+-- what is known is so where what is known of some places is given up, by how many bytes are left there
+pub known_less : (ahead : ℕ → Walk) (ended : Bool) (text : List ℕ) (keeps : ℕ × ℕ → Bool) (old new : Known)
+    → new ≡ filter (λ e. keeps e.0) old → AreKnown ahead ended text old → AreKnown ahead ended text new
+known_less ahead ended text keeps old new same known number left within =
+    subst (λ k. IfSome (known_at k (number, left)) (IsFound (ahead number) ended (last left text))) (sym same)
+    (subst (λ o. IfSome o (IsFound (ahead number) ended (last left text))) (sym found)
+    (by_test (keeps (number, left)) (known_at old (number, left)) (known number left within)))
+  where
+    at : ℕ × ℕ → Bool
+    at s = nat_eq number s.0 && nat_eq left s.1
+
+    alike : (s : ℕ × ℕ) → at s ≡ true → keeps s ≡ keeps (number, left)
+    alike s t =
+        let both = and_parts (nat_eq number s.0) (nat_eq left s.1) t in
+        ap (λ n. keeps (n, s.1)) (sym (exact_unsigned_eq number s.0 both.0))
+        ∙ ap (λ l. keeps (number, l)) (sym (exact_unsigned_eq left s.1 both.1))
+
+    found : known_at (filter (λ (e : (ℕ × ℕ) × Option (ℕ × RuleNo)). keeps e.0) old) (number, left)
+        ≡ cond (keeps (number, left)) (known_at old (number, left)) None
+    found = lookup-filter-keys at keeps (keeps (number, left)) alike old
+
+    by_test : (b : Bool) (o : Option (Option (ℕ × RuleNo))) → IfSome o (IsFound (ahead number) ended (last left text))
+        → IfSome (cond b o None) (IsFound (ahead number) ended (last left text))
+    by_test true o h = h
+    by_test false o h = tt
 
 -- one more is known
 pub one_known : (ahead : ℕ → Walk) (ended : Bool) (text : List ℕ) (old new : Known) (stand : ℕ × ℕ)

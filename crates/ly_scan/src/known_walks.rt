@@ -17,11 +17,28 @@ type Stand = (usize, usize);
 /// The length of the longest match and its rule, if there is one.
 pub(crate) type Longest = Option<(usize, RuleNo)>;
 
-/// It is noted where a walk stands wherever a multiple of so many bytes is left.
+/// A walk stands at a place that may be known wherever a multiple of so many bytes is left.
 const STRIDE: usize = 16;
+
+/// A walk notes where it stands each time that it has become longer by this part of its length. So it notes few places,
+/// and one that comes behind it by some bytes meets one of them before it has gone that part of those bytes.
+const PART: usize = 4;
+
+/// How many matches are kept before one of them has to be met.
+const TRUST: usize = 1 << 18;
+
+/// How many more are kept for each that was met.
+const PAY: usize = 64;
+
+/// How many are kept at most, beside one for each `STRIDE` bytes that are left.
+const MOST: usize = 1 << 19;
+
+/// At how many the first are given up that can't be met any more.
+const FULL: usize = 1 << 10;
 
 /// The longest matches that are known over one text, from where walks have stood on: so no walk goes on where one has
 /// gone before, and a text on which longer matches fail again and again takes no more time than it is long (Reps 1998).
+/// What is kept is bounded by the text, and where nothing is met again little is kept.
 ///
 /// Where memory for it is refused, all is forgotten, and matches are found all the same.
 #[derive(Drop)]
@@ -32,6 +49,10 @@ pub struct KnownWalks {
     trail: Vec<Stand>,
     /// How many bytes are left at the last place of which something is known. Where nothing is, the greatest number.
     reach: usize,
+    /// How many more may be kept.
+    credit: usize,
+    /// At how many those are given up that can't be met any more.
+    full: usize,
 }
 
 impl Model for KnownWalks {
@@ -51,6 +72,8 @@ impl KnownWalks {
             found: HashMap::new(alloc),
             trail: Vec::new(alloc),
             reach: usize::MAX,
+            credit: TRUST,
+            full: FULL,
         }
     }
 
@@ -76,17 +99,64 @@ impl KnownWalks {
         ensures known { AreKnown (S.ahead_by steps.now) ended bytes.now self.new }
     {
         self.trail.clear();
-        let longest = walk_on_known(steps, &self.found, &mut self.trail, start, bytes, ended)?;
         if bytes.len() <= self.reach {
             // what is known is of places that have been passed
             self.found.clear();
             self.reach = usize::MAX;
         }
+        let mut met = false;
+        let longest = walk_on_known(
+            steps,
+            &self.found,
+            &mut self.trail,
+            &mut met,
+            start,
+            bytes,
+            ended,
+        )?;
+        self.full = give_up_passed(&mut self.found, self.full, bytes.len());
+        let most = room_for(&self.found, self.credit, bytes.len());
+        let kept = self.trail.len().min(most);
         let taken = taken_by(steps, longest, bytes.len());
-        let last = keep(&mut self.found, &self.trail, bytes.len(), taken, longest);
+        let last = keep(
+            &mut self.found,
+            &self.trail[..kept],
+            bytes.len(),
+            taken,
+            longest,
+        );
+        self.credit = credit_behind(self.credit, kept, met);
         self.reach = self.reach.min(last);
         Some(longest)
     }
+}
+
+/// Gives up what is known of places that have been passed, which can't be met any more, once so much is kept. Answers at
+/// how much that is done again: as much was put in by then as is looked through.
+fn give_up_passed(found: &mut HashMap<Stand, Longest>, full: usize, left: usize) -> usize
+    ensures { (ahead : ℕ → Walk) (ended : Bool) (text : List ℕ) → AreKnown ahead ended text found.old.entries
+        → AreKnown ahead ended text found.new.entries }
+{
+    if found.len() < full {
+        return full;
+    }
+    found.retain(|stand, _| stand.1 <= left);
+    found.len().saturating_mul(2).max(FULL)
+}
+
+/// How many more may be kept, by a credit, where so many bytes are left: one for each walk at least, unless all are too
+/// many.
+fn room_for(found: &HashMap<Stand, Longest>, credit: usize, left: usize) -> usize {
+    if MOST + left / STRIDE <= found.len() {
+        return 0;
+    }
+    credit.max(1)
+}
+
+/// The credit behind a walk that kept so many, and met one or didn't.
+fn credit_behind(credit: usize, kept: usize, met: bool) -> usize {
+    let left = credit.saturating_sub(kept);
+    if met { left.saturating_add(PAY) } else { left }
 }
 
 /// How many bytes are taken where a match is the longest one: all where none is, since a run ends there.
@@ -98,11 +168,12 @@ fn taken_by<S: Steps>(steps: &S, longest: Longest, bytes: usize) -> usize {
 }
 
 /// Walks on from where a walk starts to where one has gone before, or where it ends: the longest match that is found.
-/// The trail is where it has stood.
+/// The trail is where it has stood, and `met` says whether one has gone there before.
 fn walk_on_known<S: Steps>(
     steps: &S,
     found: &HashMap<Stand, Longest>,
     trail: &mut Vec<Stand>,
+    met: &mut bool,
     start: S::At,
     bytes: &[u8],
     ended: bool,
@@ -116,6 +187,7 @@ fn walk_on_known<S: Steps>(
 {
     let mut at = start;
     let mut longest = None;
+    let mut noted = 0;
     for (count, byte) in bytes.iter().enumerate() {
         let Some(next) = steps.step(at, *byte) else {
             return Some(longest);
@@ -127,9 +199,10 @@ fn walk_on_known<S: Steps>(
         if left % STRIDE == 0 {
             let stand = (steps.number(at), left);
             if let Some(ahead) = known_at(found, stand) {
+                *met = true;
                 return Some(joined(longest, bytes.len(), left, *ahead));
             }
-            note(trail, stand);
+            noted = note(trail, stand, passed, noted);
         }
     }
     if ended { Some(longest) } else { None }
@@ -143,13 +216,18 @@ fn known_at(found: &HashMap<Stand, Longest>, stand: Stand) -> Option<&Longest>
     found.get(&stand)
 }
 
-/// Notes a stand in the trail. Where there is no room for it, a walk will go there again.
+/// Notes a stand in the trail, if the walk has become so long, and answers how long it is when it does so next. Where
+/// there is no room for it, a walk will go there again.
 #[inline(never)] // likewise
-fn note(trail: &mut Vec<Stand>, stand: Stand)
+fn note(trail: &mut Vec<Stand>, stand: Stand, passed: usize, noted: usize) -> usize
     ensures { (walk : Walk) (ahead : ℕ → Walk) (text : List ℕ) → HasStood walk ahead text stand
         → All (HasStood walk ahead text) trail.old.items → All (HasStood walk ahead text) trail.new.items }
 {
+    if passed < noted {
+        return noted;
+    }
     let _ = trail.push(stand);
+    passed.saturating_add(passed / PART)
 }
 
 /// The longest match of so many bytes, by that of the bytes so far and that of those that are left.

@@ -79,7 +79,7 @@ loop-count-preserved g c =
             let left = length bytes - (count + 1) in
             let passed : length bytes - left ≡ count + 1 = omega (arith, c.loop-count-test.true) in
             subst (λ t. All (HasStood walk (g.S.Steps.ahead_by c.args.steps.now) bytes) t.items) (sym w.trail-is)
-            (w.note.ensures walk (g.S.Steps.ahead_by c.args.steps.now) bytes (
+            (w.note-noted.ensures walk (g.S.Steps.ahead_by c.args.steps.now) bytes (
               omega arith,
               λ more. ap (λ k. walk (take k bytes ++ more)) passed ∙ sym (further more)
                   ∙ w.number.ensures more,
