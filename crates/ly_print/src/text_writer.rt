@@ -148,6 +148,7 @@ impl TextWriter {
     /// it. It is a leaf's line, if the label is what stands before its text.
     ///
     /// It fails where the writer does.
+    #[inline(always)] // likewise
     pub fn push_quoted_line<W: Sink>(
         &mut self,
         writer: &mut W,

@@ -69,7 +69,7 @@ fn parts_of(alloc: Global, dfa: &Dfa, rules: &[Rule]) -> Result<ScannerParts, Ou
 }
 
 /// A count as a number of 32 bits. More states or starts than have numbers have no room either.
-fn count_of(count: usize) -> Result<u32, OutOfMemory>
+pub(crate) fn count_of(count: usize) -> Result<u32, OutOfMemory>
     ensures { IfOk result (λ n. n ≡ count) }
 {
     match u32::try_from(count) {

@@ -1,10 +1,11 @@
-ghost use Rattle.std.specs.Prelude.{◌≡◌, ◌<◌, length, IfOk, option_map};
+ghost use Rattle.std.specs.Prelude.{◌≡◌, ◌<◌, ◌≤◌, ◌++◌, ℕ, List, length, IfOk, OnOk, option_map, slice_index};
 ghost use Rattle.std.proofs.Props.{props};
-ghost use Rattle.ly_print.specs.Text.{before_leaf};
+ghost use Rattle.ly_print.specs.Text.{before_leaf, named};
 ghost use Rattle.ly_tokens.specs.Answering.{names_by};
 ghost use Rattle.ly_tokens.specs.Printing.{condition_set, naming};
-ghost use Rattle.ly_tokens.specs.Private.Labels.{label_for, AreLabels, AreLiteralLabels, AreRuleLabels};
+ghost use Rattle.ly_tokens.specs.Private.Labels.{fact_for, label_at, AreFacts, AreLabels, AreLiteralLabels, IsLabelOf, IsOwn};
 
+use crate::file_lexer::count_of;
 use crate::token_lines::condition_set;
 use ly_base::{OutOfMemory, RuleNo};
 use ly_lexread::{LexAction, Returned};
@@ -12,27 +13,25 @@ use ly_listing::TokenNames;
 use ly_print::{Label, Terminal};
 use std::alloc::Global;
 
-/// How the lines of a rule's tokens begin.
-#[derive(Drop)]
-pub(crate) enum RuleLabel {
-    /// They have no lines.
-    Nothing,
-    /// With this label.
-    Own(Label),
-    /// With that of the literal of their first byte.
-    OfFirstByte,
-}
+/// The number of no label: the tokens have no lines.
+const NOTHING: u32 = 1;
+
+/// The number of the label of the literal of a token's first byte. Greater numbers are places among all labels.
+const FIRST_BYTE: u32 = 2;
 
 /// What stands before the texts of tokens in their lines, made once: so a line is two copies.
 #[derive(Drop)]
 pub(crate) struct RuleLabels<'a> {
     /// The actions that return the tokens, by rules.
     pub(crate) actions: &'a [LexAction],
-    /// How the lines of each rule's tokens begin.
-    rules: Vec<RuleLabel>,
-    /// The label of each byte's literal.
-    literals: Vec<Label>,
-    ghost made: { AreLabels actions.now rules.items literals.items } by { Prim.hlevel props },
+    /// The labels: that of each byte's literal, and behind these those of the rules' own tokens.
+    pub(crate) labels: Vec<Label>,
+    /// The number of each rule's label.
+    numbers: Vec<u32>,
+    /// The same where the rule sets no condition, and else 0.
+    pub(crate) facts: Vec<u32>,
+    ghost made: { AreLabels actions.now numbers.items labels.items } by { Prim.hlevel props },
+    ghost told: { AreFacts actions.now facts.items labels.items } by { Prim.hlevel props },
 }
 
 impl<'a> RuleLabels<'a> {
@@ -43,10 +42,19 @@ impl<'a> RuleLabels<'a> {
     ) -> Result<RuleLabels<'a>, OutOfMemory>
         ensures { IfOk result (λ l. l.actions.now ≡ actions.now) }
     {
+        let mut labels = literal_labels(alloc)?;
+        let mut numbers = Vec::with_capacity(alloc, actions.len())?;
+        let mut facts = Vec::with_capacity(alloc, actions.len())?;
+        for action in actions {
+            let number = number_of(alloc, &mut labels, &action.returns)?;
+            numbers.push(number)?;
+            facts.push(fact_of(action, number))?;
+        }
         Ok(RuleLabels {
             actions,
-            rules: rule_labels(alloc, actions)?,
-            literals: literal_labels(alloc)?,
+            labels,
+            numbers,
+            facts,
         })
     }
 
@@ -56,11 +64,23 @@ impl<'a> RuleLabels<'a> {
         ensures { option_map (λ l. l.now) result
             ≡ option_map before_leaf (naming self.now.actions.now rule.0 token.now) }
     {
-        match self.rules.get(rule.0 as usize)? {
-            RuleLabel::Nothing => None,
-            RuleLabel::Own(label) => Some(label),
-            RuleLabel::OfFirstByte => self.literals.get(usize::from(token[0])),
+        self.numbered(*self.numbers.get(rule.0 as usize)?, token[0])
+    }
+
+    /// The label of a number, of a token that begins with this byte.
+    #[inline(always)]
+    pub(crate) fn numbered(&self, number: u32, first: u8) -> Option<&Label>
+        ensures { option_map (λ l. l.now) result ≡ label_at self.now.labels.items number first }
+    {
+        if number <= NOTHING {
+            return None;
         }
+        let place = if number == FIRST_BYTE {
+            usize::from(first)
+        } else {
+            number as usize
+        };
+        self.labels.get(place)
     }
 }
 
@@ -80,34 +100,53 @@ impl TokenNames for RuleLabels<'_> {
     }
 }
 
-/// How the lines of the tokens begin that actions return.
-fn rule_labels(alloc: Global, actions: &[LexAction]) -> Result<Vec<RuleLabel>, OutOfMemory>
-    ensures { IfOk result (λ labels. AreRuleLabels actions.now labels.items) }
+/// The fact of a rule by its action and the number of its label.
+fn fact_of(action: &LexAction, number: u32) -> u32
+    ensures { result ≡ fact_for action.now.begin number }
 {
-    let mut labels = Vec::with_capacity(alloc, actions.len())?;
-    for action in actions {
-        labels.push(rule_label(alloc, &action.returns)?)?;
+    match action.begin {
+        None => number,
+        Some(_) => 0,
     }
-    Ok(labels)
 }
 
-/// How the lines of the tokens begin that an action returns.
-fn rule_label(alloc: Global, returned: &Returned) -> Result<RuleLabel, OutOfMemory>
-    ensures { IfOk result (λ label. label ≡ label_for returned.now) }
+/// The number of the label of the tokens that an action returns. An own one is added.
+fn number_of(
+    alloc: Global,
+    labels: &mut Vec<Label>,
+    returned: &Returned,
+) -> Result<u32, OutOfMemory>
+    requires { 256 ≤ length labels.old.items }
+    ensures added { OnOk result ((more : List (List ℕ)) × (labels.new.items ≡ labels.old.items ++ more)) }
+    ensures is { IfOk result (IsLabelOf labels.new.items returned.now) }
 {
     Ok(match returned {
-        Returned::Nothing => RuleLabel::Nothing,
-        Returned::Token(name) => RuleLabel::Own(Label::before_leaf(alloc, Terminal::Token(name))?),
-        Returned::Literal(byte) => {
-            RuleLabel::Own(Label::before_leaf(alloc, Terminal::Literal(*byte))?)
-        }
-        Returned::FirstByte => RuleLabel::OfFirstByte,
+        Returned::Nothing => NOTHING,
+        Returned::Token(name) => own_label(alloc, labels, Terminal::Token(name))?,
+        Returned::Literal(byte) => own_label(alloc, labels, Terminal::Literal(*byte))?,
+        Returned::FirstByte => FIRST_BYTE,
     })
+}
+
+/// Adds the label of a terminal, and answers its number.
+fn own_label(
+    alloc: Global,
+    labels: &mut Vec<Label>,
+    terminal: Terminal<'_>,
+) -> Result<u32, OutOfMemory>
+    requires { 256 ≤ length labels.old.items }
+    ensures added { OnOk result ((more : List (List ℕ)) × (labels.new.items ≡ labels.old.items ++ more)) }
+    ensures is { IfOk result (IsOwn labels.new.items (before_leaf (named terminal.entry))) }
+{
+    let number = count_of(labels.len())?;
+    labels.push(Label::before_leaf(alloc, terminal)?)?;
+    Ok(number)
 }
 
 /// The label of each byte's literal.
 fn literal_labels(alloc: Global) -> Result<Vec<Label>, OutOfMemory>
-    ensures { IfOk result (λ labels. AreLiteralLabels labels.items) }
+    ensures literals { IfOk result (λ labels. AreLiteralLabels labels.items) }
+    ensures count { IfOk result (λ labels. length labels.items ≡ 256) }
 {
     let mut labels = Vec::with_capacity(alloc, 256)?;
     for byte in 0..256usize {

@@ -1,15 +1,20 @@
-ghost use Rattle.std.specs.Prelude.{◌≡◌, ◌<◌, ◌≤◌, ◌+◌, ◌^◌, ℕ, List, [], All, length, map, option_map};
-ghost use Rattle.std.specs.Prelude.{IfOk, IfErr, OnOk, OnErr};
+ghost use Rattle.std.specs.Prelude.{◌≡◌, ◌<◌, ◌≤◌, ◌+◌, ◌*◌, ◌^◌, ℕ, List, [], All, Err, Ok, length, map, option_map};
+ghost use Rattle.std.specs.Prelude.{slice_index, IfOk, IfErr, OnOk, OnErr};
 ghost use Rattle.std.specs.Bool.{OnTrue};
 ghost use Rattle.std.specs.Io.KnownBytes.{Appends};
 ghost use Rattle.ly_print.specs.Device.{next_count};
 ghost use Rattle.ly_base.specs.Lexed.{start_of};
+ghost use Rattle.ly_base.specs.Lexed as lexed;
+ghost use Rattle.ly_lexread.specs.declared.action.LexAction.{LexAction};
 ghost use Rattle.ly_print.specs.Text.{named, no_rule_line};
 ghost use Rattle.ly_print.specs.TextWriter.{bytes_of, IsAppended, IsCutShort};
+ghost use Rattle.ly_scan.specs.Facts.{facts_by};
 ghost use Rattle.ly_scan.specs.Lexers.{scanner_of};
 ghost use Rattle.ly_tokens.specs.Printing.{condition_set, end_line, line_if, naming};
+ghost use Rattle.ly_tokens.specs.Private.Labels.{label_at};
 ghost use Rattle.ly_tokens.specs.Private.RunEnd.{EndsSo};
-ghost use Rattle.ly_tokens.specs.Private.TokenLines.{is_passed, name_len, AreCountable, AreLines};
+ghost use Rattle.ly_tokens.specs.Private.TokenLines.{bytes_each, is_passed, line_by, name_len, AreCountable, AreLines};
+ghost use Rattle.ly_tokens.specs.Private.TokenLines.{LeadsOn, SoFar};
 
 use crate::labels::RuleLabels;
 use ly_base::{End, Place, RuleNo};
@@ -19,19 +24,21 @@ use ly_scan::{KnownWalks, Lexer};
 use std::alloc::Global;
 
 /// Writes the lines of the tokens that a lexer finds in a text, with a last one where no rule matches. How the run over
-/// the text ends is known by then.
+/// the text ends is known by then. The loop takes those lexemes alone that aren't told by the facts of states.
 #[inline(always)] // by a call what the loop reads of the lexer is read anew for each lexeme
 pub(crate) fn write_token_lines<W: Sink>(
     alloc: Global,
     lexer: &Lexer,
     text: &[u8],
     labels: &RuleLabels<'_>,
+    facts: &[u32],
     end: End,
     empty: TextWriter,
     writer: &mut W,
 ) -> Result<(), WriteFault>
     requires none { empty ≡ record { sent = 0; held = [] } }
     requires passed { lexer.now.passed ≡ map is_passed labels.now.actions.now }
+    requires facts { facts.now ≡ facts_by lexer.now.scanner labels.now.facts.items }
     requires ends { EndsSo (scanner_of lexer.now.scanner) labels.now.actions.now text.now end }
     requires countable { AreCountable labels.now.actions.now (length text.now) }
     ensures told { OnOk result ((lines : List ℕ)
@@ -47,12 +54,14 @@ pub(crate) fn write_token_lines<W: Sink>(
     let mut place = Place::start(text);
     let mut known = KnownWalks::new(alloc);
     loop {
-        match lexer.next(&mut place, &mut known, true) {
+        let mut here = write_told(lexer, labels, facts, place, &known, &mut lines, writer)?;
+        match lexer.next(&mut here, &mut known, true) {
             Ok(Some(lexeme)) => {
-                let token = Front::new(place.rest(), lexeme.taken);
+                let token = Front::new(here.rest(), lexeme.taken);
                 push_token(&mut lines, writer, labels, lexeme.rule, token)?;
                 let begin = condition_set(labels.actions, lexeme.rule);
-                place.advance(lexeme.taken, begin);
+                here.advance(lexeme.taken, begin);
+                place = here;
             }
             Err(_) => {
                 push_end(&mut lines, writer, end)?;
@@ -62,6 +71,81 @@ pub(crate) fn write_token_lines<W: Sink>(
             // the end decides
             Ok(None) => unreachable!(),
         }
+    }
+}
+
+/// Writes the lines of lexemes from a place on, as long as they are told by the facts of states, and answers where the
+/// next one stands.
+#[inline(never)] // so that it has the registers
+fn write_told<'t, W: Sink>(
+    lexer: &Lexer,
+    labels: &RuleLabels<'_>,
+    facts: &[u32],
+    start: Place<'t>,
+    known: &KnownWalks,
+    lines: &mut TextWriter,
+    writer: &mut W,
+) -> Result<Place<'t>, WriteFault>
+    requires passed { lexer.now.passed ≡ map is_passed labels.now.actions.now }
+    requires facts { facts.now ≡ facts_by lexer.now.scanner labels.now.facts.items }
+    requires countable { (longest : ℕ) × All (λ (a : LexAction). name_len a.returns ≤ longest) labels.now.actions.now
+        × (bytes_of lines.old + length start.rest * bytes_each longest < 2 ^ 64) }
+    ensures told { IfOk result (λ place. (told : List ℕ)
+        × LeadsOn labels.now.actions.now (scanner_of lexer.now.scanner) start.entry place told
+        × IsAppended lines.old lines.new (W.contents writer.old) (W.contents writer.new) told (Ok tt)) }
+    ensures cut_short { IfErr result (λ fault. (place : lexed.Place) × ((told : List ℕ)
+        × SoFar labels.now.actions.now (scanner_of lexer.now.scanner) start.entry place told
+        × IsAppended lines.old lines.new (W.contents writer.old) (W.contents writer.new) told (Err fault))) }
+    ensures counted { IfOk result (λ place. (longest : ℕ)
+        → All (λ (a : LexAction). name_len a.returns ≤ longest) labels.now.actions.now
+        → bytes_of lines.new + length place.rest * bytes_each longest
+        ≤ bytes_of lines.old + length start.entry.rest * bytes_each longest) }
+    ensures no_failure { OnOk result (W.failures writer.new ≡ W.failures writer.old) }
+    ensures failed { OnErr result (W.failures writer.new ≡ next_count (W.failures writer.old)) }
+{
+    let mut place = start;
+    loop {
+        let Some(told) = lexer.tell(facts, &mut place, known) else {
+            return Ok(place);
+        };
+        let rest = place.rest();
+        let first = first_of(rest);
+        let token = Front::new(rest, told.taken);
+        push_told(lines, writer, labels, told.fact, first, token)?;
+        place.advance(told.taken, None);
+    }
+}
+
+/// The first byte.
+fn first_of(bytes: &[u8]) -> u8
+    requires { 0 < length bytes.now }
+    ensures { result ≡ slice_index bytes.now 0 }
+{
+    bytes[0]
+}
+
+/// Appends the line of the token of a lexeme by the fact of its rule and by its first byte, if it has one.
+#[inline(always)] // as `write_told`
+fn push_told<W: Sink>(
+    lines: &mut TextWriter,
+    writer: &mut W,
+    labels: &RuleLabels<'_>,
+    fact: u32,
+    first: u8,
+    token: Front<'_>,
+) -> Result<(), WriteFault>
+    requires countable { bytes_of lines.old
+        + length (line_by (label_at labels.now.labels.items fact first) token) < 2 ^ 64 }
+    ensures text { IsAppended lines.old lines.new (W.contents writer.old) (W.contents writer.new)
+        (line_by (label_at labels.now.labels.items fact first) token.entry) result }
+    ensures counted { OnOk result (bytes_of lines.new ≡ bytes_of lines.old
+        + length (line_by (label_at labels.now.labels.items fact first) token.entry)) }
+    ensures no_failure { OnOk result (W.failures writer.new ≡ W.failures writer.old) }
+    ensures failed { OnErr result (W.failures writer.new ≡ next_count (W.failures writer.old)) }
+{
+    match labels.numbered(fact, first) {
+        Some(label) => lines.push_quoted_line(writer, label, &token),
+        None => Ok(()),
     }
 }
 
@@ -93,6 +177,7 @@ fn longest_name(actions: &[LexAction]) -> usize
 }
 
 /// Appends the line of a lexeme's token, if the rule's action returns one.
+#[inline(never)] // so that a line is printed in one place else
 fn push_token<W: Sink>(
     lines: &mut TextWriter,
     writer: &mut W,

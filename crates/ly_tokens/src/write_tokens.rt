@@ -170,9 +170,10 @@ fn write_lines<W: Sink>(
         return Err(TokensFault::OutOfMemory);
     }
     let labels = RuleLabels::new(alloc, &file.actions)?;
+    let facts = lexer.facts(alloc, &labels.facts)?;
     let lines = TextWriter::new(alloc)?;
-    let end = run_end(alloc, lexer, text, file);
-    write_token_lines(alloc, lexer, text, &labels, end, lines, writer)?;
+    let end = run_end(alloc, lexer, text, &labels, &facts, file.conditions);
+    write_token_lines(alloc, lexer, text, &labels, &facts, end, lines, writer)?;
     Ok(token_end(end))
 }
 

@@ -1,19 +1,14 @@
 use Rattle.std.proofs.Common.{◌<◌, subst}
 use Rattle.std.proofs.lemmas.List.Elements.{All-from_get_or}
 use Rattle.ly_scan.specs.Lexers.{scanner_of}
-use Rattle.ly_tokens.specs.Private.RunEnd.{BeginsEverywhere, EndsSo}
+use Rattle.ly_tokens.specs.Private.RunEnd.{BeginsEverywhere}
 use Rattle.ly_tokens.proofs.RunEndLemmas.{clean_everywhere}
 use Rattle.ly_tokens.proofs.run_end.run_end.Goals as goal
 
 pub returns-then-begins_everywhere : goal.returns-then-begins_everywhere
 returns-then-begins_everywhere c =
-    let file = c.args.file.now in
-    clean_everywhere (scanner_of c.args.lexer.now.scanner) file.actions.items file.conditions c.args.text.now
-    (subst (λ t. BeginsEverywhere (scanner_of t) file.conditions) c.scanner.ensures c.if-begins_everywhere.ensures)
+    clean_everywhere (scanner_of c.args.lexer.now.scanner) c.args.labels.now.actions.now c.args.conditions
+    c.args.text.now
+    (subst (λ t. BeginsEverywhere (scanner_of t) c.args.conditions) c.scanner.ensures c.if-begins_everywhere.ensures)
     c.requires.below c.requires.some
     (All-from_get_or (λ byte. byte < 256) c.args.text.now 0 (λ k lt. (c.type_inv.text k).fits)) c.requires.leaves
-
-pub returns : goal.returns
-returns c = subst
-    (λ actions. EndsSo (scanner_of c.args.lexer.now.scanner) actions c.args.text.now c.walked_end.result)
-    c.deref.ensures.value c.walked_end.ensures

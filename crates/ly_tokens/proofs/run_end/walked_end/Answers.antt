@@ -6,7 +6,7 @@ use Rattle.ly_scan.specs.KnownWalks.{AreKnown}
 use Rattle.ly_scan.specs.Lexers.{scanner_of}
 use Rattle.ly_scan.specs.StateTable.{ahead_in}
 use Rattle.ly_tokens.specs.Printing.{line_if, naming}
-use Rattle.ly_tokens.proofs.PrintingLemmas.{one_more, passes_lines}
+use Rattle.ly_tokens.proofs.PrintingLemmas.{one_more, passes_lines, so_far_on}
 use Rattle.ly_tokens.proofs.RunEndLemmas.{ends_there}
 use Rattle.ly_tokens.proofs.run_end.walked_end.Goals as goal
 
@@ -16,22 +16,31 @@ loop-lexeme-init c = record {
   known = c.new-known.ensures (ahead_in c.args.lexer.now.scanner) true c.start-place.result.rest;
 }
 
+pub next-requires : goal.next-requires
+next-requires c = record {
+  known = c.pass_told-place.ensures.1.known (ahead_in c.args.lexer.now.scanner) c.loop-lexeme.known
+      c.loop-lexeme.invariant.known;
+}
+
 pub loop-lexeme-preserved : goal.loop-lexeme-preserved
 loop-lexeme-preserved c =
-    let actions = c.args.actions.now in
+    let actions = c.args.labels.now.actions.now in
     let s = scanner_of c.args.lexer.now.scanner in
     let start = start_of c.args.text.now in
-    let so_far = c.loop-lexeme.invariant.so_far in
+    let before = c.loop-lexeme.invariant.so_far in
+    let on = c.pass_told-place.ensures in
+    let told = before.0 ++ on.0 in
     let here = c.next.new.place in
     let lexeme = c.in-Ok-Some.lexeme in
     let fast = answered true s here c.in-Ok-Some.field-0 lexeme c.in-Ok-Some.field-0-is c.in-Ok-Some.ensures.found in
     let token = take lexeme.taken here.rest in
     let line = line_if (naming actions lexeme.rule.0 token) token in record {
       so_far = (
-        so_far.0 ++ line,
-        one_more actions s start here c.advance.new.self lexeme c.condition_set.result token so_far.0
-            (so_far.0 ++ line) (lexeme_at s here true lexeme fast) c.condition_set.ensures c.advance.ensures refl refl
-            (passes_lines actions s c.args.lexer.now.passed start c.loop-lexeme.place so_far.0 c.requires so_far.1
+        told ++ line,
+        one_more actions s start here c.advance.new.self lexeme c.condition_set.result token told (told ++ line)
+            (lexeme_at s here true lexeme fast) c.condition_set.ensures c.advance.ensures refl refl
+            (passes_lines actions s c.args.lexer.now.passed start c.pass_told-place.result told c.requires.passed
+            (so_far_on actions s start c.loop-lexeme.place c.pass_told-place.result before.0 on.0 before.1 on.1.so_far)
             c.next.ensures.passed),
       );
       known = subst (λ x. AreKnown (ahead_in c.args.lexer.now.scanner) true x.rest c.next.new.known)
@@ -48,6 +57,7 @@ loop-lexeme-smaller c =
       arith,
       fast.some,
       fast.within,
+      c.pass_told-place.ensures.1.fewer,
       c.next.ensures.left,
       ap (λ p. length p.rest) c.advance.ensures,
       length-drop lexeme.taken here.rest,
@@ -55,10 +65,14 @@ loop-lexeme-smaller c =
 
 pub returns-in-Err : goal.returns-in-Err
 returns-in-Err c =
-    let actions = c.args.actions.now in
+    let actions = c.args.labels.now.actions.now in
     let s = scanner_of c.args.lexer.now.scanner in
-    let so_far = c.loop-lexeme.invariant.so_far in
-    ends_there actions s c.args.text.now so_far.0 c.next.new.place c.in-Err.end
+    let start = start_of c.args.text.now in
+    let before = c.loop-lexeme.invariant.so_far in
+    let on = c.pass_told-place.ensures in
+    let told = before.0 ++ on.0 in
+    ends_there actions s c.args.text.now told c.next.new.place c.in-Err.end
     (end_at s c.next.new.place true c.in-Err.end c.in-Err.ensures.end)
-    (passes_lines actions s c.args.lexer.now.passed (start_of c.args.text.now) c.loop-lexeme.place so_far.0 c.requires
-    so_far.1 c.next.ensures.passed)
+    (passes_lines actions s c.args.lexer.now.passed start c.pass_told-place.result told c.requires.passed
+    (so_far_on actions s start c.loop-lexeme.place c.pass_told-place.result before.0 on.0 before.1 on.1.so_far)
+    c.next.ensures.passed)

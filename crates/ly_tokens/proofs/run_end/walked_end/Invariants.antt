@@ -9,7 +9,7 @@ use Rattle.ly_tokens.proofs.run_end.walked_end.Given as goal
 -- the lexemes so far lead to where the run stands, and what is known of walks is so there
 abbrev pub invariant-loop-lexeme : goal.invariant-loop-lexeme
 invariant-loop-lexeme l = record {
-  so_far : (told : List ℕ) × SoFar l.actions (scanner_of l.lexer.scanner) (start_of l.text) l.place told;
+  so_far : (told : List ℕ) × SoFar l.labels.actions.now (scanner_of l.lexer.scanner) (start_of l.text) l.place told;
   known : AreKnown (ahead_in l.lexer.scanner) true l.place.rest l.known;
 }
 

@@ -12,11 +12,11 @@ use Rattle.ly_scan.specs.StateTable.{ahead_in}
 use Rattle.ly_tokens.specs.Printing.{condition_set, end_line, line_if, naming}
 use Rattle.ly_tokens.specs.Private.TokenLines.{bytes_each}
 use Rattle.ly_tokens.proofs.LineLemmas.{line_left}
-use Rattle.ly_tokens.proofs.PrintingLemmas.{all_known, fails_at, one_more, passes_lines}
+use Rattle.ly_tokens.proofs.PrintingLemmas.{all_known, fails_at, on_its_way, one_more, passes_lines, so_far_on}
 use Rattle.ly_tokens.proofs.token_lines.write_token_lines.Goals as goal
 
-pub loop-lexeme-init : goal.loop-lexeme-init
-loop-lexeme-init g c = record {
+pub loop-known-init : goal.loop-known-init
+loop-known-init g c = record {
   so_far = (
     [],
     ([], c.start-place.ensures, refl),
@@ -31,6 +31,34 @@ loop-lexeme-init g c = record {
   known = c.new-known.ensures (ahead_in c.args.lexer.now.scanner) true c.start-place.result.rest;
 }
 
+pub write_told-requires-clause-countable : goal.write_told-requires-clause-countable
+write_told-requires-clause-countable g c =
+    let countable = c.requires.countable in (
+      countable.0,
+      countable.1,
+      omega (arith, c.loop-known.invariant.counted countable.0 countable.1, countable.2),
+    )
+
+pub returns-in_err-here-clause-cut_short : goal.returns-in_err-here-clause-cut_short
+returns-in_err-here-clause-cut_short g c =
+    let actions = c.args.labels.now.actions.now in
+    let now = c.loop-known in
+    let so_far = now.invariant.so_far in
+    let s = scanner_of c.args.lexer.now.scanner in
+    let cut = c.in_err-here.ensures.cut_short in
+    let fault = c.in_err-here.field-0.0 in
+    err_is c.from_residual.result fault _ c.from_residual.ensures.1 (fails_at actions s c.args.text.now cut.0
+    (so_far.0 ++ cut.1.0) c.args.end c.args.empty c.write_told.new.lines _ _ fault c.requires.ends c.requires.none
+    (so_far_on actions s (start_of c.args.text.now) now.place cut.0 so_far.0 cut.1.0 so_far.1 cut.1.1)
+    (appended_twice c.args.empty now.lines c.write_told.new.lines _ _ _ so_far.0 cut.1.0 tt (Err fault) so_far.2
+    cut.1.2))
+
+pub next-requires : goal.next-requires
+next-requires g c = record {
+  known = c.in_ok-here.ensures.told.1.known (ahead_in c.args.lexer.now.scanner) c.loop-known.known
+      c.loop-known.invariant.known;
+}
+
 pub push_token-requires-clause-countable : goal.push_token-requires-clause-countable
 push_token-requires-clause-countable g c =
     let actions = c.args.labels.now.actions.now in
@@ -41,7 +69,8 @@ push_token-requires-clause-countable g c =
     let fast = answered true s here c.in-Ok-Some.field-0 lexeme c.in-Ok-Some.field-0-is c.in-Ok-Some.ensures.found in
     omega (
       arith,
-      c.loop-lexeme.invariant.counted countable.0 countable.1,
+      c.loop-known.invariant.counted countable.0 countable.1,
+      c.in_ok-here.ensures.counted countable.0 countable.1,
       line_left actions countable.0 lexeme.rule.0 lexeme.taken here.rest c.new-token.result countable.1 fast.some
           fast.within (c.new-token.ensures ∙ ap (take lexeme.taken) c.rest.ensures),
       countable.2,
@@ -51,37 +80,42 @@ push_token-requires-clause-countable g c =
 pub returns-in_err-push_token-in-Ok-Some-clause-cut_short : goal.returns-in_err-push_token-in-Ok-Some-clause-cut_short
 returns-in_err-push_token-in-Ok-Some-clause-cut_short g c =
     let actions = c.args.labels.now.actions.now in
-    let now = c.loop-lexeme in
-    let so_far = now.invariant.so_far in
+    let now = c.loop-known in
+    let there = c.in_ok-here.here in
+    let so_far = on_its_way actions (scanner_of c.args.lexer.now.scanner) (start_of c.args.text.now) now.place there
+    c.args.empty now.lines c.write_told.new.lines _ _ _ now.invariant.so_far c.in_ok-here.ensures.told in
     let here = c.next.new.place in
     let lexeme = c.in-Ok-Some.lexeme in
     let s = scanner_of c.args.lexer.now.scanner in
     let fast = answered true s here c.in-Ok-Some.field-0 lexeme c.in-Ok-Some.field-0-is c.in-Ok-Some.ensures.found in
-    let led = passes_lines actions s c.args.lexer.now.passed (start_of c.args.text.now) now.place so_far.0
+    let led = passes_lines actions s c.args.lexer.now.passed (start_of c.args.text.now) there so_far.0
     c.requires.passed so_far.1 c.next.ensures.passed in
     let token = c.new-token.result in
     let line = line_if (naming actions lexeme.rule.0 token) token in
     let begin = condition_set actions lexeme.rule.0 in
     let fault = c.in_err-push_token-in-Ok-Some.field-0.0 in
-    err_is c.from_residual.result fault _ c.from_residual.ensures.1 (fails_at actions s c.args.text.now
+    err_is c.from_residual-in_err-push_token-in-Ok-Some.result fault _
+    c.from_residual-in_err-push_token-in-Ok-Some.ensures.1 (fails_at actions s c.args.text.now
     (moved here lexeme.taken begin) (so_far.0 ++ line) c.args.end c.args.empty c.push_token.new.lines _ _ fault
     c.requires.ends c.requires.none
     (one_more actions s (start_of c.args.text.now) here (moved here lexeme.taken begin) lexeme begin token so_far.0
     (so_far.0 ++ line) (lexeme_at s here true lexeme fast) refl refl
     (c.new-token.ensures ∙ ap (take lexeme.taken) c.rest.ensures) refl led)
-    (appended_twice c.args.empty now.lines c.push_token.new.lines _ _ _ so_far.0 line tt (Err fault) so_far.2
-    c.in_err-push_token-in-Ok-Some.ensures.text))
+    (appended_twice c.args.empty c.write_told.new.lines c.push_token.new.lines _ _ _ so_far.0 line tt (Err fault)
+    so_far.2 c.in_err-push_token-in-Ok-Some.ensures.text))
 
-pub loop-lexeme-preserved : goal.loop-lexeme-preserved
-loop-lexeme-preserved g c =
+pub loop-known-preserved : goal.loop-known-preserved
+loop-known-preserved g c =
     let actions = c.args.labels.now.actions.now in
-    let now = c.loop-lexeme in
-    let so_far = now.invariant.so_far in
+    let now = c.loop-known in
+    let there = c.in_ok-here.here in
+    let so_far = on_its_way actions (scanner_of c.args.lexer.now.scanner) (start_of c.args.text.now) now.place there
+    c.args.empty now.lines c.write_told.new.lines _ _ _ now.invariant.so_far c.in_ok-here.ensures.told in
     let here = c.next.new.place in
     let lexeme = c.in-Ok-Some.lexeme in
     let s = scanner_of c.args.lexer.now.scanner in
     let fast = answered true s here c.in-Ok-Some.field-0 lexeme c.in-Ok-Some.field-0-is c.in-Ok-Some.ensures.found in
-    let led = passes_lines actions s c.args.lexer.now.passed (start_of c.args.text.now) now.place so_far.0
+    let led = passes_lines actions s c.args.lexer.now.passed (start_of c.args.text.now) there so_far.0
     c.requires.passed so_far.1 c.next.ensures.passed in
     let token = c.new-token.result in
     let line = line_if (naming actions lexeme.rule.0 token) token in
@@ -93,24 +127,26 @@ loop-lexeme-preserved g c =
         one_more actions s (start_of c.args.text.now) here c.advance.new.self lexeme c.condition_set-begin.result token
             so_far.0 (so_far.0 ++ line) (lexeme_at s here true lexeme fast) c.condition_set-begin.ensures at is refl
             led,
-        appended_twice c.args.empty now.lines c.push_token.new.lines _ _ _ so_far.0 line tt (Ok tt) so_far.2
-            c.in_ok-push_token-in-Ok-Some.ensures.text,
+        appended_twice c.args.empty c.write_told.new.lines c.push_token.new.lines _ _ _ so_far.0 line tt (Ok tt)
+            so_far.2 c.in_ok-push_token-in-Ok-Some.ensures.text,
       );
       counted = λ longest named. omega (
         arith,
         now.invariant.counted longest named,
+        c.in_ok-here.ensures.counted longest named,
         line_left actions longest lexeme.rule.0 lexeme.taken here.rest token named fast.some fast.within is,
         ap (λ (p : Place). length p.rest * bytes_each longest) at,
         c.in_ok-push_token-in-Ok-Some.ensures.counted,
         mul-le-mul_right (bytes_each longest) c.next.ensures.left,
       );
-      no_failure = c.in_ok-push_token-in-Ok-Some.ensures.no_failure ∙ now.invariant.no_failure;
+      no_failure = c.in_ok-push_token-in-Ok-Some.ensures.no_failure ∙ c.in_ok-here.ensures.no_failure
+          ∙ now.invariant.no_failure;
       known = subst (λ (x : Place). AreKnown (ahead_in c.args.lexer.now.scanner) true x.rest c.next.new.known) (sym at)
           (c.next.ensures.known lexeme.taken fast.within);
     }
 
-pub loop-lexeme-smaller : goal.loop-lexeme-smaller
-loop-lexeme-smaller g c =
+pub loop-known-smaller : goal.loop-known-smaller
+loop-known-smaller g c =
     let here = c.next.new.place in
     let lexeme = c.in-Ok-Some.lexeme in
     let s = scanner_of c.args.lexer.now.scanner in
@@ -119,6 +155,7 @@ loop-lexeme-smaller g c =
       arith,
       fast.some,
       fast.within,
+      c.in_ok-here.ensures.told.1.fewer,
       c.next.ensures.left,
       ap (λ p. length p.rest) c.advance.ensures,
       length-drop lexeme.taken here.rest,
@@ -127,16 +164,23 @@ loop-lexeme-smaller g c =
 pub push_end-requires : goal.push_end-requires
 push_end-requires g c =
     let countable = c.requires.countable in
-    omega (arith, c.loop-lexeme.invariant.counted countable.0 countable.1, countable.2)
+    omega (
+      arith,
+      c.loop-known.invariant.counted countable.0 countable.1,
+      c.in_ok-here.ensures.counted countable.0 countable.1,
+      countable.2,
+    )
 
 pub returns-in_err-push_end-in-Err-clause-cut_short : goal.returns-in_err-push_end-in-Err-clause-cut_short
 returns-in_err-push_end-in-Err-clause-cut_short g c =
     let actions = c.args.labels.now.actions.now in
-    let now = c.loop-lexeme in
-    let so_far = now.invariant.so_far in
+    let now = c.loop-known in
+    let there = c.in_ok-here.here in
+    let so_far = on_its_way actions (scanner_of c.args.lexer.now.scanner) (start_of c.args.text.now) now.place there
+    c.args.empty now.lines c.write_told.new.lines _ _ _ now.invariant.so_far c.in_ok-here.ensures.told in
     let here = c.next.new.place in
     let s = scanner_of c.args.lexer.now.scanner in
-    let led = passes_lines actions s c.args.lexer.now.passed (start_of c.args.text.now) now.place so_far.0
+    let led = passes_lines actions s c.args.lexer.now.passed (start_of c.args.text.now) there so_far.0
     c.requires.passed so_far.1 c.next.ensures.passed in
     let lines = so_far.0 ++ end_line c.args.end in
     let fault = c.in_err-push_end-in-Err.field-0.0 in
@@ -145,7 +189,7 @@ returns-in_err-push_end-in-Err-clause-cut_short g c =
       all_known actions s c.args.text.now here c.in-Err.field-0 c.args.end so_far.0 lines c.requires.ends
           (end_at s here true c.in-Err.field-0 c.in-Err.ensures.end) refl led,
       cut_from c.args.empty c.push_end.new.lines _ _ lines c.requires.none fault
-          (appended_twice c.args.empty now.lines c.push_end.new.lines _ _ _ so_far.0 (end_line c.args.end) tt
+          (appended_twice c.args.empty c.write_told.new.lines c.push_end.new.lines _ _ _ so_far.0 (end_line c.args.end) tt
           (Err fault) so_far.2 c.in_err-push_end-in-Err.ensures.text),
     )
 
@@ -154,7 +198,8 @@ finish-requires g c =
     let countable = c.requires.countable in record {
       countable = omega (
         arith,
-        c.loop-lexeme.invariant.counted countable.0 countable.1,
+        c.loop-known.invariant.counted countable.0 countable.1,
+        c.in_ok-here.ensures.counted countable.0 countable.1,
         countable.2,
         c.in_ok-push_end-in-Err.ensures.counted,
       );
@@ -163,11 +208,13 @@ finish-requires g c =
 pub returns-in_err-finish-in-Err-clause-cut_short : goal.returns-in_err-finish-in-Err-clause-cut_short
 returns-in_err-finish-in-Err-clause-cut_short g c =
     let actions = c.args.labels.now.actions.now in
-    let now = c.loop-lexeme in
-    let so_far = now.invariant.so_far in
+    let now = c.loop-known in
+    let there = c.in_ok-here.here in
+    let so_far = on_its_way actions (scanner_of c.args.lexer.now.scanner) (start_of c.args.text.now) now.place there
+    c.args.empty now.lines c.write_told.new.lines _ _ _ now.invariant.so_far c.in_ok-here.ensures.told in
     let here = c.next.new.place in
     let s = scanner_of c.args.lexer.now.scanner in
-    let led = passes_lines actions s c.args.lexer.now.passed (start_of c.args.text.now) now.place so_far.0
+    let led = passes_lines actions s c.args.lexer.now.passed (start_of c.args.text.now) there so_far.0
     c.requires.passed so_far.1 c.next.ensures.passed in
     let lines = so_far.0 ++ end_line c.args.end in
     let fault = c.in_err-finish-in-Err.field-0.0 in
@@ -176,24 +223,26 @@ returns-in_err-finish-in-Err-clause-cut_short g c =
       all_known actions s c.args.text.now here c.in-Err.field-0 c.args.end so_far.0 lines c.requires.ends
           (end_at s here true c.in-Err.field-0 c.in-Err.ensures.end) refl led,
       c.in_err-finish-in-Err.ensures.text _ lines (underway_from c.args.empty c.push_end.new.lines _ _ lines
-          c.requires.none (appended_twice c.args.empty now.lines c.push_end.new.lines _ _ _ so_far.0
+          c.requires.none (appended_twice c.args.empty c.write_told.new.lines c.push_end.new.lines _ _ _ so_far.0
           (end_line c.args.end) tt (Ok tt) so_far.2 c.in_ok-push_end-in-Err.ensures.text)),
     )
 
 pub returns-in-Err-clause-told : goal.returns-in-Err-clause-told
 returns-in-Err-clause-told g c =
     let actions = c.args.labels.now.actions.now in
-    let now = c.loop-lexeme in
-    let so_far = now.invariant.so_far in
+    let now = c.loop-known in
+    let there = c.in_ok-here.here in
+    let so_far = on_its_way actions (scanner_of c.args.lexer.now.scanner) (start_of c.args.text.now) now.place there
+    c.args.empty now.lines c.write_told.new.lines _ _ _ now.invariant.so_far c.in_ok-here.ensures.told in
     let here = c.next.new.place in
     let s = scanner_of c.args.lexer.now.scanner in
-    let led = passes_lines actions s c.args.lexer.now.passed (start_of c.args.text.now) now.place so_far.0
+    let led = passes_lines actions s c.args.lexer.now.passed (start_of c.args.text.now) there so_far.0
     c.requires.passed so_far.1 c.next.ensures.passed in
     let lines = so_far.0 ++ end_line c.args.end in (
       lines,
       all_known actions s c.args.text.now here c.in-Err.field-0 c.args.end so_far.0 lines c.requires.ends
           (end_at s here true c.in-Err.field-0 c.in-Err.ensures.end) refl led,
       c.in_ok-finish-in-Err.ensures.text _ lines (underway_from c.args.empty c.push_end.new.lines _ _ lines
-          c.requires.none (appended_twice c.args.empty now.lines c.push_end.new.lines _ _ _ so_far.0
+          c.requires.none (appended_twice c.args.empty c.write_told.new.lines c.push_end.new.lines _ _ _ so_far.0
           (end_line c.args.end) tt (Ok tt) so_far.2 c.in_ok-push_end-in-Err.ensures.text)),
     )

@@ -10,8 +10,8 @@ use Rattle.ly_tokens.proofs.token_lines.write_token_lines.Given as goal
 
 -- the lexemes so far lead to where the run stands, the lines of their tokens are on their way, what is left can be
 -- counted, and what is known of walks is so there
-abbrev pub invariant-loop-lexeme : goal.invariant-loop-lexeme
-invariant-loop-lexeme g l =
+abbrev pub invariant-loop-known : goal.invariant-loop-known
+invariant-loop-known g l =
     let sink = g.W.Sink in
     let start = start_of l.text in record {
       so_far : (told : List ℕ) × SoFar l.labels.actions.now (scanner_of l.lexer.scanner) start l.place told
@@ -22,5 +22,5 @@ invariant-loop-lexeme g l =
       known : AreKnown (ahead_in l.lexer.scanner) true l.place.rest l.known;
     }
 
-abbrev pub decreases-loop-lexeme : goal.decreases-loop-lexeme
-decreases-loop-lexeme g l = length l.place.rest
+abbrev pub decreases-loop-known : goal.decreases-loop-known
+decreases-loop-known g l = length l.place.rest

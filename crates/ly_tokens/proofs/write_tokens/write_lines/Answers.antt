@@ -1,4 +1,4 @@
-use Rattle.std.proofs.Common.{◌≡◌, ◌∙◌, Err, Result, subst, sym}
+use Rattle.std.proofs.Common.{◌≡◌, ◌∙◌, Err, Result, ap, map, subst, sym}
 use Rattle.std.proofs.lemmas.Result.{err_from_is_err_and}
 use Rattle.ly_ere.specs.Names.{defined}
 use Rattle.ly_print.specs.TextWriter.{IsCutShort}
@@ -7,27 +7,44 @@ use Rattle.ly_base.specs.declared.lexeme.End.{End}
 use Rattle.ly_tokens.specs.Answering.{IsAnswer}
 use Rattle.ly_tokens.specs.declared.fault.TokensFault.{TokensFault}
 use Rattle.ly_tokens.specs.declared.fault.TokensFault.TheVariants.{Write}
-use Rattle.ly_tokens.specs.Private.RunEnd.{EndsSo}
+use Rattle.ly_scan.specs.Facts.{facts_by}
+use Rattle.ly_tokens.specs.Private.RunEnd.{AreSetBelow, EndsSo}
+use Rattle.ly_tokens.specs.Private.TokenLines.{is_passed}
 use Rattle.ly_tokens.proofs.AnswerLemmas.{answer_of, run_leaves_tokens}
 use Rattle.ly_scan.specs.Lexers.{scanner_of}
 use Rattle.ly_tokens.proofs.write_tokens.write_lines.Goals as goal
 
-pub run_end-end-requires-clause-leaves : goal.run_end-end-requires-clause-leaves
-run_end-end-requires-clause-leaves g c = λ e run.
+pub run_end-end-requires : goal.run_end-end-requires
+run_end-end-requires g c =
     let file = c.args.file.now in
-    run_leaves_tokens (defined file.names) file.rules.items file.actions.items (scanner_of c.args.lexer.now.scanner)
-    c.args.text.now e c.requires.agrees run
+    let actions = file.actions.items in
+    let same : actions ≡ c.in_ok-labels.labels.actions.now
+    = sym (c.in_ok-labels.ensures ∙ c.deref-2.ensures.value) in
+    let s = scanner_of c.args.lexer.now.scanner in record {
+      passed = subst (λ a. c.args.lexer.now.passed ≡ map is_passed a) same c.requires.passed;
+      facts = c.deref-4.ensures.value ∙ c.in_ok-facts.ensures
+          ∙ ap (facts_by c.args.lexer.now.scanner) c.deref-3.ensures.value;
+      below = subst (λ a. AreSetBelow a file.conditions) same c.requires.below;
+      some = c.requires.some;
+      leaves = λ e run. run_leaves_tokens (defined file.names) file.rules.items actions s c.args.text.now e
+          c.requires.agrees (subst (λ a. EndsSo s a c.args.text.now e) (sym same) run);
+    }
 
-pub write_token_lines-requires-clause-ends : goal.write_token_lines-requires-clause-ends
-write_token_lines-requires-clause-ends g c = subst
-    (λ actions. EndsSo (scanner_of c.args.lexer.now.scanner) actions c.args.text.now c.run_end-end.result)
-    (sym (c.in_ok-labels.ensures ∙ c.deref-2.ensures.value)) c.run_end-end.ensures
+pub write_token_lines-requires-clause-passed : goal.write_token_lines-requires-clause-passed
+write_token_lines-requires-clause-passed g c = subst (λ a. c.args.lexer.now.passed ≡ map is_passed a)
+    (sym (c.in_ok-labels.ensures ∙ c.deref-2.ensures.value)) c.requires.passed
+
+pub write_token_lines-requires-clause-facts : goal.write_token_lines-requires-clause-facts
+write_token_lines-requires-clause-facts g c = c.deref-5.ensures.value ∙ c.in_ok-facts.ensures
+    ∙ ap (facts_by c.args.lexer.now.scanner) c.deref-3.ensures.value
 
 pub token_end-requires : goal.token_end-requires
 token_end-requires g c =
     let file = c.args.file.now in
-    run_leaves_tokens (defined file.names) file.rules.items file.actions.items (scanner_of c.args.lexer.now.scanner)
-    c.args.text.now c.run_end-end.result c.requires.agrees c.run_end-end.ensures
+    let s = scanner_of c.args.lexer.now.scanner in
+    run_leaves_tokens (defined file.names) file.rules.items file.actions.items s c.args.text.now c.run_end-end.result
+    c.requires.agrees (subst (λ a. EndsSo s a c.args.text.now c.run_end-end.result)
+    (c.in_ok-labels.ensures ∙ c.deref-2.ensures.value) c.run_end-end.ensures)
 
 same_fault : {T : Type 0} (r : Result T TokensFault) (x y : TokensFault) → r ≡ Err x → r ≡ Err y → x ≡ y
 same_fault r x y a b = cc

@@ -1,0 +1,12 @@
+use Rattle.std.proofs.Common.{◌≤◌, length, take}
+use Rattle.ly_tokens.proofs.LabelLemmas.{AreNumbers}
+use Rattle.ly_tokens.specs.Private.Labels.{AreLiteralLabels}
+use Rattle.ly_tokens.proofs.labels.RuleLabels.new.Given as goal
+
+-- there are the labels of the bytes, and the numbers and the facts of the actions so far
+abbrev pub invariant-loop-action : goal.invariant-loop-action
+invariant-loop-action l = record {
+  count : 256 ≤ length l.labels.items;
+  literals : AreLiteralLabels l.labels.items;
+  numbered : AreNumbers l.labels.items (take l.action-index l.actions) l.numbers.items l.facts.items;
+}
