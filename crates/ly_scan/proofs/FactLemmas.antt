@@ -1,6 +1,6 @@
 -- Lexemes that are told by the state where their walk ends.
-use Rattle.std.proofs.Common.{◌≡◌, ◌≢◌, ◌∙◌, ◌<◌, ◌+◌, ◌++◌, ℕ, List, Option, Some, None, Bool, true, false, ap, arith, get_or}
-use Rattle.std.proofs.Common.{length, map, refl, sym, take}
+use Rattle.std.proofs.Common.{◌≡◌, ◌≢◌, ◌∙◌, ◌<◌, ◌+◌, ◌++◌, ℕ, List, Option, Some, None, Bool, true, false, ap, arith}
+use Rattle.std.proofs.Common.{get_or, length, map, refl, sym, take}
 use Rattle.std.proofs.lemmas.List.{get_or-map}
 use Rattle.std.specs.Prelude.{if◌then◌else◌, option_map, slice_index_or}
 use Rattle.ly_base.specs.Lexed.{Place}
@@ -77,8 +77,8 @@ told_there t q line start at n rule initial lines begun some within on ended is 
     begins text = begun text ∙ ap (λ w. w text) lines ∙ ap (λ k. s.walk k q.line text) (sym initial)
 
     longest : IsLongest walk q.rest (length q.rest) n rule.0
-    longest = ends_best walk (ahead_at t start) (ahead_at t at) q.rest n rule stays some (omega (arith, within)) begins on
-        refl (sym (ap (option_map (λ (r : RuleNo). r.0)) is)) (λ less. ended)
+    longest = ends_best walk (ahead_at t start) (ahead_at t at) q.rest n rule stays some (omega (arith, within)) begins
+        on refl (sym (ap (option_map (λ (r : RuleNo). r.0)) is)) (λ less. ended)
 
 -- so it is told by the state
 pub is_told : (t : StateTable) (q : Place) (line : Bool) (start at : RowStart) (by_rule facts : List ℕ) (told : Told)
@@ -94,7 +94,8 @@ is_told t q line start at by_rule facts told all there found more initial lines 
     ∙ ap (λ xs. get_or xs (state_at at) 0) (sym all) ∙ found in
     let has = has_fact t by_rule (slice_index_or t.rules (state_at at) None) told.fact fact more in record {
       lexeme = record { rule = has.rule; matched = told.taken; taken = told.taken };
-      stands = told_there t q line start at told.taken has.rule initial lines begun some within on ended has.is has.whole;
+      stands = told_there t q line start at told.taken has.rule initial lines begun some within on ended has.is
+          has.whole;
       taken = refl;
       fact = has.fact;
       some = more;

@@ -24,8 +24,8 @@ fact_by t by_rule (Some rule) = if is_whole (cut_at t rule.0) then get_or by_rul
 abbrev pub facts_by : StateTable → List ℕ → List ℕ
 facts_by t by_rule = map (fact_by t by_rule) t.rules
 
--- A lexeme stands at a place, whatever comes behind the bytes that are known, and this is told of it: how many bytes are
--- taken, and the fact of its rule.
+-- A lexeme stands at a place, whatever comes behind the bytes that are known, and this is told of it: how many bytes
+-- are taken, and the fact of its rule.
 pub record IsTold (s : Scanner) (by_rule : List ℕ) (q : Place) (told : Told) : Type 0 where
   pub lexeme : Lexeme
   pub stands : StandsFast false s q lexeme

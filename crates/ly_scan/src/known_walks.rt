@@ -131,8 +131,8 @@ impl KnownWalks {
     }
 }
 
-/// Gives up what is known of places that have been passed, which can't be met any more, once so much is kept. Answers at
-/// how much that is done again: as much was put in by then as is looked through.
+/// Gives up what is known of places that have been passed, which can't be met any more, once so much is kept. Answers
+/// at how much that is done again: as much was put in by then as is looked through.
 fn give_up_passed(found: &mut HashMap<Stand, Longest>, full: usize, left: usize) -> usize
     ensures { (ahead : ℕ → Walk) (ended : Bool) (text : List ℕ) → AreKnown ahead ended text found.old.entries
         → AreKnown ahead ended text found.new.entries }

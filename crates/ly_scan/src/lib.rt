@@ -4,8 +4,8 @@
 //! the rule's cut leaves of it (`IsLexemeAt`), or says how the run ends there (`ScanEndsAt`): whatever comes behind the
 //! bytes that are known, or not yet. A `Matcher` does so where the bytes of a match come in pieces. `LoneBytes` tells
 //! some lexemes that are passed over by two bytes, without a walk.
-//! The program's one walk is that of a `Scanner`, which is plain rows (`StateTable`), and a `Lexer` runs it. Most lexemes
-//! of a text are told by the state where their walk ends (`Lexer::tell`), without their rule.
+//! The program's one walk is that of a `Scanner`, which is plain rows (`StateTable`), and a `Lexer` runs it. Most
+//! lexemes of a text are told by the state where their walk ends (`Lexer::tell`), without their rule.
 //!
 //! What walks over a text have shown is kept where they went far (`KnownWalks`), so that a text takes no more time than
 //! it is long, whatever the rules.

@@ -1,14 +1,14 @@
 -- The labels of tokens.
-use Rattle.std.proofs.Common.{◌≡◌, ◌≢◌, ◌∙◌, ◌<◌, ◌≤◌, ◌+◌, ℕ, zero, suc, List, [], ◌∷◌, ◌++◌, Option, None, Some, ap, sym}
-use Rattle.std.proofs.Common.{length, arith, false, get_or, refl, subst, take}
+use Rattle.std.proofs.Common.{◌≡◌, ◌≢◌, ◌∙◌, ◌<◌, ◌≤◌, ◌+◌, ℕ, zero, suc, List, [], ◌∷◌, ◌++◌, Option, None, Some, ap}
+use Rattle.std.proofs.Common.{length, arith, false, get_or, refl, subst, sym, take}
 use Rattle.std.proofs.lemmas.List.{take_more}
 use Rattle.std.proofs.lemmas.Bool.Decides.{nat_tests}
-use Rattle.std.specs.Prelude.{if◌then◌else◌, nat_eq, nat_le, option_and_then, option_map, slice_get, slice_index}
+use Rattle.std.specs.Prelude.{if◌then◌else◌, nat_eq, nat_le, option_map, slice_get, slice_index}
 use Rattle.ly_lexread.specs.declared.action.LexAction.{LexAction}
 use Rattle.ly_lexread.specs.declared.action.Returned.{Returned}
 use Rattle.ly_lexread.specs.declared.action.Returned.TheVariants.{FirstByte, Literal, Nothing, Token}
-use Rattle.ly_print.specs.Text.{before_leaf, literal, token}
-use Rattle.ly_tokens.specs.Printing.{condition_set, naming, terminal_for}
+use Rattle.ly_print.specs.Text.{before_leaf}
+use Rattle.ly_tokens.specs.Printing.{terminal_for}
 use Rattle.ly_tokens.specs.Private.Labels.{AreFacts, AreLabels, AreLiteralLabels, IsLabelOf, IsOwn, fact_for}
 use Rattle.ly_tokens.specs.Private.Labels.{label_at}
 
@@ -63,7 +63,8 @@ AreNumbers labels _ _ _ = ⊥
 
 -- one more, and more labels
 pub numbers_more : (labels more : List (List ℕ)) (actions : List LexAction) (numbers facts : List ℕ) (a : LexAction)
-    (n f : ℕ) → AreNumbers labels actions numbers facts → IsLabelOf (labels ++ more) a.returns n → (f ≡ fact_for a.begin n)
+    (n f : ℕ) → AreNumbers labels actions numbers facts → IsLabelOf (labels ++ more) a.returns n
+    → f ≡ fact_for a.begin n
     → AreNumbers (labels ++ more) (actions ++ a ∷ []) (numbers ++ n ∷ []) (facts ++ f ∷ [])
 numbers_more labels more [] [] [] a n f h is fact = (is, fact, tt)
 numbers_more labels more (b ∷ actions) (m ∷ numbers) (g ∷ facts) a n f h is fact = (

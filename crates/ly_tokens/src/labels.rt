@@ -3,7 +3,8 @@ ghost use Rattle.std.proofs.Props.{props};
 ghost use Rattle.ly_print.specs.Text.{before_leaf, named};
 ghost use Rattle.ly_tokens.specs.Answering.{names_by};
 ghost use Rattle.ly_tokens.specs.Printing.{condition_set, naming};
-ghost use Rattle.ly_tokens.specs.Private.Labels.{fact_for, label_at, AreFacts, AreLabels, AreLiteralLabels, IsLabelOf, IsOwn};
+ghost use Rattle.ly_tokens.specs.Private.Labels.{fact_for, label_at, AreFacts, AreLabels, AreLiteralLabels};
+ghost use Rattle.ly_tokens.specs.Private.Labels.{IsLabelOf, IsOwn};
 
 use crate::file_lexer::count_of;
 use crate::token_lines::condition_set;

@@ -15,8 +15,8 @@ use ly_base::{End, Place};
 use ly_scan::{KnownWalks, Lexer, Steps};
 use std::alloc::Global;
 
-/// How the run over a text ends, under so many conditions. Where each byte alone has a rule in each of them it is clean,
-/// whatever the text is; else the text is walked over once.
+/// How the run over a text ends, under so many conditions. Where each byte alone has a rule in each of them it is
+/// clean, whatever the text is; else the text is walked over once.
 pub(crate) fn run_end(
     alloc: Global,
     lexer: &Lexer,

@@ -25,8 +25,8 @@ SoFar actions s p q lines =
     (ts : List Lexeme) × LexedTo (IsLexemeAt s) (condition_set actions) p ts q
     × (lines ≡ printed (tokens_from (naming actions) p.at p.rest ts))
 
--- Lexemes lead from p on to q, and these are the lines of their tokens. What is known of the walks over what is left at p
--- is so of what is left at q.
+-- Lexemes lead from p on to q, and these are the lines of their tokens. What is known of the walks over what is left at
+-- p is so of what is left at q.
 pub record LeadsOn (actions : List LexAction) (s : Scanner) (p q : Place) (told : List ℕ) : Type 0 where
   pub so_far : SoFar actions s p q told
   pub fewer : length q.rest ≤ length p.rest

@@ -189,8 +189,8 @@ returns-in_err-push_end-in-Err-clause-cut_short g c =
       all_known actions s c.args.text.now here c.in-Err.field-0 c.args.end so_far.0 lines c.requires.ends
           (end_at s here true c.in-Err.field-0 c.in-Err.ensures.end) refl led,
       cut_from c.args.empty c.push_end.new.lines _ _ lines c.requires.none fault
-          (appended_twice c.args.empty c.write_told.new.lines c.push_end.new.lines _ _ _ so_far.0 (end_line c.args.end) tt
-          (Err fault) so_far.2 c.in_err-push_end-in-Err.ensures.text),
+          (appended_twice c.args.empty c.write_told.new.lines c.push_end.new.lines _ _ _ so_far.0
+          (end_line c.args.end) tt (Err fault) so_far.2 c.in_err-push_end-in-Err.ensures.text),
     )
 
 pub finish-requires : goal.finish-requires

@@ -1,10 +1,9 @@
-use Rattle.std.proofs.Common.{◌≡◌, ◌∙◌, ◌<◌, ◌*◌, ◌++◌, [], Err, None, ◌∷◌, ℕ, List, Ok, ap, append-nil, arith, drop, get_or, length}
+use Rattle.std.proofs.Common.{◌≡◌, ◌∙◌, ◌*◌, ◌++◌, [], Err, None, Ok, ap, append-nil, arith, drop, length}
 use Rattle.std.proofs.Common.{length-drop, refl, subst, sym, take}
 use Rattle.std.proofs.Math.Nat.{mul-le-mul_right}
-use Rattle.std.specs.Prelude.{Option, option_map, slice_index}
+use Rattle.std.specs.Prelude.{slice_index}
 use Rattle.ly_base.specs.Lexed.{Place, moved}
-use Rattle.ly_print.specs.Text.{Terminal, before_leaf}
-use Rattle.ly_print.specs.TextWriter.{IsUnderway, bytes_of}
+use Rattle.ly_print.specs.TextWriter.{IsUnderway}
 use Rattle.ly_print.proofs.TextWriterLemmas.{appended_twice, err_is}
 use Rattle.ly_scan.specs.Lexers.{scanner_of}
 use Rattle.ly_tokens.specs.Printing.{line_if, naming}
@@ -53,8 +52,8 @@ push_told-requires g c =
     let first = c.first_of-first in
     let line = line_by (label_at labels.labels.items told.fact first.result) token in
     let same : line ≡ line_if (naming actions is.lexeme.rule.0 token) token
-    = told_line actions labels.facts.items labels.labels.items is.lexeme.rule.0 told.fact first.result told.taken here.rest
-    token labels.told is.fact is.some by (omega (arith, is.stands.some, is.taken))
+    = told_line actions labels.facts.items labels.labels.items is.lexeme.rule.0 told.fact first.result told.taken
+    here.rest token labels.told is.fact is.some by (omega (arith, is.stands.some, is.taken))
     (first.ensures ∙ ap (λ xs. slice_index xs 0) c.rest-rest.ensures) first.type_inv in
     record {
       countable = omega (
