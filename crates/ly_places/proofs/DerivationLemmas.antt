@@ -46,10 +46,10 @@ use Rattle.ly_tree.specs.Term.{Term, build}
 use Rattle.ly_tree.specs.declared.forest.TermRef.{TermRef}
 
 module _ (m : Machine) (is_machine : IsMachine m) where
-  abbrev own : ℕ → Shape
+  abbrev pub own : ℕ → Shape
   own = shape_of_rule m.rules
 
-  abbrev kept : ℕ → Shape
+  abbrev pub kept : ℕ → Shape
   kept = shape_of_rule (map keeping_rule m.rules)
 
   -- What both machines do with a token, on stacks of the same trees.
@@ -73,12 +73,12 @@ module _ (m : Machine) (is_machine : IsMachine m) where
       }
 
   -- What both read.
-  record AreRead (stack : List TreeLevel) (tokens : List (Token ℕ)) (last : List Level) : Type 0 where
-    on : List TreeLevel
-    same : last ≡ levels_by kept on
-    reads : ReadsTokens m (levels_by own stack) tokens (levels_by own on)
-    yields : yields_on on ≡ yields_on stack ++ tokens
-    fit : AllFitOn m.rules on
+  pub record AreRead (stack : List TreeLevel) (tokens : List (Token ℕ)) (last : List Level) : Type 0 where
+    pub on : List TreeLevel
+    pub same : last ≡ levels_by kept on
+    pub reads : ReadsTokens m (levels_by own stack) tokens (levels_by own on)
+    pub yields : yields_on on ≡ yields_on stack ++ tokens
+    pub fit : AllFitOn m.rules on
 
   -- the trees behind a token that is read
   record IsRead (token : Token ℕ) (stack : List TreeLevel) (next : List Level) : Type 0 where
@@ -101,7 +101,7 @@ module _ (m : Machine) (is_machine : IsMachine m) where
       by_fed trees.refused is feeds grown = absurd cc
       by_fed trees.faulty is feeds grown = absurd cc
 
-  all_read : {levels last : List Level} {tokens : List (Token ℕ)} (stack : List TreeLevel)
+  pub all_read : {levels last : List Level} {tokens : List (Token ℕ)} (stack : List TreeLevel)
       → levels ≡ levels_by kept stack → AllFitOn m.rules stack → ReadsTokens (keeping_machine m) levels tokens last
       → AreRead stack tokens last
   all_read stack same fit at_end
@@ -119,13 +119,13 @@ module _ (m : Machine) (is_machine : IsMachine m) where
       }
 
   -- A tree that is accepted.
-  record IsAccepted (token : Token ℕ) (stack : List TreeLevel) (t : Term) : Type 0 where
-    tree : Tree
-    same : t ≡ build kept tree
-    feeds : Feeds m token (levels_by own stack) (terms.done (build own tree))
-    on_top : IsOnTop m.rules stack tree
+  pub record IsAccepted (token : Token ℕ) (stack : List TreeLevel) (t : Term) : Type 0 where
+    pub tree : Tree
+    pub same : t ≡ build kept tree
+    pub feeds : Feeds m token (levels_by own stack) (terms.done (build own tree))
+    pub on_top : IsOnTop m.rules stack tree
 
-  one_accepted : {token : Token ℕ} {levels : List Level} {t : Term} (stack : List TreeLevel)
+  pub one_accepted : {token : Token ℕ} {levels : List Level} {t : Term} (stack : List TreeLevel)
       → levels ≡ levels_by kept stack → AllFitOn m.rules stack → Feeds (keeping_machine m) token levels (terms.done t)
       → IsAccepted token stack t
   one_accepted {token} {t = t} stack same fit f =
@@ -138,7 +138,7 @@ module _ (m : Machine) (is_machine : IsMachine m) where
       by_fed trees.refused is feeds grown = absurd cc
       by_fed trees.faulty is feeds grown = absurd cc
 
-  one_refused : {token : Token ℕ} {levels : List Level} (stack : List TreeLevel) → levels ≡ levels_by kept stack
+  pub one_refused : {token : Token ℕ} {levels : List Level} (stack : List TreeLevel) → levels ≡ levels_by kept stack
       → AllFitOn m.rules stack → Feeds (keeping_machine m) token levels terms.refused
       → Feeds m token (levels_by own stack) terms.refused
   one_refused {token} stack same fit f =
@@ -151,7 +151,7 @@ module _ (m : Machine) (is_machine : IsMachine m) where
       by_fed (trees.pushed on) is feeds = absurd cc
       by_fed trees.faulty is feeds = absurd cc
 
-  one_fault : {token : Token ℕ} {levels : List Level} (stack : List TreeLevel) → levels ≡ levels_by kept stack
+  pub one_fault : {token : Token ℕ} {levels : List Level} (stack : List TreeLevel) → levels ≡ levels_by kept stack
       → AllFitOn m.rules stack → Feeds (keeping_machine m) token levels terms.faulty
       → Feeds m token (levels_by own stack) terms.faulty
   one_fault {token} stack same fit f =
@@ -302,13 +302,9 @@ module _ (s : TableSet) (text : List ℕ) (is_machine : IsMachine (machine_of s)
   fault_with k w forest (faults.Write written) (Err x) same_machine same_start closed is = absurd closed
 
 -- the tables of a set with rules that keep their bodies
-pub kept_tables : (k m : Machine) (given made kept : List code.TableRule) → k ≡ m → k.rules ≡ map rule_from given
-    → map rule_from made ≡ map keeping_rule (map rule_from given) → kept ≡ made
-    → with_rules k (map rule_from kept) ≡ keeping_machine m
-kept_tables k m given made kept same of_machine of_rules here =
-    let rules : map rule_from kept ≡ map keeping_rule m.rules = ap (map rule_from) here ∙ (of_rules
-    ∙ ap (map keeping_rule) (sym of_machine ∙ ap (λ x. x.rules) same)) in
-    λ i. with_rules (same i) (rules i)
+pub kept_tables : (k m : Machine) (kept : List code.TableRule) → k ≡ m
+    → map rule_from kept ≡ map keeping_rule m.rules → with_rules k (map rule_from kept) ≡ keeping_machine m
+kept_tables k m kept same of_rules = λ i. with_rules (same i) (of_rules i)
 
 -- a parser that has read nothing, at the start of a text
 pub starts : (text : List ℕ) (q : Place) (s : Parse) → q ≡ start_of text → s.stack ≡ [] → s.count ≡ 0

@@ -15,6 +15,7 @@ pub mod PlacingLemmas
 pub mod PrintingLemmas
 pub mod SizeLemmas
 pub mod SpanLemmas
+pub mod TokenLemmas
 pub mod TreeFeeding
 pub mod TreeYields
 pub mod WithinLemmas

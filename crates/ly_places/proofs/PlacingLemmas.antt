@@ -28,11 +28,15 @@ use Rattle.ly_places.specs.PlacedAnswer.{accepted, placed_line, IsPlacedBy, IsPl
 use Rattle.ly_places.specs.PlacedAnswer.{PlacedVerdict}
 use Rattle.ly_places.specs.PlacedJson.{placed_json}
 use Rattle.ly_places.specs.Private.Derived.{IsDerivationOf}
+use Rattle.ly_places.specs.Private.TokenDerived.{IsDerivationOver}
 use Rattle.ly_places.specs.Shapes.{shape_of_rule}
+use Rattle.ly_places.specs.TokenAnswer.{IsPlacedOver, IsPlacedTokenVerdict, IsTokenVerdict}
 use Rattle.ly_places.specs.Within.{StandsWithin}
 use Rattle.ly_places.specs.declared.derivation.Derivation.{Derivation}
 use Rattle.ly_places.specs.declared.part.Part.{Part}
 use Rattle.ly_tables.specs.TableSet.{TableSet}
+use Rattle.ly_tree.specs.Forest.{Grown}
+use Rattle.ly_tree.specs.declared.forest.TermRef.{TermRef}
 
 -- the line of what is wrong with a text
 pub flaw_told : {A E : Type 0} (r : Result A E) (items : A → List ℕ) (s : TableSet) (text : List ℕ)
@@ -66,28 +70,31 @@ plain_flaw s text (answer.unmatched byte) flaw is same = subst (IsVerdict s text
 plain_flaw s text answer.faulty (Refused number token expected) is same = absurd cc
 plain_flaw s text answer.faulty (NoRule byte) is same = absurd cc
 
+-- the parts of derivations, by tokens and rules that are said to be these
+pub parts_made : {A E : Type 0} (r : Result A E) (items : A → List Part) (f : Grown) (root : TermRef)
+    (given tokens : List Extent) (listed rules : List TableRule) → given ≡ tokens → listed ≡ rules
+    → IfOk r (λ parts. (before : List (Token ℕ)) (d : Tree) → IsDerived f root given listed before d
+    → items parts ≡ parts_of (placed (shape_of_rule listed) (end_behind before) d))
+    → IfOk r (λ parts. (before : List (Token ℕ)) (d : Tree) → IsDerived f root tokens rules before d
+    → items parts ≡ parts_of (placed (shape_of_rule rules) (end_behind before) d))
+parts_made r items f root given tokens listed rules same_tokens same_rules h =
+    subst (λ ts. IfOk r (λ parts. (before : List (Token ℕ)) (d : Tree) → IsDerived f root ts rules before d
+    → items parts ≡ parts_of (placed (shape_of_rule rules) (end_behind before) d))) same_tokens
+    (subst (λ rs. IfOk r (λ parts. (before : List (Token ℕ)) (d : Tree) → IsDerived f root given rs before d
+    → items parts ≡ parts_of (placed (shape_of_rule rs) (end_behind before) d))) same_rules h)
+
 module _ (s : TableSet) (text : List ℕ) (x : Derivation) (h : IsDerivationOf s text x) where
   -- the term of a derivation, with its places
   abbrev pub placed_of : Placed
   placed_of = placed (shape_of_rule s.rules) (end_behind h.derived.before) h.tree
 
   -- it is what the derivation stands for
-  is_derived : (tokens : List Extent) → tokens ≡ x.tokens.items
-      → IsDerived x.forest x.root tokens s.rules h.derived.before h.tree
-  is_derived tokens at = record {
+  pub is_derived : IsDerived x.forest x.root x.tokens.items s.rules h.derived.before h.tree
+  is_derived = record {
     stands = h.root;
     fits = h.derived.fits;
-    extents = ap (map extent_of) (sym h.derived.yields) ∙ (sym h.extents ∙ sym at);
+    extents = ap (map extent_of) (sym h.derived.yields) ∙ sym h.extents;
   }
-
-  -- its parts are listed
-  pub listed_so : (rules : List TableRule) → s.rules ≡ rules → (tokens : List Extent) → tokens ≡ x.tokens.items
-      → (parts : List Part) → ((before : List (Token ℕ)) (d : Tree) → IsDerived x.forest x.root tokens rules before d
-      → parts ≡ parts_of (placed (shape_of_rule rules) (end_behind before) d)) → parts ≡ parts_of placed_of
-  listed_so rules same tokens at parts told =
-      told h.derived.before h.tree (subst (λ rs. IsDerived x.forest x.root tokens rs h.derived.before h.tree) same
-      (is_derived tokens at))
-      ∙ ap (λ rs. parts_of (placed (shape_of_rule rs) (end_behind h.derived.before) h.tree)) (sym same)
 
   -- it is placed by the set
   pub is_placed : IsPlacedBy s text placed_of
@@ -101,15 +108,30 @@ module _ (s : TableSet) (text : List ℕ) (x : Derivation) (h : IsDerivationOf s
     stands = refl;
   }
 
-  -- so its parts are those of a placed term
-  pub parts_placed : {A E : Type 0} (r : Result A E) (items : A → List Part) (rules : List TableRule)
-      → s.rules ≡ rules → (tokens : List Extent) → tokens ≡ x.tokens.items
-      → IfOk r (λ parts. (before : List (Token ℕ)) (d : Tree) → IsDerived x.forest x.root tokens rules before d
-      → items parts ≡ parts_of (placed (shape_of_rule rules) (end_behind before) d))
-      → IfOk r (λ parts. (t : Placed) × IsPlacedBy s text t × (items parts ≡ parts_of t))
-  parts_placed (Ok parts) items rules same tokens at told =
-      (placed_of, is_placed, listed_so rules same tokens at (items parts) told)
-  parts_placed (Err e) items rules same tokens at told = tt
+-- The same of tokens over a text.
+module _ (s : TableSet) (text : List ℕ) (tokens : List (Token ℕ)) (x : Derivation)
+    (h : IsDerivationOver s text tokens x) where
+  abbrev pub placed_over : Placed
+  placed_over = placed (shape_of_rule s.rules) (end_behind h.before) h.tree
+
+  pub derived_over : IsDerived x.forest x.root x.tokens.items s.rules h.before h.tree
+  derived_over = record {
+    stands = h.root;
+    fits = h.fits;
+    extents = ap (map extent_of) (sym h.yields) ∙ sym h.extents;
+  }
+
+  pub is_placed_over : IsPlacedOver s text tokens placed_over
+  is_placed_over
+      = record { before = h.before; tree = h.tree; yields = h.yields; says = h.says; stands = refl }
+
+-- what is wrong with tokens is said with places too
+pub placed_token_flaw : (s : TableSet) (text : List ℕ) (tokens : List (Token ℕ)) (flaw : Flaw)
+    → IsTokenVerdict s text tokens (verdict_of flaw) → (v : PlacedVerdict) × IsPlacedTokenVerdict s text tokens v
+    × (answer.verdict_of text v ≡ verdict_of flaw)
+placed_token_flaw s text tokens (Refused number token expected) is =
+    (answer.refused number (token_of token) (map (λ s. s.0) expected.items), is, refl)
+placed_token_flaw s text tokens (NoRule byte) is = absurd is
 
 module _ (s : TableSet) (text : List ℕ) (t : Placed) (h : IsPlacedBy s text t) where
   -- a placed term stands in the text

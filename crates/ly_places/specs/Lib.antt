@@ -9,4 +9,5 @@ pub mod PlacedLaws
 pub mod Placing
 pub mod Private
 pub mod Shapes
+pub mod TokenAnswer
 pub mod Within

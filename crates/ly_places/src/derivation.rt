@@ -1,13 +1,15 @@
-ghost use Rattle.std.specs.Prelude.{IfOk};
+ghost use Rattle.std.specs.Prelude.{◌≡◌, IfOk, map};
 ghost use Rattle.ly_feed.specs.LexerOf.{IsLexerOf};
 ghost use Rattle.ly_feed.specs.ScanPart.{scan_part_of};
+ghost use Rattle.ly_pack.specs.Values.{rule_from};
 ghost use Rattle.ly_places.specs.Private.Derived.{AreExtents, IsDerived};
+ghost use Rattle.ly_places.specs.Shapes.{keeping_rule};
 
-use crate::keeping::keeping_rules;
+use crate::keeping_parser::keeping_parser;
 use ly_base::{OutOfMemory, Place, ScanAction};
 use ly_extents::Extent;
-use ly_feed::{Ended, Flaw, TextFault, lexer_of, meaning, run_to_end};
-use ly_parse::Parser;
+use ly_feed::{Ended, Flaw, TextFault, meaning, run_to_end};
+use ly_pack::TableRule;
 use ly_scan::{KnownWalks, Lexer};
 use ly_tables::TableSet;
 use ly_tree::{Forest, TermRef};
@@ -36,21 +38,23 @@ pub(crate) enum Derived<'t> {
 /// The derivation of a text by a table set, or what is wrong with the text. Its tokens are listed by a run of the lexer
 /// of their own, so that the run with the parser is that of every other answer.
 ///
-/// It fails with `FaultyTables`, and with `OutOfMemory`.
+/// The lexer and the rules are those of the set; these keep all of their bodies. It fails with `FaultyTables`, and with
+/// `OutOfMemory`.
 pub(crate) fn derive<'t>(
     alloc: Global,
     set: &TableSet,
+    lexer: &Lexer,
+    rules: &[TableRule],
     text: &'t [u8],
 ) -> Result<Derived<'t>, TextFault>
+    requires lexer { IsLexerOf (scan_part_of set.now) lexer.now }
+    requires rules { map rule_from rules.now ≡ map keeping_rule set.now.rules }
     ensures { IsDerived set.now text.now result }
 {
-    let lexer = lexer_of(alloc, set)?;
-    let machine = set.machine();
-    let rules = keeping_rules(alloc, machine.rules())?;
-    let mut parser = Parser::new(alloc, machine.with_rules(&rules));
-    match run_to_end(alloc, set, &lexer, &mut parser, Place::start(text))? {
+    let mut parser = keeping_parser(alloc, set, rules);
+    match run_to_end(alloc, set, lexer, &mut parser, Place::start(text))? {
         Ended::Accepted(root) => {
-            let tokens = token_extents(alloc, set, &lexer, text)?;
+            let tokens = token_extents(alloc, set, lexer, text)?;
             Ok(Derived::Accepted(Derivation {
                 forest: parser.into_forest(),
                 root,

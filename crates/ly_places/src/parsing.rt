@@ -1,17 +1,26 @@
-ghost use Rattle.std.specs.Prelude.{◌≡◌, Err, IfErr, IfOk};
+ghost use Rattle.std.specs.Prelude.{◌≡◌, ℕ, List, Err, IfErr, IfOk, map};
+ghost use Rattle.ly_base.specs.Lexed.{Token};
+ghost use Rattle.ly_base.specs.Trees.{Tree};
+ghost use Rattle.ly_feed.specs.LexerOf.{IsLexerOf};
+ghost use Rattle.ly_feed.specs.ScanPart.{scan_part_of};
 ghost use Rattle.ly_feed.specs.TableAnswer.{IsVerdict};
 ghost use Rattle.ly_feed.specs.Verdict.{faulty};
+ghost use Rattle.ly_pack.specs.Values.{rule_from};
 ghost use Rattle.ly_places.specs.Parsing.{IsOfParsing, IsParsedAs};
-ghost use Rattle.ly_places.specs.PlacedAnswer.{IsPlacedBy, IsPlacedVerdict, PlacedVerdict};
+ghost use Rattle.ly_places.specs.Derived.{IsDerived};
+ghost use Rattle.ly_places.specs.PlacedAnswer.{IsPlacedVerdict, PlacedVerdict};
 ghost use Rattle.ly_places.specs.Parts.{parts_of};
-ghost use Rattle.ly_places.specs.Placed.{Placed};
-ghost use Rattle.ly_places.specs.Private.Derived.{IsDerivationOf};
+ghost use Rattle.ly_places.specs.Placed.{end_behind, placed};
+ghost use Rattle.ly_places.specs.Shapes.{keeping_rule, shape_of_rule};
 
 use crate::derivation::{Derivation, Derived, derive};
 use crate::flattening::parts_of;
+use crate::keeping_parser::rules_of;
 use crate::part::Part;
 use ly_base::OutOfMemory;
-use ly_feed::{Flaw, TextFault};
+use ly_feed::{Flaw, TextFault, lexer_of};
+use ly_pack::TableRule;
+use ly_scan::Lexer;
 use ly_tables::TableSet;
 use std::alloc::Global;
 
@@ -33,23 +42,46 @@ pub fn parse<'t>(alloc: Global, set: &TableSet, text: &'t [u8]) -> Result<Parsed
     ensures faulty { result ≡ Err TextFault.FaultyTables → IsVerdict set.now text.now faulty }
     ensures ending { IfErr result IsOfParsing }
 {
-    match derive(alloc, set, text)? {
+    let lexer = lexer_of(alloc, set)?;
+    let rules = rules_of(alloc, set)?;
+    parse_by(alloc, set, &lexer, &rules, text)
+}
+
+/// The same by the lexer of the set, and by its rules, which keep all of their bodies.
+pub(crate) fn parse_by<'t>(
+    alloc: Global,
+    set: &TableSet,
+    lexer: &Lexer,
+    rules: &[TableRule],
+    text: &'t [u8],
+) -> Result<Parsed<'t>, TextFault>
+    requires lexer { IsLexerOf (scan_part_of set.now) lexer.now }
+    requires rules { map rule_from rules.now ≡ map keeping_rule set.now.rules }
+    ensures parsed { IfOk result (λ p. (v : PlacedVerdict) × IsPlacedVerdict set.now text.now v
+        × IsParsedAs text.now v p) }
+    ensures faulty { result ≡ Err TextFault.FaultyTables → IsVerdict set.now text.now faulty }
+    ensures ending { IfErr result IsOfParsing }
+{
+    match derive(alloc, set, lexer, rules, text)? {
         Derived::Accepted(derivation) => {
-            Ok(Parsed::Tree(parts_by(alloc, set, text, derivation)?))
+            let parts = parts_by(alloc, set, derivation)?;
+            Ok(Parsed::Tree(parts))
         }
         Derived::Refused(flaw) => Ok(Parsed::Refused(flaw)),
     }
 }
 
-/// The parts of the tree that a text has by a derivation of it.
-fn parts_by(
+/// The parts of the tree that the rules of a set make of a derivation.
+pub(crate) fn parts_by(
     alloc: Global,
     set: &TableSet,
-    text: &[u8],
     derivation: Derivation,
 ) -> Result<Vec<Part>, OutOfMemory>
-    requires { IsDerivationOf set.now text.now derivation }
-    ensures { IfOk result (λ parts. (t : Placed) × IsPlacedBy set.now text.now t × (parts.items ≡ parts_of t)) }
+    requires { (before : List (Token ℕ)) × (d : Tree)
+        × IsDerived derivation.forest derivation.root derivation.tokens.items set.now.rules before d }
+    ensures { IfOk result (λ parts. (before : List (Token ℕ)) (d : Tree)
+        → IsDerived derivation.forest derivation.root derivation.tokens.items set.now.rules before d
+        → parts.items ≡ parts_of (placed (shape_of_rule set.now.rules) (end_behind before) d)) }
 {
     let Derivation {
         forest,

@@ -1,0 +1,25 @@
+use Rattle.std.proofs.Common.{refl, subst}
+use Rattle.std.specs.Prelude.{Ok}
+use Rattle.ly_places.proofs.PlacingLemmas.{is_derived, is_placed, placed_flaw, placed_of}
+use Rattle.ly_places.specs.PlacedAnswer.{accepted}
+use Rattle.ly_places.specs.Private.Derived.{IsDerivationOf, IsDerived}
+use Rattle.ly_places.proofs.parsing.parse_by.Goals as goal
+
+pub returns-in_ok-parts-in-Accepted-clause-parsed : goal.returns-in_ok-parts-in-Accepted-clause-parsed
+returns-in_ok-parts-in-Accepted-clause-parsed c =
+    let s = c.args.set.now in
+    let text = c.args.text.now in
+    let x = c.in-Accepted.derivation in
+    let h : IsDerivationOf s text x
+    = subst (λ d. IsDerived s text (Ok d)) c.in-Accepted.is c.in_ok-derivation.ensures in (
+      accepted (placed_of s text x h),
+      is_placed s text x h,
+      (placed_of s text x h, refl, c.in_ok-parts-in-Accepted.ensures h.derived.before h.tree (is_derived s text x h)),
+    )
+
+pub returns-in-Refused-clause-parsed : goal.returns-in-Refused-clause-parsed
+returns-in-Refused-clause-parsed c =
+    let s = c.args.set.now in
+    let text = c.args.text.now in
+    placed_flaw s text c.in-Refused.flaw
+    (subst (λ d. IsDerived s text (Ok d)) c.in-Refused.is c.in_ok-derivation.ensures)

@@ -1,0 +1,33 @@
+ghost use Rattle.std.specs.Prelude.{◌≡◌, length};
+ghost use Rattle.ly_extents.specs.Extents.{IsWithin};
+ghost use Rattle.ly_places.specs.TokenAnswer.{token_over};
+ghost use Rattle.ly_feed.specs.Flaw.{token_of};
+
+use ly_base::Sym;
+use ly_extents::Extent;
+use ly_parse::Token;
+use ly_print::Front;
+
+/// A token over a text, whoever found it.
+#[derive(Clone, Copy, Debug, PartialEq, Eq)]
+pub struct PlacedToken {
+    /// Its terminal.
+    pub terminal: Sym,
+    /// Where it stands in the text.
+    pub extent: Extent,
+}
+
+impl PlacedToken {
+    /// The token with its bytes, as a parser is fed with it.
+    pub(crate) fn over<'t>(&self, text: &'t [u8]) -> Token<'t>
+        requires { IsWithin (length text.now) self.now.extent }
+        ensures { token_of result ≡ token_over text.now self.now }
+    {
+        let Extent { start, end } = self.extent;
+        Token {
+            terminal: self.terminal,
+            at: start as u64,
+            text: Front::new(&text[start..], end - start),
+        }
+    }
+}

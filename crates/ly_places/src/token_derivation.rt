@@ -1,0 +1,135 @@
+//! The derivation of tokens over a text that are given.
+ghost use Rattle.std.specs.Prelude.{◌≡◌, ◌<◌, [], false, length, map, All, IfOk};
+ghost use Rattle.ly_pack.specs.Machine.{IsMachine};
+ghost use Rattle.ly_pack.specs.Values.{rule_from};
+ghost use Rattle.ly_places.specs.Private.TokenDerived.{AreReadOver, IsEndRead, IsTokenDerived};
+ghost use Rattle.ly_places.specs.Shapes.{keeping_rule};
+ghost use Rattle.ly_places.specs.TokenAnswer.{token_over, IsTokenOver};
+
+use crate::derivation::{Derivation, Derived};
+use crate::keeping_parser::keeping_parser;
+use crate::placed_token::PlacedToken;
+use ly_base::{OutOfMemory, Sym};
+use ly_extents::Extent;
+use ly_feed::{Ended, Flaw, TableParser, TextFault};
+use ly_pack::TableRule;
+use ly_parse::{ParseFault, Step, Token};
+use ly_print::Front;
+use ly_tables::TableSet;
+use std::alloc::Global;
+
+/// The derivation of tokens over a text by a table set, or what is wrong with them. The rules are those of the set, and
+/// keep all of their bodies.
+///
+/// It fails with `FaultyTables`, and with `OutOfMemory`.
+pub(crate) fn derive_tokens<'t>(
+    alloc: Global,
+    set: &TableSet,
+    rules: &[TableRule],
+    text: &'t [u8],
+    tokens: &[PlacedToken],
+) -> Result<Derived<'t>, TextFault>
+    requires rules { map rule_from rules.now ≡ map keeping_rule set.now.rules }
+    requires tokens { All (IsTokenOver (length set.now.terminals) (length text.now)) tokens.now }
+    ensures { IsTokenDerived set.now text.now (map (token_over text.now) tokens.now) result }
+{
+    let mut parser = keeping_parser(alloc, set, rules);
+    if let Some(flaw) = read_tokens(&mut parser, text, tokens)? {
+        return Ok(Derived::Refused(flaw));
+    }
+    match read_end(&mut parser, text)? {
+        Ended::Accepted(root) => {
+            let tokens = extents_of(alloc, tokens)?;
+            Ok(Derived::Accepted(Derivation {
+                forest: parser.into_forest(),
+                root,
+                tokens,
+            }))
+        }
+        Ended::Refused(flaw) => Ok(Derived::Refused(flaw)),
+    }
+}
+
+/// Where tokens stand.
+fn extents_of(alloc: Global, tokens: &[PlacedToken]) -> Result<Vec<Extent>, OutOfMemory>
+    ensures { IfOk result (λ extents. extents.items ≡ map (λ t. t.extent) tokens.now) }
+{
+    Ok(tokens.iter().map(|token| token.extent).collect(alloc)?)
+}
+
+/// Feeds a parser that has read nothing with tokens over a text, up to the first one that it refuses. It answers what
+/// is wrong with that.
+fn read_tokens<'t>(
+    parser: &mut TableParser<'_>,
+    text: &'t [u8],
+    tokens: &[PlacedToken],
+) -> Result<Option<Flaw<'t>>, TextFault>
+    requires machine { IsMachine parser.old.machine }
+    requires empty { parser.old.stack ≡ [] }
+    requires none { parser.old.count ≡ 0 }
+    requires goes_on { parser.old.over ≡ false }
+    requires tokens { All (IsTokenOver parser.old.machine.terminals (length text.now)) tokens.now }
+    ensures read { AreReadOver parser.old.machine (map (token_over text.now) tokens.now) parser.new result }
+    ensures machine { parser.new.machine ≡ parser.old.machine }
+{
+    for given in tokens {
+        let token = given.over(text);
+        match parser.feed(&token) {
+            Ok(Step::More) => {}
+            Ok(
+                Step::Refused {
+                    token: number,
+                    expected,
+                    ..
+                },
+            ) => {
+                return Ok(Some(Flaw::Refused {
+                    number,
+                    token,
+                    expected,
+                }));
+            }
+            Err(ParseFault::FaultyTables) => return Err(TextFault::FaultyTables),
+            Err(ParseFault::OutOfMemory) => return Err(TextFault::OutOfMemory),
+            // the end alone is accepted
+            Ok(Step::Done(_)) => unreachable!(),
+            // and behind a token that is read the parse isn't over
+            Err(ParseFault::Over) => unreachable!(),
+        }
+    }
+    Ok(None)
+}
+
+/// Feeds a parser with the end of a text.
+fn read_end<'t>(parser: &mut TableParser<'_>, text: &'t [u8]) -> Result<Ended<'t>, TextFault>
+    requires goes_on { parser.old.over ≡ false }
+    requires terminals { 0 < parser.old.machine.terminals }
+    ensures { IsEndRead parser.old text.now parser.new.forest result }
+{
+    let at = text.len() as u64;
+    match parser.end(at) {
+        Ok(Step::Done(root)) => Ok(Ended::Accepted(root)),
+        Ok(
+            Step::Refused {
+                token: number,
+                expected,
+                ..
+            },
+        ) => {
+            let token = Token {
+                terminal: Sym(0),
+                at,
+                text: Front::new(text, 0),
+            };
+            Ok(Ended::Refused(Flaw::Refused {
+                number,
+                token,
+                expected,
+            }))
+        }
+        Err(ParseFault::FaultyTables) => Err(TextFault::FaultyTables),
+        Err(ParseFault::OutOfMemory) => Err(TextFault::OutOfMemory),
+        // the end is never read, and the parse isn't over
+        Ok(Step::More) | Err(ParseFault::Over) => unreachable!(),
+    }
+}

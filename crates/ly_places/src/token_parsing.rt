@@ -1,0 +1,38 @@
+ghost use Rattle.std.specs.Prelude.{◌≡◌, Err, IfErr, IfOk, length, map, All};
+ghost use Rattle.ly_feed.specs.Verdict.{faulty};
+ghost use Rattle.ly_places.specs.Parsing.{IsOfParsing, IsParsedAs};
+ghost use Rattle.ly_places.specs.PlacedAnswer.{PlacedVerdict};
+ghost use Rattle.ly_places.specs.TokenAnswer.{token_over, IsPlacedTokenVerdict, IsTokenOver, IsTokenVerdict};
+
+use crate::derivation::Derived;
+use crate::keeping_parser::rules_of;
+use crate::parsing::{Parsed, parts_by};
+use crate::placed_token::PlacedToken;
+use crate::token_derivation::derive_tokens;
+use ly_feed::TextFault;
+use ly_tables::TableSet;
+use std::alloc::Global;
+
+/// The parts of the tree that tokens over a text have by a table set, with where they stand, or what is wrong with
+/// them: what the set's parser says of just these tokens. Its scanner doesn't run.
+///
+/// Its faults are `FaultyTables` and `OutOfMemory` of `TextFault`.
+pub fn parse_tokens<'t>(
+    alloc: Global,
+    set: &TableSet,
+    text: &'t [u8],
+    tokens: &[PlacedToken],
+) -> Result<Parsed<'t>, TextFault>
+    requires { All (IsTokenOver (length set.now.terminals) (length text.now)) tokens.now }
+    ensures parsed { IfOk result (λ p. (v : PlacedVerdict)
+        × IsPlacedTokenVerdict set.now text.now (map (token_over text.now) tokens.now) v × IsParsedAs text.now v p) }
+    ensures faulty { result ≡ Err TextFault.FaultyTables
+        → IsTokenVerdict set.now text.now (map (token_over text.now) tokens.now) faulty }
+    ensures ending { IfErr result IsOfParsing }
+{
+    let rules = rules_of(alloc, set)?;
+    match derive_tokens(alloc, set, &rules, text, tokens)? {
+        Derived::Accepted(derivation) => { Ok(Parsed::Tree(parts_by(alloc, set, derivation)?)) }
+        Derived::Refused(flaw) => Ok(Parsed::Refused(flaw)),
+    }
+}
