@@ -10,7 +10,7 @@ use Rattle.ly_resolve.specs.Actions.{to_reduce, to_shift, unsettled}
 use Rattle.ly_resolve.specs.Conflicts.{Conflict, CountsAs, IsConflict, Kind, reduce_reduce, shift_reduce}
 use Rattle.ly_examples.specs.Demands.{Follows, at_start, by_step}
 use Rattle.ly_examples.specs.Laws.{ConflictsOpen, ExamplesFollow, ShiftsHaveExamples}
-use Rattle.ly_examples.specs.Examples.{IsExample, IsPossible, rival}
+use Rattle.ly_examples.specs.Examples.{IsExample, IsPlaceOf, IsPossible, rival}
 use Rattle.ly_examples.specs.declared.claim.Claim.{Claim}
 use Rattle.ly_examples.specs.declared.claim.Claim.TheVariants.{Settled, With}
 use Rattle.ly_examples.specs.declared.claim.Demand.{Demand}
@@ -55,6 +55,37 @@ module _ (M : Lr0Automaton) (is : IsLr0Automaton M) (t : ℕ) where
       subst (λ d. (n : ℕ) × IsTrueIn M.grammar t n g d) (sym claims.0) (0, tt)
   possible_action prefix g (reduce p) c claims possible = possible_whole g p c claims possible
   possible_action prefix g error c claims possible = absurd claims
+
+-- a string that leads to the state of the demand has the core of the conflict's prefix
+merges_there : (M : Lr0Automaton) → IsLr0Automaton M → (c : Conflict) (d : Demand) (g : List Symbol) → Opens M c d
+    → Reaches (goto_of M) 0 g d.state.0 → Merges M.grammar c.prefix g
+merges_there M is c d g opens leads = record {
+  left = is.cores.only c.prefix d.state.0 opens.leads;
+  right = is.cores.only g d.state.0 leads;
+  cores = is.cores.same c.prefix g d.state.0 opens.leads leads;
+}
+
+-- where a demand for its rule alone is met, that is possible
+pub place_of_rule : (M : Lr0Automaton) → IsLr0Automaton M → (c : Conflict) (d e : Demand) (g : List Symbol)
+    → Opens M c d → e.state ≡ d.state → e.first ≡ d.first → IsMet M c.terminal g e
+    → IsPlaceOf M.grammar c (reduce c.rule) g
+place_of_rule M is c d e g opens state first met = record {
+  merges = merges_there M is c d g opens (subst (λ s. Reaches (goto_of M) 0 g s.0) state met.leads);
+  possible = whole_possible M is c.terminal g c.rule d.first opens.first
+      (subst (λ f. (n : ℕ) × IsTrueIn M.grammar c.terminal n g f) first met.first);
+}
+
+-- and where one for its rival alone is met, that is
+pub place_of_rival : (M : Lr0Automaton) → IsLr0Automaton M → (c : Conflict) (d e : Demand) (g : List Symbol)
+    → Opens M c d → e.state ≡ d.state → e.second ≡ d.second → IsMet M c.terminal g e
+    → IsPlaceOf M.grammar c (rival c.kind c.choice) g
+place_of_rival M is c d e g opens state second met =
+    let merges = merges_there M is c d g opens (subst (λ s. Reaches (goto_of M) 0 g s.0) state met.leads) in
+    record {
+      merges = merges;
+      possible = action_possible M is c.terminal c.prefix g (rival c.kind c.choice) d.second merges opens.second
+          (subst (λ f. (n : ℕ) × IsTrueIn M.grammar c.terminal n g f) second met.second);
+    }
 
 -- what meets the demand is an example
 pub example_of_met : (M : Lr0Automaton) → IsLr0Automaton M → (c : Conflict) (d : Demand) (g : List Symbol) → Opens M c d

@@ -1,11 +1,12 @@
 -- Examples of conflicts: strings of symbols at which both actions are possible (Knuth 1965). Strings of symbols have
 -- their last symbol first.
-use Rattle.std.specs.Prelude.{ℕ, List, [], map, reverse}
+use Rattle.std.specs.Prelude.{◌≡◌, ℕ, List, [], Some, map, reverse, slice_get}
 use Rattle.ly_join.specs.Grammar.{Grammar, Symbol, symbol_of, terminal}
 use Rattle.ly_grammar.specs.Items.{IsNextSymbol, Merges, Valid}
 use Rattle.ly_lr0.specs.Automaton.{Lr0Automaton}
 use Rattle.ly_resolve.specs.Actions.{Action, error, reduce, shift}
 use Rattle.ly_resolve.specs.Conflicts.{Conflict, Kind, reduce_reduce, shift_reduce}
+use Rattle.ly_resolve.specs.Resolved.{Resolved}
 use Rattle.ly_examples.specs.Demands.{HasMoreDemands}
 use Rattle.ly_examples.specs.declared.example.Example as code
 use Rattle.ly_examples.specs.declared.example.Example.TheVariants.{At, Merged, Unknown}
@@ -28,9 +29,19 @@ pub record IsExample (G : Grammar) (c : Conflict) (g : List Symbol) : Type 0 whe
   pub rule : IsPossible G g c.terminal (reduce c.rule)
   pub rival : IsPossible G g c.terminal (rival c.kind c.choice)
 
+-- A string with the core of a conflict's prefix at which an action is possible before its terminal.
+pub record IsPlaceOf (G : Grammar) (c : Conflict) (a : Action) (g : List Symbol) : Type 0 where
+  pub merges : Merges G c.prefix g
+  pub possible : IsPossible G g c.terminal a
+
 -- What is answered of a conflict: an example of it; or that there is none, since only strings that are merged ask for
 -- both actions; or that more demands follow from it than a number.
 abbrev pub IsAnswer : Lr0Automaton → Conflict → ℕ → code.Example → Type 0
 IsAnswer M c bound (At string) = IsExample M.grammar c (reverse (map symbol_of string.items))
 IsAnswer M c bound Merged = (g : List Symbol) → IsExample M.grammar c g → ⊥
 IsAnswer M c bound Unknown = HasMoreDemands M c bound
+
+-- the conflict of an index has no example
+abbrev pub HasNoExample : Resolved → ℕ → Type 0
+HasNoExample r i = (c : Conflict) × (slice_get r.conflicts i ≡ Some c)
+    × ((g : List Symbol) → IsExample r.automaton.grammar c g → ⊥)

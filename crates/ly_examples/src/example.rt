@@ -1,9 +1,12 @@
-ghost use Rattle.std.specs.Prelude.{◌≡◌, Contains, IfOk, length};
-ghost use Rattle.ly_join.specs.Grammar.{IsRule, GrammarRule};
+ghost use Rattle.std.specs.Prelude.{◌≡◌, ℕ, Contains, IfOk, IfSome, Some, length, map, reverse, slice_get, true};
+ghost use Rattle.ly_join.specs.Grammar.{IsRule, GrammarRule, symbol_of};
+ghost use Rattle.ly_resolve.specs.Actions.{reduce};
 ghost use Rattle.ly_resolve.specs.Resolved.{AreResolved};
-ghost use Rattle.ly_resolve.specs.Values.{conflict_from, IsInside};
-ghost use Rattle.ly_examples.specs.Examples.{IsAnswer};
+ghost use Rattle.ly_resolve.specs.Values.{action_from, conflict_from, IsInside, kind_from};
+ghost use Rattle.ly_examples.specs.Examples.{HasNoExample, IsAnswer, IsPlaceOf, rival};
 ghost use Rattle.ly_examples.specs.Openings.{Opens};
+ghost use Rattle.ly_examples.specs.Private.Kept.{IsKeptDemand};
+ghost use Rattle.ly_examples.specs.Private.Met.{IsMet, IsProper};
 ghost use Rattle.ly_examples.specs.Private.Opening.{ClaimsRival};
 
 use crate::claim::{Claim, Demand};
@@ -67,6 +70,41 @@ impl<'a> Examples<'a> {
         self.resolved
     }
 
+    /// The conflict of an index, if there is one.
+    pub fn conflict(&self, index: usize) -> Option<&'a Conflict>
+        ensures these { IfSome result (λ c. slice_get self.now.conflicts index
+            ≡ Some (conflict_from self.now.automaton c.now)) }
+        ensures inside { IfSome result (λ c. IsInside self.now.automaton c.now) }
+        ensures among { IfSome result (λ c. Contains self.now.conflicts (conflict_from self.now.automaton c.now)) }
+    {
+        match self.resolved.conflicts().get(index) {
+            Some(conflict) => Some(conflict),
+            None => None,
+        }
+    }
+
+    /// Whether it is found, over so many demands each, that none of the conflicts of these indices has an example.
+    ///
+    /// `OutOfMemory` comes where a growth was refused.
+    pub fn none_has_one(
+        &self,
+        alloc: Global,
+        indices: &[usize],
+        bound: usize,
+    ) -> Result<bool, OutOfMemory>
+        ensures { IfOk result (λ none. none ≡ true → (i : ℕ) → Contains indices.now i → HasNoExample self.now i) }
+    {
+        for index in indices {
+            let Some(conflict) = self.conflict(*index) else {
+                return Ok(false);
+            };
+            let Example::Merged = self.of(alloc, conflict, bound)? else {
+                return Ok(false);
+            };
+        }
+        Ok(true)
+    }
+
     /// An example of a conflict, which is sought over so many demands.
     ///
     /// `OutOfMemory` comes where a growth was refused.
@@ -91,6 +129,83 @@ impl<'a> Examples<'a> {
             Ok(Some(string)) => Ok(Example::At(string)),
             Ok(None) => Ok(Example::Merged),
             Err(Halt::TooMany) => Ok(Example::Unknown),
+            Err(Halt::OutOfMemory) => Err(OutOfMemory),
+        }
+    }
+
+    /// A string of symbols at which the rule of a conflict is possible, which is sought over so many demands; none where
+    /// there are more.
+    ///
+    /// `OutOfMemory` comes where a growth was refused.
+    pub fn of_rule(
+        &self,
+        alloc: Global,
+        conflict: &Conflict,
+        bound: usize,
+    ) -> Result<Option<Vec<Symbol>>, OutOfMemory>
+        requires inside { IsInside self.now.automaton conflict.now }
+        requires conflict { Contains self.now.conflicts (conflict_from self.now.automaton conflict.now) }
+        ensures { IfOk result (λ found. IfSome found (λ string. IsPlaceOf self.now.automaton.grammar
+            (conflict_from self.now.automaton conflict.now) (reduce conflict.now.rule)
+            (reverse (map symbol_of string.items)))) }
+    {
+        let _ground = &self.ground;
+        let demand = Demand {
+            second: Claim::Settled,
+            ..self.demand(conflict)
+        };
+        self.string_of(alloc, conflict, demand, bound)
+    }
+
+    /// A string of symbols at which what stands against the rule of a conflict is possible, which is sought over so many
+    /// demands; none where there are more.
+    ///
+    /// `OutOfMemory` comes where a growth was refused.
+    pub fn of_choice(
+        &self,
+        alloc: Global,
+        conflict: &Conflict,
+        bound: usize,
+    ) -> Result<Option<Vec<Symbol>>, OutOfMemory>
+        requires inside { IsInside self.now.automaton conflict.now }
+        requires conflict { Contains self.now.conflicts (conflict_from self.now.automaton conflict.now) }
+        ensures { IfOk result (λ found. IfSome found (λ string. IsPlaceOf self.now.automaton.grammar
+            (conflict_from self.now.automaton conflict.now)
+            (rival (kind_from conflict.now.kind) (action_from conflict.now.choice))
+            (reverse (map symbol_of string.items)))) }
+    {
+        let _ground = &self.ground;
+        let demand = Demand {
+            first: Claim::Settled,
+            ..self.demand(conflict)
+        };
+        self.string_of(alloc, conflict, demand, bound)
+    }
+
+    /// A string of symbols that meets a demand before the terminal of a conflict, which is sought over so many demands;
+    /// none where there is none or there are more.
+    fn string_of(
+        &self,
+        alloc: Global,
+        conflict: &Conflict,
+        demand: Demand,
+        bound: usize,
+    ) -> Result<Option<Vec<Symbol>>, OutOfMemory>
+        requires inside { IsInside self.now.automaton conflict.now }
+        requires kept { IsKeptDemand self.now.automaton demand }
+        requires first { IsProper demand.first }
+        requires second { IsProper demand.second }
+        ensures { IfOk result (λ found. IfSome found (λ string. IsMet self.now.automaton conflict.now.terminal.0
+            (reverse (map symbol_of string.items)) demand)) }
+    {
+        let sought = Sought {
+            ground: &self.ground,
+            terminal: conflict.terminal,
+            bound,
+        };
+        match shortest(alloc, &sought, demand) {
+            Ok(string) => Ok(string),
+            Err(Halt::TooMany) => Ok(None),
             Err(Halt::OutOfMemory) => Err(OutOfMemory),
         }
     }
