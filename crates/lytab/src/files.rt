@@ -3,6 +3,7 @@ ghost use Rattle.std.specs.Prelude.{◌≡◌, ◌⊎◌, ◌<◌, ℕ, IfErr, l
 ghost use Rattle.std.specs.Io.KnownBytes.{Appends};
 ghost use Rattle.ly_print.specs.Device.{next_count};
 ghost use Rattle.lytab.specs.Files.{HasTaken, IsWrittenIf};
+ghost use Rattle.lytab.specs.declared.files.FileFault.TheVariants as file_fault;
 
 use crate::notes::Notes;
 use crate::replacement::Replacement;
@@ -26,7 +27,7 @@ pub enum FileFault<'a> {
 }
 
 impl From<AllocError> for FileFault<'_> {
-    ghost from_gives = { λ _ f. f ≡ FileFault.OutOfMemory };
+    ghost from_gives = { λ _ f. f ≡ file_fault.OutOfMemory };
 
     fn from(_error: AllocError) -> Self {
         FileFault::OutOfMemory

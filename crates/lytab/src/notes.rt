@@ -3,8 +3,8 @@ use crate::completion::Completion;
 use crate::failure::Failure;
 use crate::remembering::Recall;
 use crate::shown_path::ShownPath;
-use ly_base::{Limits, locate};
-use ly_engine::{Outcome, TextFault, TokenEnd};
+use ly_base::{Limits, OutOfMemory, locate};
+use ly_engine::{GenFault, Outcome, TextFault, TokenEnd};
 use ly_page::{Named, Page};
 use ly_refused::{say_faults, say_lex_faults};
 use ly_words::Command;
@@ -125,19 +125,25 @@ impl Notes {
         ended: &Result<Completion, Failure<'_>>,
     ) {
         if let (true, Err(Failure::Refused(fault, _))) = (self.are_wanted, ended) {
-            let names = (
-                ShownPath(lex.name).text(alloc),
-                ShownPath(yacc.name).text(alloc),
-            );
             // what there is no memory for isn't said
-            if let (Ok(lex_name), Ok(yacc_name)) = names {
-                let (lex, yacc) = (
-                    Named::new(&lex_name, lex.bytes),
-                    Named::new(&yacc_name, yacc.bytes),
-                );
-                let _ = say_faults(alloc, &mut self.page, lex, yacc, limits, fault);
-            }
+            let _ = self.say_faults_of(alloc, lex, yacc, limits, fault);
         }
+    }
+
+    /// All faults of both files, by their names as people see them. It fails where memory runs out.
+    fn say_faults_of(
+        &mut self,
+        alloc: Global,
+        lex: Named<'_>,
+        yacc: Named<'_>,
+        limits: &Limits,
+        fault: &GenFault,
+    ) -> Result<(), OutOfMemory> {
+        let lex_name = ShownPath(lex.name).text(alloc)?;
+        let yacc_name = ShownPath(yacc.name).text(alloc)?;
+        let lex = Named::new(&lex_name, lex.bytes);
+        let yacc = Named::new(&yacc_name, yacc.bytes);
+        say_faults(alloc, &mut self.page, lex, yacc, limits, fault)
     }
 
     /// All faults of a lex file by which a command ended that is refused, as `explain` says them.

@@ -64,20 +64,28 @@ impl<T: Write + OpenFile + Drop> Replacement<T> {
         ensures failed { IfErr result (λ fault. fault ≡ FileFault.CannotWrite path.entry) }
     {
         let mut device = Counted::new(self.file);
-        let written = write_to(&mut device, path, bytes);
-        if written.is_ok() {
-            match device
-                .into_inner()
-                .sync_all()
-                .and_then(|()| fs::rename(files, &self.path, &self.place))
-            {
-                Ok(()) => return Ok(()),
-                Err(reason) => notes.say_reason(path, &reason),
+        let ended = match write_to(&mut device, path, bytes) {
+            Ok(()) => take_place(files, &device.into_inner(), &self.path, &self.place),
+            Err(fault) => {
+                let _ = fs::remove_file(files, &self.path);
+                return Err(fault);
+            }
+        };
+        match ended {
+            Ok(()) => Ok(()),
+            Err(reason) => {
+                notes.say_reason(path, &reason);
+                let _ = fs::remove_file(files, &self.path);
+                Err(FileFault::CannotWrite(path))
             }
         }
-        let _ = fs::remove_file(files, &self.path);
-        Err(FileFault::CannotWrite(path))
     }
+}
+
+/// Has a new file of this path take a place once its bytes are on their device.
+fn take_place<F: Files>(files: &F, new: &F::File, path: &str, place: &PathBuf) -> io::Result<()> {
+    new.sync_all()?;
+    fs::rename(files, path, place)
 }
 
 /// The path that links lead to from this one, or this one where there is no file.

@@ -1,4 +1,4 @@
-use Rattle.lytab.proofs.files.write_file.Goals as goal
+use Rattle.lytab.proofs.files.write_in_place.Goals as goal
 
 pub returns-in_ok-write_to-in-Ok-clause-written : goal.returns-in_ok-write_to-in-Ok-clause-written
 returns-in_ok-write_to-in-Ok-clause-written g c =
