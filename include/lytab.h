@@ -27,6 +27,7 @@ enum lytab_status {
     LYTAB_REFUSED = 1,  /* the text is refused: a token, or a byte that no rule matches */
     LYTAB_FAULT = 2,    /* the table file, or the lex or yacc file, is refused */
     LYTAB_MEMORY = 3,   /* memory ran out */
+    LYTAB_MISUSED = 4,  /* what was given is none, an end of a text or a token; the report's number says which */
     LYTAB_SHORT = 5     /* a block is too short; the report says what it needs, and nothing else was written */
 };
 
@@ -37,12 +38,13 @@ typedef struct lytab_report {
     uint32_t terminal;  /* status 1, lytab_parse: the terminal of the refused token; 0 is the end of the text */
     uint32_t unused;
     uint64_t number;    /* status 1: the number of the refused token, the end being one more than there are tokens;
-                           0 where no rule matches a byte */
+                           0 where no rule matches a byte; status 4: which end or token is none, counted from 1 */
     uint64_t start;     /* status 1: where the token begins, or the byte that no rule matches */
     uint64_t end;       /* status 1: where the token ends; of the end of the text, and of a byte, `start` */
     uint64_t needed;    /* status 0 and 5: how many items the answer has, bytes or parts; status 1: how many bytes it
                            has, of lytab_parse 0 */
-    uint64_t expected;  /* status 1: how many terminals are expected in the token's place */
+    uint64_t expected;  /* status 1: how many terminals are expected in the token's place; of many texts, status 0 and
+                           5: how many are expected in all of them */
 } lytab_report;
 
 /* Answers a text by a table file, with the bytes that `lytab run` writes: a line for a tree, two for a refused
@@ -75,6 +77,46 @@ typedef struct lytab_part {
 uint32_t lytab_parse(const uint8_t *tables, size_t tables_length, const uint8_t *text, size_t text_length,
                      lytab_part *parts, size_t parts_room, uint32_t *expected, size_t expected_room,
                      lytab_report *report);
+
+/* What there is to tell of one of many texts. */
+typedef struct lytab_text {
+    uint32_t status;        /* what lytab_parse returns for this text alone: LYTAB_DONE, LYTAB_REFUSED or LYTAB_FAULT */
+    uint32_t unused;
+    uint64_t parts_end;     /* where its parts end in the block; they begin where those of the text before it end */
+    uint64_t expected_end;  /* the same of the terminals that are expected */
+    lytab_report report;    /* what lytab_parse reports of this text alone */
+} lytab_text;
+
+/* Answers many texts by a table file, which is read once: for each just what lytab_parse says of that text alone, with
+ * places and `next` that are counted from its own start. The texts stand one behind another in `texts`, text i up to
+ * ends[i]. `told` has room for told_room texts, and takes as many as there are ends.
+ *
+ * LYTAB_DONE: each text is answered, as `told` says; the parts of all stand one behind another, and of the terminals
+ * that are expected as many as there is room for. LYTAB_FAULT: the table file is refused (80 to 85; a text on which the
+ * tables are at fault, 90, has that status of its own). LYTAB_MISUSED: an end stands before the one in front of it, or
+ * behind texts_length. LYTAB_SHORT: `told` or `parts` is too short; `needed` says how many parts there are. */
+uint32_t lytab_parse_all(const uint8_t *tables, size_t tables_length, const uint8_t *texts, size_t texts_length,
+                         const uint64_t *ends, size_t ends_count, lytab_text *told, size_t told_room, lytab_part *parts,
+                         size_t parts_room, uint32_t *expected, size_t expected_room, lytab_report *report);
+
+/* A token of one's own. */
+typedef struct lytab_token {
+    uint32_t terminal;  /* as lytab_names counts them; not 0, which is the end */
+    uint32_t unused;
+    uint64_t start;     /* where it begins in the text */
+    uint64_t end;       /* the byte behind its last one; `start`, where it has no bytes */
+} lytab_token;
+
+/* Answers tokens over a text by a table file, with the parts of their tree: what the parser says of just these tokens,
+ * in this order, with the end of the text behind them. The scanner of the table file doesn't run, so they may come of
+ * another one, and bytes between them are passed over. Statuses, blocks and report are those of lytab_parse, but that
+ * no byte is unmatched; and LYTAB_MISUSED where a token has a terminal that the table file hasn't, or that of the end,
+ * or ends before it begins, or behind the text: `number` says which is the first such one, and nothing else is written.
+ *
+ * Where tokens stand in the order of the text, the parts of a node stand within it. */
+uint32_t lytab_parse_tokens(const uint8_t *tables, size_t tables_length, const uint8_t *text, size_t text_length,
+                            const lytab_token *tokens, size_t tokens_count, lytab_part *parts, size_t parts_room,
+                            uint32_t *expected, size_t expected_room, lytab_report *report);
 
 /* How many names a table file has. What isn't known is 0. */
 typedef struct lytab_counts {

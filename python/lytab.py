@@ -17,21 +17,29 @@ from __future__ import annotations
 
 import ctypes
 import functools
+import itertools
 import os
 import pathlib
 import struct
-from typing import Callable, Iterator, List, Optional, Tuple, Union
+from typing import Callable, Iterable, Iterator, List, Optional, Tuple, Union
 
 VERSION = 1
-_DONE, _REFUSED, _FAULT, _MEMORY, _SHORT = 0, 1, 2, 3, 5
+_DONE, _REFUSED, _FAULT, _MEMORY, _MISUSED, _SHORT = range(6)
 _TOKEN, _NODE = 1, 2
 _FILES = (None, "lex", "yacc")
 _PART = struct.Struct("=IIQQQ")
+_GIVEN = struct.Struct("=IIQQ")
 
 
 class _Report(ctypes.Structure):
     _fields_ = [(name, ctypes.c_uint32) for name in ("fault", "section", "terminal", "unused")]
     _fields_ += [(name, ctypes.c_uint64) for name in ("number", "start", "end", "needed", "expected")]
+
+
+class _Text(ctypes.Structure):
+    _fields_ = [(name, ctypes.c_uint32) for name in ("status", "unused")]
+    _fields_ += [(name, ctypes.c_uint64) for name in ("parts_end", "expected_end")]
+    _fields_ += [("report", _Report)]
 
 
 class _Counts(ctypes.Structure):
@@ -162,6 +170,8 @@ def _library() -> ctypes.CDLL:
         ("answer", answer),
         ("json", answer),
         ("parse", [*bytes_, *bytes_, *block, *block, ctypes.POINTER(_Report)]),
+        ("parse_all", [*bytes_, *bytes_, *block, *block, *block, *block, ctypes.POINTER(_Report)]),
+        ("parse_tokens", [*bytes_, *bytes_, *bytes_, *block, *block, ctypes.POINTER(_Report)]),
         ("names", [*bytes_, *block, *block, ctypes.POINTER(_Counts)]),
         ("build", [*bytes_, *bytes_, *block, ctypes.POINTER(_Built)]),
         ("locate", [*bytes_, size, u64, u64]),
@@ -268,13 +278,32 @@ class Tables:
     def parse(self, text: bytes) -> Part:
         """The tree of a text: a node, a token, or None for nothing. Raises SyntaxFault where it has none."""
         text = bytes(text)
+        return self._parsed(_library().lytab_parse, text, [text, len(text)])
+
+    def parse_tokens(self, text: bytes, tokens: Iterable[Tuple[Union[int, str], int, int]]) -> Part:
+        """The tree of tokens over a text, that the caller has found: what the parser says of just these, in this order.
+
+        A token is the name or the number of its terminal, and where it starts and ends in the text. Raises SyntaxFault
+        where they have no tree, and ValueError where one has no terminal of the tables, or that of the end, or doesn't
+        stand in the text.
+        """
+        text = bytes(text)
+        number = {name: number for number, name in enumerate(self.terminals)}
+        given = [(number.get(name, -1) if isinstance(name, str) else name, *rest) for name, *rest in tokens]
+        for place, (terminal, start, end) in enumerate(given, 1):
+            if not (0 < terminal < len(self.terminals) and 0 <= start <= end <= len(text)):
+                raise ValueError(f"token {place} is none: terminal {terminal}, from {start} to {end}")
+        packed = b"".join(_GIVEN.pack(terminal, 0, start, end) for terminal, start, end in given)
+        return self._parsed(_library().lytab_parse_tokens, text, [text, len(text), packed, len(given)])
+
+    def _parsed(self, call: Callable[..., int], text: bytes, what: List[object]) -> Part:
+        """The tree of what a call is asked of, which stands in a text."""
         expected = (ctypes.c_uint32 * len(self.terminals))()
         room = len(text) // 4 + 64
         while True:
             parts, report = ctypes.create_string_buffer(room * _PART.size), _Report()
             blocks = [parts, room, expected, len(expected)]
-            words = [self.bytes, len(self.bytes), text, len(text), *blocks, ctypes.byref(report)]
-            status = _library().lytab_parse(*words)
+            status = call(self.bytes, len(self.bytes), *what, *blocks, ctypes.byref(report))
             if status != _SHORT:
                 break
             room = report.needed
@@ -282,6 +311,35 @@ class Tables:
         if status == _REFUSED:
             raise self._refused(text, report, expected[: report.expected])
         return self._tree(text, memoryview(parts)[: report.needed * _PART.size])
+
+    def parse_all(self, texts: Iterable[bytes]) -> List[Union[Part, SyntaxFault, TableFault]]:
+        """What parse says of each of many texts, for which the tables are read once: the tree of the text, or what
+        parse raises of it."""
+        texts = [bytes(text) for text in texts]
+        ends = (ctypes.c_uint64 * len(texts))(*itertools.accumulate(map(len, texts)))
+        joined, told = b"".join(texts), (_Text * len(texts))()
+        rooms = len(joined) + 4 * len(texts) + 64, 4 * len(texts) + 64
+        while True:
+            parts, expected = ctypes.create_string_buffer(rooms[0] * _PART.size), (ctypes.c_uint32 * rooms[1])()
+            report = _Report()
+            blocks = [ends, len(ends), told, len(told), parts, rooms[0], expected, rooms[1]]
+            words = [self.bytes, len(self.bytes), joined, len(joined), *blocks, ctypes.byref(report)]
+            status = _library().lytab_parse_all(*words)
+            if status != _SHORT and report.expected <= rooms[1]:
+                break
+            rooms = max(rooms[0], report.needed), max(rooms[1], report.expected)
+        _wanted(status, report.fault, report.section)
+        said: List[Union[Part, SyntaxFault, TableFault]] = []
+        bytes_, first, wanted = memoryview(parts), 0, 0
+        for text, one in zip(texts, told):
+            if one.status == _DONE:
+                said.append(self._tree(text, bytes_[first * _PART.size : one.parts_end * _PART.size]))
+            elif one.status == _REFUSED:
+                said.append(self._refused(text, one.report, expected[wanted : one.expected_end]))
+            else:
+                said.append(TableFault(one.report.fault, one.report.section))
+            first, wanted = one.parts_end, one.expected_end
+        return said
 
     def _refused(self, text: bytes, report: _Report, expected: List[int]) -> SyntaxFault:
         """What is said of a text that is refused."""

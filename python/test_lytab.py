@@ -9,6 +9,7 @@ import json
 import pathlib
 import random
 import re
+import shutil
 import subprocess
 import sys
 import tempfile
@@ -117,6 +118,58 @@ class Calculator(unittest.TestCase):
         text = b"ab\n\ncde"
         found = [lytab.locate(text, byte) for byte in (0, 2, 3, 4, 6, 7, 99)]
         self.assertEqual(found, [(1, 1), (1, 3), (2, 1), (3, 1), (3, 3), (3, 4), (3, 4)])
+
+
+class ManyTexts(unittest.TestCase):
+    """Many texts at a time, beside each alone, and tokens; worked out by hand."""
+
+    @classmethod
+    def setUpClass(cls):
+        cls.tables = tables_of("calc")
+
+    def test_each_as_alone(self):
+        texts = [b"1;", b"", b"1 + * 3;", b"5; (1 + 2);", b"@", b"2 *"] * 40
+        said = self.tables.parse_all(texts)
+        self.assertEqual(len(said), len(texts))
+        for text, one in zip(texts, said):
+            try:
+                wanted = repr(self.tables.parse(text))
+            except lytab.SyntaxFault as fault:
+                wanted = repr(fault)
+            self.assertEqual(repr(one), wanted)
+
+    def test_by_hand(self):
+        tree, refused, nothing = self.tables.parse_all([b"1;", b"1 + * 3;", b""])
+        self.assertEqual((tree.name, tree.start, tree.end, tree.children[1].text), ("Sheet", 0, 2, b"1"))
+        self.assertEqual((refused.number, refused.offset, refused.name), (3, 4, "'*'"))
+        self.assertEqual(refused.expected, ("NUMBER", "'-'", "'('"))
+        self.assertIsNone(nothing)
+        self.assertEqual(self.tables.parse_all([]), [])
+
+    def test_more_expected_than_room(self):
+        said = self.tables.parse_all([b"1" for _ in range(100)])
+        self.assertEqual({len(one.expected) for one in said}, {6})
+
+    def test_tokens(self):
+        tokens = [("NUMBER", 0, 3), ("'+'", 4, 8), ("NUMBER", 9, 12), (9, 12, 12)]
+        tree = self.tables.parse_tokens(b"one plus two", tokens)
+        sum_ = tree.children[1]
+        self.assertEqual((tree.name, tree.start, tree.end), ("Sheet", 0, 12))
+        self.assertEqual((sum_.name, [it.text for it in sum_.children]), ("Add", [b"one", b"two"]))
+        self.assertIsNone(self.tables.parse_tokens(b"one", []))
+
+    def test_refused_tokens(self):
+        with self.assertRaises(lytab.SyntaxFault) as raised:
+            self.tables.parse_tokens(b"one plus times", [("NUMBER", 0, 3), ("'+'", 4, 8), ("'*'", 9, 14)])
+        fault = raised.exception
+        self.assertEqual((fault.number, fault.offset, fault.column, fault.text), (3, 9, 10, b"times"))
+        self.assertEqual(fault.expected, ("NUMBER", "'-'", "'('"))
+
+    def test_no_tokens(self):
+        for token in (("WORD", 0, 1), (0, 0, 1), (12, 0, 1), ("NUMBER", 1, 0), ("NUMBER", 0, 4), (-1, 0, 1)):
+            with self.assertRaises(ValueError) as raised:
+                self.tables.parse_tokens(b"one", [("NUMBER", 0, 3), token])
+            self.assertIn("token 2", str(raised.exception))
 
 
 class Faults(unittest.TestCase):
@@ -244,6 +297,61 @@ class Apart(unittest.TestCase):
 
     def test_c(self):
         self.over("c", example("c-program.txt"), 60)
+
+
+@unittest.skipUnless(shutil.which("cc"), "there is no cc, so examples/drivers/lydrive.c isn't compiled")
+class ApartInC(unittest.TestCase):
+    """Answers and faults beside examples/drivers/lydrive.c, a driver in C that was written apart from lytab too. It
+    looks for all faults of a table file, so damaged files are told by it as well."""
+
+    FAULT = re.compile(rb"lytab: tables: fault ([0-9]+) [A-Za-z]+(?: section ([0-9]+))?\n")
+
+    @classmethod
+    def setUpClass(cls):
+        cls.room = tempfile.TemporaryDirectory()
+        cls.folder = pathlib.Path(cls.room.name)
+        words = ["cc", "-std=c99", "-O2", "-Wall", "-Wextra", "-Werror", TOP / "examples/drivers/lydrive.c"]
+        subprocess.run([*words, "-o", cls.folder / "lydrive"], check=True)
+
+    @classmethod
+    def tearDownClass(cls):
+        cls.room.cleanup()
+
+    def wanted(self, file, text):
+        """What the driver says: an answer, or the number and the section of a fault."""
+        (self.folder / "tables").write_bytes(file)
+        words = [self.folder / "lydrive", self.folder / "tables"]
+        ran = subprocess.run(words, input=text, capture_output=True, timeout=300)
+        found = self.FAULT.fullmatch(ran.stderr)
+        self.assertEqual(ran.returncode == 2, found is not None, ran.stderr)
+        return (int(found[1]), int(found[2] or 0)) if found else ran.stdout
+
+    def said(self, file, text):
+        try:
+            return lytab.Tables(file).answer(text)
+        except lytab.TableFault as fault:
+            return fault.number, fault.section
+
+    def beside(self, name, text_name, times, has_damaged_tables):
+        chance, tables, text = random.Random(name), tables_of(name).bytes, example(text_name)
+        for _ in range(times):
+            file, changed = bytearray(tables), bytearray(text)
+            for _ in range(chance.randrange(3)):
+                changed[chance.randrange(len(changed))] = chance.choice(b"()[]{}+*;:,1a \n\"")
+            for _ in range(chance.randrange(1, 3) if has_damaged_tables else 0):
+                file[chance.randrange(len(file))] = chance.choice([0, 1, 2, 255, chance.randrange(256)])
+            if has_damaged_tables and chance.randrange(8) == 0:
+                del file[chance.randrange(len(file)) :]
+            file, changed = bytes(file), bytes(changed)
+            self.assertEqual(self.said(file, changed), self.wanted(file, changed), (name, file, changed))
+
+    def test_texts(self):
+        for name, text in (("calc", "calc.txt"), ("json", "json.txt"), ("c", "c-program.txt")):
+            self.beside(name, text, 60, False)
+
+    def test_tables(self):
+        for name, text in (("calc", "calc.txt"), ("json", "json.txt"), ("c", "c-program.txt")):
+            self.beside(name, text, 60, True)
 
 
 class WholeTables(unittest.TestCase):

@@ -445,6 +445,24 @@ static void tables_refused(const uint8_t *file, size_t length, uint32_t fault, u
     memset(&report, FILL, sizeof report);
     CHECK(lytab_parse(file, length, TEXT("x"), parts, 2, (uint32_t *)bytes, 20, &report) == LYTAB_FAULT);
     CHECK(is_report(&report, fault, section, 0, 0, 0, 0, 0, 0));
+    lytab_text texts[2];
+    const uint64_t both[] = {1, 1};
+    memset(&report, FILL, sizeof report);
+    memset(texts, FILL, sizeof texts);
+    uint32_t status = lytab_parse_all(file, length, TEXT("x"), both, 1, texts, 2, parts, 2, (uint32_t *)bytes, 20,
+                                      &report);
+    if (fault == 90) {
+        CHECK(status == LYTAB_DONE && is_report(&report, 0, 0, 0, 0, 0, 0, 0, 0));
+        CHECK(texts[0].status == LYTAB_FAULT && texts[0].parts_end == 0 && texts[0].expected_end == 0);
+        CHECK(is_report(&texts[0].report, 90, 0, 0, 0, 0, 0, 0, 0) && is_filled(texts + 1, sizeof *texts));
+    } else {
+        CHECK(status == LYTAB_FAULT && is_report(&report, fault, section, 0, 0, 0, 0, 0, 0));
+        CHECK(is_filled(texts, sizeof texts));
+        memset(&report, FILL, sizeof report);
+        CHECK(lytab_parse_tokens(file, length, TEXT("x"), NULL, 0, parts, 2, (uint32_t *)bytes, 20, &report) ==
+              LYTAB_FAULT);
+        CHECK(is_report(&report, fault, section, 0, 0, 0, 0, 0, 0));
+    }
     if (fault != 90) {
         memset(&counts, FILL, sizeof counts);
         CHECK(lytab_names(file, length, found_ends, 10, bytes, 80, &counts) == LYTAB_FAULT);
@@ -510,6 +528,188 @@ static void null_blocks(void) {
     CHECK(lytab_json(TABLES, NULL, 0, NULL, 0, &report) == LYTAB_SHORT && report.needed == 5);
     CHECK(lytab_names(TABLES, NULL, 0, NULL, 0, &counts) == LYTAB_SHORT && counts.bytes == 88);
     CHECK(lytab_names(NULL, 0, NULL, 0, NULL, 0, &counts) == LYTAB_FAULT && counts.fault == 82);
+    CHECK(lytab_parse_all(TABLES, NULL, 0, NULL, 0, NULL, 0, NULL, 0, NULL, 0, &report) == LYTAB_DONE);
+    CHECK(is_report(&report, 0, 0, 0, 0, 0, 0, 0, 0));
+    CHECK(lytab_parse_tokens(TABLES, NULL, 0, NULL, 0, NULL, 0, NULL, 0, &report) == LYTAB_SHORT);
+    CHECK(is_report(&report, 0, 0, 0, 0, 0, 0, 1, 0));
+}
+
+/* Many texts one behind another, by the calculator's tables: the status, with the report of all; and blocks of exactly
+ * so many. */
+typedef struct {
+    uint32_t status;
+    lytab_report report;
+    lytab_text *told;
+    lytab_part *parts;
+    uint32_t *expected;
+    size_t told_room, parts_room, expected_room;
+} many;
+
+static const char six[] = "1;1 + * 3;5; (1 + 2);@2 *";
+static const uint64_t six_ends[] = {2, 2, 10, 21, 22, 25};
+
+static many parse_all(const uint64_t *of, size_t count, size_t told_room, size_t parts_room, size_t expected_room) {
+    many m = {0, {0}, block(told_room * sizeof(lytab_text)), block(parts_room * sizeof(lytab_part)),
+              block(expected_room * 4), told_room, parts_room, expected_room};
+    memset(&m.report, FILL, sizeof m.report);
+    m.status = lytab_parse_all(TABLES, TEXT(six), of, count, m.told, told_room, m.parts, parts_room, m.expected,
+                               expected_room, &m.report);
+    CHECK(is_guarded(m.told, told_room * sizeof(lytab_text)));
+    CHECK(is_guarded(m.parts, parts_room * sizeof(lytab_part)));
+    CHECK(is_guarded(m.expected, expected_room * 4));
+    return m;
+}
+
+static int is_untouched(many m) {
+    return is_filled(m.told, m.told_room * sizeof(lytab_text)) &&
+           is_filled(m.parts, m.parts_room * sizeof(lytab_part)) && is_filled(m.expected, m.expected_room * 4);
+}
+
+static void forget_all(many m) {
+    release(m.told);
+    release(m.parts);
+    release(m.expected);
+}
+
+static int is_text(const lytab_text *t, uint32_t status, uint64_t parts_end, uint64_t expected_end) {
+    return t->status == status && t->unused == 0 && t->parts_end == parts_end && t->expected_end == expected_end;
+}
+
+static void many_texts(void) {
+    static const uint32_t wanted[] = {NUMBER, MINUS, OPEN, NUMBER, MINUS, OPEN};
+    many m = parse_all(six_ends, 6, 7, 12, 7);
+    CHECK(m.status == LYTAB_DONE);
+    CHECK(is_report(&m.report, 0, 0, 0, 0, 0, 0, 11, 6));
+    CHECK(is_text(&m.told[0], LYTAB_DONE, 3, 0) && is_report(&m.told[0].report, 0, 0, 0, 0, 0, 0, 3, 0));
+    CHECK(is_text(&m.told[1], LYTAB_DONE, 4, 0) && is_report(&m.told[1].report, 0, 0, 0, 0, 0, 0, 1, 0));
+    CHECK(is_text(&m.told[2], LYTAB_REFUSED, 4, 3) && is_report(&m.told[2].report, 0, 0, TIMES, 3, 4, 5, 0, 3));
+    CHECK(is_text(&m.told[3], LYTAB_DONE, 11, 3) && is_report(&m.told[3].report, 0, 0, 0, 0, 0, 0, 7, 0));
+    CHECK(is_text(&m.told[4], LYTAB_REFUSED, 11, 3) && is_report(&m.told[4].report, 0, 0, 0, 0, 0, 0, 0, 0));
+    CHECK(is_text(&m.told[5], LYTAB_REFUSED, 11, 6) && is_report(&m.told[5].report, 0, 0, END, 3, 3, 3, 0, 3));
+    CHECK(is_part(&m.parts[0], LYTAB_NODE, SHEET, 0, 2, 3));
+    CHECK(is_part(&m.parts[2], LYTAB_TOKEN, NUMBER, 0, 1, 3));
+    CHECK(is_part(&m.parts[3], LYTAB_NOTHING, 0, 0, 0, 1));
+    CHECK(is_part(&m.parts[4], LYTAB_NODE, SHEET, 0, 11, 7));
+    CHECK(is_part(&m.parts[8], LYTAB_NODE, ADD, 4, 9, 7));
+    CHECK(is_part(&m.parts[10], LYTAB_TOKEN, NUMBER, 8, 9, 7));
+    CHECK(!memcmp(m.expected, wanted, sizeof wanted));
+    CHECK(is_filled(&m.told[6], sizeof(lytab_text)) && is_filled(&m.parts[11], sizeof(lytab_part)));
+    CHECK(is_filled(&m.expected[6], 4));
+    forget_all(m);
+}
+
+/* Each text, alone: the same report, parts and terminals. */
+static void each_alone(void) {
+    many m = parse_all(six_ends, 6, 6, 11, 6);
+    CHECK(m.status == LYTAB_DONE);
+    for (size_t i = 0; i < 6; i++) {
+        uint64_t start = i ? six_ends[i - 1] : 0, parts = i ? m.told[i - 1].parts_end : 0;
+        uint64_t terminals = i ? m.told[i - 1].expected_end : 0;
+        parsed p = parse((const uint8_t *)six + start, six_ends[i] - start, 7, 3);
+        CHECK(p.status == m.told[i].status && !memcmp(&p.report, &m.told[i].report, sizeof p.report));
+        CHECK(!memcmp(p.parts, m.parts + parts, (m.told[i].parts_end - parts) * sizeof(lytab_part)));
+        CHECK(!memcmp(p.expected, m.expected + terminals, (m.told[i].expected_end - terminals) * 4));
+        forget(p);
+    }
+    forget_all(m);
+}
+
+static void little_room_for_many(void) {
+    static const uint32_t wanted[] = {NUMBER, MINUS, OPEN, NUMBER};
+    many m = parse_all(six_ends, 6, 6, 10, 6);
+    CHECK(m.status == LYTAB_SHORT && is_report(&m.report, 0, 0, 0, 0, 0, 0, 11, 6) && is_untouched(m));
+    forget_all(m);
+    m = parse_all(six_ends, 6, 5, 11, 6);
+    CHECK(m.status == LYTAB_SHORT && is_report(&m.report, 0, 0, 0, 0, 0, 0, 11, 6) && is_untouched(m));
+    forget_all(m);
+    m = parse_all(six_ends, 6, 6, 11, 4);
+    CHECK(m.status == LYTAB_DONE && is_report(&m.report, 0, 0, 0, 0, 0, 0, 11, 6));
+    CHECK(m.told[5].expected_end == 6 && !memcmp(m.expected, wanted, sizeof wanted));
+    forget_all(m);
+}
+
+static void wrong_ends(void) {
+    static const uint64_t back[] = {2, 1, 0}, far[] = {25, 26}, alone[] = {UINT64_MAX};
+    many m = parse_all(back, 3, 3, 9, 3);
+    CHECK(m.status == LYTAB_MISUSED && is_report(&m.report, 0, 0, 0, 2, 0, 0, 0, 0) && is_untouched(m));
+    forget_all(m);
+    m = parse_all(far, 2, 2, 9, 3);
+    CHECK(m.status == LYTAB_MISUSED && is_report(&m.report, 0, 0, 0, 2, 0, 0, 0, 0) && is_untouched(m));
+    forget_all(m);
+    m = parse_all(alone, 1, 1, 9, 3);
+    CHECK(m.status == LYTAB_MISUSED && is_report(&m.report, 0, 0, 0, 1, 0, 0, 0, 0) && is_untouched(m));
+    forget_all(m);
+    m = parse_all(NULL, 0, 1, 1, 1);
+    CHECK(m.status == LYTAB_DONE && is_report(&m.report, 0, 0, 0, 0, 0, 0, 0, 0) && is_untouched(m));
+    forget_all(m);
+}
+
+/* Tokens over a text by the calculator's tables, whatever bytes stand there. */
+static parsed parse_tokens(const char *text, const lytab_token *tokens, size_t count, size_t parts_room) {
+    parsed p = {0, {0}, block(parts_room * sizeof(lytab_part)), block(4 * 4), parts_room, 4};
+    memset(&p.report, FILL, sizeof p.report);
+    p.status = lytab_parse_tokens(TABLES, (const uint8_t *)text, strlen(text), tokens, count, p.parts, parts_room,
+                                  p.expected, 4, &p.report);
+    CHECK(is_guarded(p.parts, parts_room * sizeof(lytab_part)));
+    CHECK(is_guarded(p.expected, 4 * 4));
+    return p;
+}
+
+static void tokens_given(void) {
+    static const lytab_token tokens[] = {
+        {NUMBER, 0, 0, 3}, {PLUS, 0, 4, 8}, {NUMBER, 0, 9, 12}, {SEMICOLON, 0, 12, 12}};
+    parsed p = parse_tokens("one plus two", tokens, 4, 6);
+    CHECK(p.status == LYTAB_DONE && is_report(&p.report, 0, 0, 0, 0, 0, 0, 5, 0));
+    CHECK(is_part(&p.parts[0], LYTAB_NODE, SHEET, 0, 12, 5));
+    CHECK(is_part(&p.parts[1], LYTAB_NOTHING, 0, 0, 0, 2));
+    CHECK(is_part(&p.parts[2], LYTAB_NODE, ADD, 0, 12, 5));
+    CHECK(is_part(&p.parts[3], LYTAB_TOKEN, NUMBER, 0, 3, 4));
+    CHECK(is_part(&p.parts[4], LYTAB_TOKEN, NUMBER, 9, 12, 5));
+    CHECK(is_filled(&p.parts[5], sizeof(lytab_part)) && is_filled(p.expected, 16));
+    forget(p);
+    p = parse_tokens("one plus two", tokens, 4, 4);
+    CHECK(p.status == LYTAB_SHORT && is_report(&p.report, 0, 0, 0, 0, 0, 0, 5, 0));
+    CHECK(is_filled(p.parts, 4 * sizeof(lytab_part)) && is_filled(p.expected, 16));
+    forget(p);
+    p = parse_tokens("", NULL, 0, 1);
+    CHECK(p.status == LYTAB_DONE && is_report(&p.report, 0, 0, 0, 0, 0, 0, 1, 0));
+    CHECK(is_part(&p.parts[0], LYTAB_NOTHING, 0, 0, 0, 1));
+    forget(p);
+}
+
+static void tokens_refused(void) {
+    static const lytab_token tokens[] = {{NUMBER, 0, 0, 3}, {PLUS, 0, 4, 8}, {TIMES, 0, 9, 10}, {UNDEF, 0, 10, 11}};
+    static const uint32_t wanted[] = {NUMBER, MINUS, OPEN};
+    parsed p = parse_tokens("one plus times", tokens, 4, 2);
+    CHECK(p.status == LYTAB_REFUSED && is_report(&p.report, 0, 0, TIMES, 3, 9, 10, 0, 3));
+    CHECK(!memcmp(p.expected, wanted, sizeof wanted) && is_filled(p.expected + 3, 4));
+    CHECK(is_filled(p.parts, 2 * sizeof(lytab_part)));
+    forget(p);
+    p = parse_tokens("one plus times", tokens, 2, 2);
+    CHECK(p.status == LYTAB_REFUSED && is_report(&p.report, 0, 0, END, 3, 14, 14, 0, 3));
+    CHECK(!memcmp(p.expected, wanted, sizeof wanted));
+    forget(p);
+}
+
+static void no_tokens(const char *text, const lytab_token *tokens, size_t count, uint64_t number) {
+    parsed p = parse_tokens(text, tokens, count, 4);
+    CHECK(p.status == LYTAB_MISUSED && is_report(&p.report, 0, 0, 0, number, 0, 0, 0, 0));
+    CHECK(is_filled(p.parts, 4 * sizeof(lytab_part)) && is_filled(p.expected, 16));
+    forget(p);
+}
+
+/* One that is none is told, also behind one that would be refused. */
+static void wrong_tokens(void) {
+    lytab_token tokens[] = {{TIMES, 0, 0, 1}, {NUMBER, 0, 1, 2}, {END, 0, 2, 3}};
+    no_tokens("abc", tokens, 3, 3);
+    tokens[2].terminal = TERMINALS;
+    no_tokens("abc", tokens, 3, 3);
+    tokens[1].start = 3;
+    no_tokens("abc", tokens, 3, 2);
+    tokens[0].end = 4;
+    no_tokens("abc", tokens, 3, 1);
+    tokens[0].start = tokens[0].end = UINT64_MAX;
+    no_tokens("abc", tokens, 1, 1);
 }
 
 static const struct {
@@ -540,6 +740,13 @@ static const struct {
     {"endless tables", endless_tables},
     {"tables at fault", tables_at_fault},
     {"null blocks", null_blocks},
+    {"many texts", many_texts},
+    {"each of many texts alone", each_alone},
+    {"little room for many texts", little_room_for_many},
+    {"wrong ends", wrong_ends},
+    {"tokens that are given", tokens_given},
+    {"tokens that are refused", tokens_refused},
+    {"wrong tokens", wrong_tokens},
 };
 
 int main(int count, char **words) {

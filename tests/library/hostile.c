@@ -10,13 +10,13 @@
 
 #include <pthread.h>
 
-enum { PARTS = 24, BYTES = 200, EXPECTED = 12, NAMES = 40, THREADS = 8, ROUNDS = 100 };
+enum { PARTS = 24, BYTES = 200, EXPECTED = 12, NAMES = 40, TEXTS = 3, THREADS = 8, ROUNDS = 100 };
 
 static bytes_read calculator;
 static const char text[] = "(1 + 2) * 3; -4 ^ 5;";
 
 static int is_status(uint32_t status) {
-    return status <= LYTAB_MEMORY || status == LYTAB_SHORT;
+    return status <= LYTAB_SHORT;
 }
 
 /* Blocks for all calls. They are filled anew for each table file or text. */
@@ -25,16 +25,19 @@ typedef struct {
     uint32_t *expected;
     uint64_t *ends;
     uint8_t *bytes;
+    lytab_text *told;
 } blocks;
 
 static blocks all_blocks(void) {
-    blocks b = {block(PARTS * sizeof(lytab_part)), block(EXPECTED * 4), block(NAMES * 8), block(BYTES)};
+    blocks b = {block(PARTS * sizeof(lytab_part)), block(EXPECTED * 4), block(NAMES * 8), block(BYTES),
+                block(TEXTS * sizeof(lytab_text))};
     return b;
 }
 
 static int are_guarded(blocks b) {
     return is_guarded(b.parts, PARTS * sizeof(lytab_part)) && is_guarded(b.expected, EXPECTED * 4) &&
-           is_guarded(b.ends, NAMES * 8) && is_guarded(b.bytes, BYTES);
+           is_guarded(b.ends, NAMES * 8) && is_guarded(b.bytes, BYTES) &&
+           is_guarded(b.told, TEXTS * sizeof(lytab_text));
 }
 
 static void release_all(blocks b) {
@@ -42,6 +45,24 @@ static void release_all(blocks b) {
     release(b.expected);
     release(b.ends);
     release(b.bytes);
+    release(b.told);
+}
+
+/* Asks the calls for many texts, which are a text in parts, and for tokens, which are its bytes. Ends and tokens may be
+ * none. */
+static void ask_more(blocks b, const uint8_t *tables, size_t length, const uint8_t *of, size_t of_length) {
+    lytab_report report;
+    uint64_t ends[] = {of_length / 3, of_length / 3 + of_length % 4, of_length};
+    lytab_token tokens[8];
+    for (size_t i = 0; i < 8; i++) {
+        uint8_t byte = i < of_length ? of[i] : 1;
+        tokens[i] = (lytab_token){byte % 13, 0, i, i + byte % 3};
+    }
+    uint32_t status = lytab_parse_all(tables, length, of, of_length, ends, 3, b.told, TEXTS, b.parts, PARTS, b.expected,
+                                      EXPECTED, &report);
+    CHECK(is_status(status) && status != LYTAB_REFUSED);
+    CHECK(is_status(lytab_parse_tokens(tables, length, of, of_length, tokens, of_length % 9, b.parts, PARTS, b.expected,
+                                       EXPECTED, &report)));
 }
 
 /* Asks all calls that read a table file. The status of lytab_parse is handed back. */
@@ -51,6 +72,7 @@ static uint32_t ask(blocks b, const uint8_t *tables, size_t length, const void *
     CHECK(is_status(lytab_answer(tables, length, of, of_length, b.bytes, BYTES, &report)));
     CHECK(is_status(lytab_json(tables, length, of, of_length, b.bytes, BYTES, &report)));
     CHECK(is_status(lytab_names(tables, length, b.ends, NAMES, b.bytes, BYTES, &counts)));
+    ask_more(b, tables, length, of, of_length);
     uint32_t status = lytab_parse(tables, length, of, of_length, b.parts, PARTS, b.expected, EXPECTED, &report);
     CHECK(is_status(status));
     CHECK(are_guarded(b));
@@ -137,6 +159,14 @@ static void *asking(void *into) {
         status = lytab_parse(calculator.bytes, calculator.length, (const uint8_t *)"1 +", 3, b.parts, PARTS,
                              b.expected, EXPECTED, &report);
         *wrong += status != LYTAB_REFUSED || report.expected != 3 || b.expected[2] != 10;
+        static const uint64_t ends[] = {2, 5, 7};
+        static const lytab_token tokens[] = {{2, 0, 0, 1}, {9, 0, 1, 2}};
+        status = lytab_parse_all(calculator.bytes, calculator.length, (const uint8_t *)"1;1 +2;", 7, ends, 3, b.told,
+                                 TEXTS, b.parts, PARTS, b.expected, EXPECTED, &report);
+        *wrong += status != LYTAB_DONE || report.needed != 6 || b.told[1].report.number != 3;
+        status = lytab_parse_tokens(calculator.bytes, calculator.length, (const uint8_t *)"ab", 2, tokens, 2, b.parts,
+                                    PARTS, b.expected, EXPECTED, &report);
+        *wrong += status != LYTAB_DONE || report.needed != 3 || b.parts[0].end != 2;
         *wrong += !are_guarded(b);
     }
     release_all(b);

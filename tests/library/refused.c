@@ -66,6 +66,19 @@ static uint32_t a_refused_text(void) {
                        ROOM / 4, &report);
 }
 
+static uint32_t many_texts(void) {
+    static const uint64_t three[] = {2, 6, 18};
+    return lytab_parse_all(tables.bytes, tables.length, (const uint8_t *)"1;1 + (1 + 2) * 3;", 18, three, 3,
+                           (lytab_text *)ends, ROOM / sizeof(lytab_text), parts, PARTS, (uint32_t *)bytes, ROOM / 4,
+                           &report);
+}
+
+static uint32_t tokens(void) {
+    static const lytab_token four[] = {{2, 0, 0, 1}, {3, 0, 1, 2}, {2, 0, 2, 3}, {9, 0, 3, 4}};
+    return lytab_parse_tokens(tables.bytes, tables.length, (const uint8_t *)"1+2;", 4, four, 4, parts, PARTS,
+                              (uint32_t *)bytes, ROOM / 4, &report);
+}
+
 static uint32_t an_answer(void) {
     return lytab_answer(tables.bytes, tables.length, (const uint8_t *)"(1 + 2) * 3;", 12, bytes, ROOM, &report);
 }
@@ -100,6 +113,8 @@ static const struct {
 } tests[] = {
     {"a tree", a_tree, LYTAB_DONE},
     {"a refused text", a_refused_text, LYTAB_REFUSED},
+    {"many texts", many_texts, LYTAB_DONE},
+    {"tokens", tokens, LYTAB_DONE},
     {"an answer", an_answer, LYTAB_DONE},
     {"an answer in JSON", json, LYTAB_REFUSED},
     {"names", names, LYTAB_DONE},

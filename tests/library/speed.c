@@ -1,5 +1,5 @@
-/* How long calls of the library take: `lytab_parse` of a text of 10 MB, of one of 10 bytes, and of a given text. It
- * fails where one takes more than a minute.
+/* How long calls of the library take: `lytab_parse` of a text of 10 MB, of one of 10 bytes, and of a given text, and
+ * `lytab_parse_all` of 100,000 texts of 10 bytes. It fails where one takes more than a minute.
  *
  *     speed EXAMPLES TABLES [LEX YACC TEXT]
  *
@@ -11,7 +11,7 @@
 
 #include <time.h>
 
-enum { LONG = 10 * 1000 * 1000, TIMES = 5, CALLS = 1000 };
+enum { LONG = 10 * 1000 * 1000, TIMES = 5, CALLS = 1000, TEXTS = 100 * 1000 };
 
 static double seconds(void) {
     struct timespec now;
@@ -70,6 +70,31 @@ static void time_calls(const char *when, bytes_read tables) {
            tables.length, when, 1e3 * took);
 }
 
+/* Times one call with many short texts. */
+static void time_texts(bytes_read tables) {
+    static const char text[] = "1 + 2 * 3;";
+    uint8_t *texts = needed(malloc(TEXTS * 10));
+    uint64_t *ends = needed(malloc(TEXTS * sizeof *ends));
+    lytab_text *reports = needed(malloc(TEXTS * sizeof *reports));
+    lytab_part *parts = needed(malloc(TEXTS * 7 * sizeof *parts));
+    lytab_report report;
+    for (size_t i = 0; i < TEXTS; i++) {
+        memcpy(texts + 10 * i, text, 10);
+        ends[i] = 10 * (i + 1);
+    }
+    double start = seconds();
+    CHECK(lytab_parse_all(tables.bytes, tables.length, texts, TEXTS * 10, ends, TEXTS, reports, TEXTS, parts, TEXTS * 7,
+                          NULL, 0, &report) == LYTAB_DONE);
+    double took = seconds() - start;
+    CHECK(report.needed == TEXTS * 7 && reports[TEXTS - 1].parts_end == report.needed);
+    CHECK(took < 60);
+    printf("speed: lytab_parse_all of %d texts of 10 bytes: %.3f seconds\n", TEXTS, took);
+    free(texts);
+    free(ends);
+    free(reports);
+    free(parts);
+}
+
 int main(int count, char **words) {
     if (count != 3 && count != 6) return 4;
     bytes_read calculator = file_of(".", words[2]);
@@ -77,6 +102,7 @@ int main(int count, char **words) {
     bytes_read json = tables_of(words[1], "json.l", "json.y"), text = long_json();
     time_text("JSON", json, text);
     time_calls("behind a long text", calculator);
+    time_texts(calculator);
     if (count == 6) {
         bytes_read given = tables_of(".", words[3], words[4]), read = file_of(".", words[5]);
         time_text(words[5], given, read);

@@ -1,7 +1,9 @@
+pub mod AnswerLemmas
 pub mod BlockLemmas
 pub mod FaultLemmas
 pub mod FitLemmas
 pub mod NameLemmas
 pub mod PartLemmas
+pub mod TokenLemmas
 pub mod ToldLemmas
 pub mod WalkLemmas

@@ -16,7 +16,7 @@ length_listed index [] = refl
 length_listed index (p ∷ ps) = omega (arith, length_listed (suc index) ps)
 
 -- one more part stands behind the others
-listed_more : (index at : ℕ) (ps : List tree.Part) (p : tree.Part) → at ≡ index + length ps
+pub listed_more : (index at : ℕ) (ps : List tree.Part) (p : tree.Part) → at ≡ index + length ps
     → listed index (ps ++ p ∷ []) ≡ listed index ps ++ part_at at p ∷ []
 listed_more index at [] p is = ap (λ n. part_at n p ∷ []) (let e : index ≡ at = omega (arith, is) in e)
 listed_more index at (q ∷ ps) p is =

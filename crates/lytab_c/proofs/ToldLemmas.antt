@@ -12,7 +12,7 @@ use Rattle.lytab_c.specs.Private.Putting.{AreTablesPut, IsAnswerPut, IsBuildFaul
 use Rattle.lytab_c.specs.declared.build_report.BuildReport.{BuildReport}
 use Rattle.lytab_c.specs.declared.report.Report.{Report}
 use Rattle.lytab_c.specs.declared.status.Status.{Status}
-use Rattle.lytab_c.specs.declared.status.Status.TheVariants.{Done, Fault, Memory, Refused, Short}
+use Rattle.lytab_c.specs.declared.status.Status.TheVariants.{Done, Fault, Memory, Misused, Refused, Short}
 
 -- an answer
 pub answer_told : (form : AnswerForm) (tables text old new : List ℕ) (report : Report) (status : Status) (o : Outcome)
@@ -23,6 +23,7 @@ answer_told form tables text old new report Done o answer is put =
 answer_told form tables text old new report Refused o answer is put = (o, answer, put.0, is, put.1, put.2)
 answer_told form tables text old new report Fault o answer is put = absurd put
 answer_told form tables text old new report Memory o answer is put = absurd put
+answer_told form tables text old new report Misused o answer is put = absurd put
 answer_told form tables text old new report Short o answer is put = (o, answer, is, put.0, put.1, put.2)
 
 -- a table file
@@ -33,6 +34,7 @@ build_told lex yacc old new built Done bytes conflicts is put = (bytes, conflict
 build_told lex yacc old new built Refused bytes conflicts is put = absurd put
 build_told lex yacc old new built Fault bytes conflicts is put = absurd put
 build_told lex yacc old new built Memory bytes conflicts is put = absurd put
+build_told lex yacc old new built Misused bytes conflicts is put = absurd put
 build_told lex yacc old new built Short bytes conflicts is put = (bytes, conflicts, is, put.0, put.1, put.2)
 
 -- a refusal of two files
@@ -43,4 +45,5 @@ refusal_told lex yacc old new built Done fault is told same = absurd told
 refusal_told lex yacc old new built Refused fault is told same = absurd told
 refusal_told lex yacc old new built Fault fault is told same = (fault, told.0, is, told.1, told.2, same)
 refusal_told lex yacc old new built Memory fault is told same = (told.1, same)
+refusal_told lex yacc old new built Misused fault is told same = absurd told
 refusal_told lex yacc old new built Short fault is told same = absurd told

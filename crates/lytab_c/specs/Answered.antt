@@ -12,7 +12,7 @@ use Rattle.lytab_c.specs.Faults.{IsFaultOn}
 use Rattle.lytab_c.specs.Reports.{needing, nothing_told, outcome_report, TellsFault}
 use Rattle.lytab_c.specs.declared.report.Report.{Report}
 use Rattle.lytab_c.specs.declared.status.Status.{Status}
-use Rattle.lytab_c.specs.declared.status.Status.TheVariants.{Done, Fault, Memory, Refused, Short}
+use Rattle.lytab_c.specs.declared.status.Status.TheVariants.{Done, Fault, Memory, Misused, Refused, Short}
 
 -- A set that the bytes of the table file spell answers the text with this outcome and, in a form, these bytes.
 abbrev pub IsAnswer : AnswerForm → List ℕ → List ℕ → Outcome → List ℕ → Type 0
@@ -30,6 +30,7 @@ IsAnswered form tables text old new report Refused = (outcome : Outcome) × (ans
 IsAnswered form tables text old new report Fault = (fault : DriveFault) × IsFaultOn tables text fault
     × TellsFault fault report × (new ≡ old)
 IsAnswered form tables text old new report Memory = (report ≡ nothing_told) × (new ≡ old)
+IsAnswered form tables text old new report Misused = ⊥
 IsAnswered form tables text old new report Short = (outcome : Outcome) × (answer : List ℕ)
     × IsAnswer form tables text outcome answer × (length old < length answer) × (report ≡ needing (length answer))
     × (new ≡ old)

@@ -17,7 +17,7 @@ use Rattle.ly_yaccread.specs.declared.fault.YaccFault.TheVariants as yacc_fault
 use Rattle.lytab_c.specs.Block.{IsPut}
 use Rattle.lytab_c.specs.declared.build_report.BuildReport.{BuildReport}
 use Rattle.lytab_c.specs.declared.status.Status.{Status}
-use Rattle.lytab_c.specs.declared.status.Status.TheVariants.{Done, Fault, Memory, Refused, Short}
+use Rattle.lytab_c.specs.declared.status.Status.TheVariants.{Done, Fault, Memory, Misused, Refused, Short}
 
 -- there is nothing to tell
 abbrev pub nothing_built : BuildReport
@@ -68,6 +68,7 @@ IsBuilt lex yacc old new built Refused = ⊥
 IsBuilt lex yacc old new built Fault = (fault : GenFault) × (number : ℕ) × IsRefusedFor version_2 lex yacc fault
     × (gen_number fault ≡ Some number) × (built ≡ fault_built fault number lex yacc) × (new ≡ old)
 IsBuilt lex yacc old new built Memory = (built ≡ nothing_built) × (new ≡ old)
+IsBuilt lex yacc old new built Misused = ⊥
 IsBuilt lex yacc old new built Short = (bytes : List ℕ) × (conflicts : ConflictCounts)
     × IsBuildOf lex yacc bytes conflicts × (length old < length bytes)
     × (built ≡ built_of (length bytes) conflicts) × (new ≡ old)

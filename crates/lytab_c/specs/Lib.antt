@@ -2,9 +2,11 @@ pub mod Answered
 pub mod Block
 pub mod Building
 pub mod Faults
+pub mod Many
 pub mod Naming
 pub mod Parsing
 pub mod Private
 pub mod Reports
 pub mod Statuses
+pub mod Tokens
 pub mod Walks

@@ -12,7 +12,7 @@ use Rattle.lytab_c.specs.Block.{IsPut}
 use Rattle.lytab_c.specs.Faults.{section_of}
 use Rattle.lytab_c.specs.declared.name_counts.NameCounts.{NameCounts}
 use Rattle.lytab_c.specs.declared.status.Status.{Status}
-use Rattle.lytab_c.specs.declared.status.Status.TheVariants.{Done, Fault, Memory, Refused, Short}
+use Rattle.lytab_c.specs.declared.status.Status.TheVariants.{Done, Fault, Memory, Misused, Refused, Short}
 
 -- the names of a set: those of its terminals, and behind them the constructors of its rules
 abbrev pub names_of : TableSet → List (List ℕ)
@@ -60,5 +60,6 @@ AreNamesTold tables old new counts Refused = ⊥
 AreNamesTold tables old new counts Fault = (fault : TableFault) × (fault ≢ OutOfMemory) × IsRefusedAs tables fault
     × TellsRefusal fault counts × (new ≡ old)
 AreNamesTold tables old new counts Memory = (counts ≡ nothing_counted) × (new ≡ old)
+AreNamesTold tables old new counts Misused = ⊥
 AreNamesTold tables old new counts Short = (s : TableSet) × IsDriven tables s × (counts ≡ counts_of s)
     × ((length old.ends < length (names_of s)) ⊎ (length old.names < length (joined (names_of s)))) × (new ≡ old)

@@ -19,7 +19,7 @@ use Rattle.lytab_c.specs.Reports.{flaw_report, needing, nothing_told, TellsFault
 use Rattle.lytab_c.specs.declared.part.Part.{Part}
 use Rattle.lytab_c.specs.declared.report.Report.{Report}
 use Rattle.lytab_c.specs.declared.status.Status.{Status}
-use Rattle.lytab_c.specs.declared.status.Status.TheVariants.{Done, Fault, Memory, Refused, Short}
+use Rattle.lytab_c.specs.declared.status.Status.TheVariants.{Done, Fault, Memory, Misused, Refused, Short}
 
 -- of which kind a part is
 abbrev pub kind_number : PartKind → ℕ
@@ -66,18 +66,24 @@ pub record ParseBlocks : Type 0 where
   pub parts : List Part
   pub expected : List ℕ
 
--- The text has a tree, whose parts are put into the block of parts; something is wrong with it, and of the terminals
--- that are expected as many are in the other block as there is room for; the table file is refused, or the tables are
--- at fault on the text; memory ran out; or there is a tree for whose parts the block is too short. What isn't said to
--- be written is as it was.
-abbrev pub IsParsed : List ℕ → List ℕ → ParseBlocks → ParseBlocks → Report → Status → Type 0
-IsParsed tables text old new report Done = (t : Placed) × IsTreeOf tables text t
+-- What is said of something that has a tree, or a flaw, or on which tables are at fault. It has a tree, whose parts are
+-- put into the block of parts; something is wrong with it, and of the terminals that are expected as many are in the
+-- other block as there is room for; the tables are refused or at fault; memory ran out; or there is a tree for whose
+-- parts the block is too short. What isn't said to be written is as it was.
+abbrev pub IsSaid : (Placed → Type 0) → (Flaw → Type 0) → (DriveFault → Type 0) → ParseBlocks → ParseBlocks → Report
+    → Status → Type 0
+IsSaid IsTree IsFlaw IsFault old new report Done = (t : Placed) × IsTree t
     × IsPut (listed 0 (parts_of t)) old.parts new.parts × (report ≡ needing (length (parts_of t)))
     × (new.expected ≡ old.expected)
-IsParsed tables text old new report Refused = (flaw : Flaw) × IsFlawOf tables text flaw
+IsSaid IsTree IsFlaw IsFault old new report Refused = (flaw : Flaw) × IsFlaw flaw
     × IsFilled (expected_in flaw) old.expected new.expected × (report ≡ flaw_report flaw) × (new.parts ≡ old.parts)
-IsParsed tables text old new report Fault = (fault : DriveFault) × IsFaultOn tables text fault
-    × TellsFault fault report × (new ≡ old)
-IsParsed tables text old new report Memory = (report ≡ nothing_told) × (new ≡ old)
-IsParsed tables text old new report Short = (t : Placed) × IsTreeOf tables text t
+IsSaid IsTree IsFlaw IsFault old new report Fault = (fault : DriveFault) × IsFault fault × TellsFault fault report
+    × (new ≡ old)
+IsSaid IsTree IsFlaw IsFault old new report Memory = (report ≡ nothing_told) × (new ≡ old)
+IsSaid IsTree IsFlaw IsFault old new report Misused = ⊥
+IsSaid IsTree IsFlaw IsFault old new report Short = (t : Placed) × IsTree t
     × (length old.parts < length (parts_of t)) × (report ≡ needing (length (parts_of t))) × (new ≡ old)
+
+-- the same of a text by a table file
+abbrev pub IsParsed : List ℕ → List ℕ → ParseBlocks → ParseBlocks → Report → Status → Type 0
+IsParsed tables text = IsSaid (IsTreeOf tables text) (IsFlawOf tables text) (IsFaultOn tables text)

@@ -1,3 +1,5 @@
+pub mod Answers
 pub mod Listing
 pub mod Putting
 pub mod Reading
+pub mod TokenPutting

@@ -27,6 +27,10 @@ needing needed = record {
 abbrev pub nothing_told : Report
 nothing_told = needing 0
 
+-- what was given is none, of which this is the number
+abbrev pub numbering : ℕ → Report
+numbering number = record nothing_told { number = number }
+
 -- a fault of this number, in this section
 abbrev pub at_fault : ℕ → ℕ → Report
 at_fault number section = record nothing_told { fault = number; section = section }

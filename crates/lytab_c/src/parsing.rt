@@ -69,7 +69,7 @@ fn parse_by<'t>(alloc: Global, tables: &[u8], text: &'t [u8]) -> Result<Parsed<'
 }
 
 /// Puts the parts of a tree into a block where there is room, and tells of them.
-fn put_parts(list: &[TreePart], block: &mut [Part], report: &mut Report) -> Status
+pub(crate) fn put_parts(list: &[TreePart], block: &mut [Part], report: &mut Report) -> Status
     requires { (t : Placed) × (list.now ≡ parts_of t) }
     ensures { ArePartsPut list.now block.old block.new report.new result }
 {
@@ -93,7 +93,7 @@ fn put_list(list: &[TreePart], block: &mut [Part])
 }
 
 /// Tells what is wrong with a text, and puts the terminals that are expected into a block, as far as there is room.
-fn put_flaw(flaw: &Flaw<'_>, block: &mut [u32], report: &mut Report) -> Status
+pub(crate) fn put_flaw(flaw: &Flaw<'_>, block: &mut [u32], report: &mut Report) -> Status
     requires { FitsFlaw flaw.now }
     ensures { IsFlawPut flaw.now block.old block.new report.new result }
 {

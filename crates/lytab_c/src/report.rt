@@ -1,7 +1,7 @@
 ghost use Rattle.std.specs.Prelude.{◌≡◌};
 ghost use Rattle.lytab_c.specs.Faults.{drive_section, section_of};
 ghost use Rattle.lytab_c.specs.Private.Putting.{FitsFlaw, FitsOutcome, IsFaultTold};
-ghost use Rattle.lytab_c.specs.Reports.{flaw_report, needing, outcome_report};
+ghost use Rattle.lytab_c.specs.Reports.{flaw_report, needing, numbering, outcome_report};
 
 use crate::status::Status;
 use ly_drive::{DriveFault, Outcome};
@@ -20,7 +20,7 @@ pub struct Report {
     pub terminal: u32,
     /// Nothing.
     pub unused: u32,
-    /// The number of a refused token, counted from 1.
+    /// The number of a refused token, counted from 1; or of what was given and is none.
     pub number: u64,
     /// Where it begins, or which byte no rule matches.
     pub start: u64,
@@ -47,6 +47,16 @@ impl Report {
             end: 0,
             needed,
             expected: 0,
+        }
+    }
+
+    /// What is told where what was given is none: the number of that.
+    pub(crate) fn numbering(number: u64) -> Report
+        ensures { result ≡ numbering number }
+    {
+        Report {
+            number,
+            ..Report::needing(0)
         }
     }
 

@@ -12,6 +12,8 @@ pub enum Status {
     Fault,
     /// Memory ran out.
     Memory,
+    /// What was given is none: an end of a text, or a token.
+    Misused,
     /// A block is too short.
     Short,
 }
@@ -26,6 +28,7 @@ impl Status {
             Status::Refused => 1,
             Status::Fault => 2,
             Status::Memory => 3,
+            Status::Misused => 4,
             Status::Short => 5,
         }
     }

@@ -1,0 +1,62 @@
+-- What a call that parses tokens over a text says, by its status.
+use Rattle.std.specs.Prelude.{◌≡◌, ◌≢◌, ◌⊎◌, ℕ, suc, List, [], ◌∷◌, length, map}
+use Rattle.ly_drive.specs.Answering.{IsDriven}
+use Rattle.ly_drive.specs.declared.fault.DriveFault.{DriveFault}
+use Rattle.ly_drive.specs.declared.fault.DriveFault.TheVariants.{Tables, Text}
+use Rattle.ly_feed.specs.Flaw.{verdict_of}
+use Rattle.ly_feed.specs.Verdict.{faulty}
+use Rattle.ly_feed.specs.declared.flaw.Flaw.{Flaw}
+use Rattle.ly_feed.specs.declared.text_fault.TextFault.TheVariants.{FaultyTables}
+use Rattle.ly_base.specs.Lexed as lexed
+use Rattle.ly_places.specs.Placed.{Placed}
+use Rattle.ly_places.specs.TokenAnswer.{token_over, IsPlacedOver, IsTokenOver, IsTokenVerdict}
+use Rattle.ly_places.specs.declared.placed_token.PlacedToken.{PlacedToken}
+use Rattle.ly_tables.specs.Refusal.{IsRefusedAs}
+use Rattle.ly_tables.specs.TableSet.{TableSet}
+use Rattle.ly_tables.specs.declared.fault.TableFault.TheVariants.{OutOfMemory}
+use Rattle.lytab_c.specs.Parsing.{IsSaid, ParseBlocks}
+use Rattle.lytab_c.specs.Reports.{numbering}
+use Rattle.lytab_c.specs.declared.report.Report.{Report}
+use Rattle.lytab_c.specs.declared.status.Status.{Status}
+use Rattle.lytab_c.specs.declared.status.Status.TheVariants.{Misused}
+use Rattle.lytab_c.specs.declared.token.Token.{Token}
+
+-- a token as a parser has it
+abbrev pub placed_from : Token → PlacedToken
+placed_from t = record { terminal = record { 0 = t.terminal }; extent = record { start = t.start; end = t.end } }
+
+-- with the bytes of a text that stand there
+abbrev pub given_over : List ℕ → List Token → List (lexed.Token ℕ)
+given_over text tokens = map (token_over text) (map placed_from tokens)
+
+-- The first token that has none of so many terminals, or that of the end, or that doesn't stand among so many bytes, has
+-- this number, counted from 1.
+abbrev pub IsFirstWrong : ℕ → ℕ → List Token → ℕ → Type 0
+IsFirstWrong terminals count [] number = ⊥
+IsFirstWrong terminals count (t ∷ ts) number = ((IsTokenOver terminals count (placed_from t) → ⊥) × (number ≡ 1))
+    ⊎ (IsTokenOver terminals count (placed_from t) × (before : ℕ) × (number ≡ suc before)
+    × IsFirstWrong terminals count ts before)
+
+-- A set that the bytes of the table file spell gives tokens over the text this tree, with its places.
+abbrev pub IsTokenTreeOf : List ℕ → List ℕ → List Token → Placed → Type 0
+IsTokenTreeOf tables text tokens t = (s : TableSet) × IsDriven tables s
+    × IsPlacedOver s text (given_over text tokens) t
+
+-- Such a set says that this is wrong with them.
+abbrev pub IsTokenFlawOf : List ℕ → List ℕ → List Token → Flaw → Type 0
+IsTokenFlawOf tables text tokens flaw = (s : TableSet) × IsDriven tables s
+    × IsTokenVerdict s text (given_over text tokens) (verdict_of flaw)
+
+-- The table file is refused as this fault, or the set that it spells is at fault on the tokens.
+abbrev pub IsTokenFaultOf : List ℕ → List ℕ → List Token → DriveFault → Type 0
+IsTokenFaultOf tables text tokens (Tables fault) = (fault ≢ OutOfMemory) × IsRefusedAs tables fault
+IsTokenFaultOf tables text tokens (Text FaultyTables) = (s : TableSet) × IsDriven tables s
+    × IsTokenVerdict s text (given_over text tokens) faulty
+IsTokenFaultOf tables text tokens (Text _) = ⊥
+
+-- What is said of the tokens, if each is one; or which is the first that is none: then no block is written.
+abbrev pub AreTokensParsed : List ℕ → List ℕ → List Token → ParseBlocks → ParseBlocks → Report → Status → Type 0
+AreTokensParsed tables text tokens old new report Misused = (s : TableSet) × IsDriven tables s × (number : ℕ)
+    × IsFirstWrong (length s.terminals) (length text) tokens number × (report ≡ numbering number) × (new ≡ old)
+AreTokensParsed tables text tokens old new report status = IsSaid (IsTokenTreeOf tables text tokens)
+    (IsTokenFlawOf tables text tokens) (IsTokenFaultOf tables text tokens) old new report status

@@ -1,0 +1,124 @@
+ghost use Rattle.std.specs.Prelude.{◌≡◌, List, [], ◌∷◌, ◌++◌, length, map, OnOk};
+ghost use Rattle.lytab_c.specs.Many.{TextAnswer};
+ghost use Rattle.lytab_c.specs.Parsing.{listed};
+ghost use Rattle.lytab_c.specs.Private.Answers.{fault_answer, flaw_answer, tree_answer, AreHeld};
+ghost use Rattle.lytab_c.specs.Private.Putting.{EndWithin, FitsFlaw};
+ghost use Rattle.lytab_c.specs.Statuses.{status_number};
+
+use crate::part::Part;
+use crate::report::Report;
+use crate::status::Status;
+use crate::text_report::TextReport;
+use ly_base::{OutOfMemory, Sym};
+use ly_feed::Flaw;
+use ly_places::Part as TreePart;
+use std::alloc::Global;
+
+/// The number of the fault of tables on a text.
+const FAULTY_TABLES: u32 = 90;
+
+/// What is said of texts, one behind another.
+#[derive(Drop)]
+pub struct AnswerList {
+    /// A report for each.
+    pub(crate) texts: Vec<TextReport>,
+    /// The parts of their trees.
+    pub(crate) parts: Vec<Part>,
+    /// The terminals that are expected in those that are refused.
+    pub(crate) expected: Vec<u32>,
+}
+
+impl AnswerList {
+    /// Nothing is said.
+    pub(crate) fn new(alloc: Global) -> AnswerList
+        ensures { AreHeld [] result }
+    {
+        AnswerList {
+            texts: Vec::new(alloc),
+            parts: Vec::new(alloc),
+            expected: Vec::new(alloc),
+        }
+    }
+
+    /// The next text has a tree of these parts. It fails where memory runs out.
+    pub(crate) fn push_tree(&mut self, list: &[TreePart]) -> Result<(), OutOfMemory>
+        requires { EndWithin (length list.now) 0 list.now }
+        ensures { (xs : List TextAnswer) → AreHeld xs self.old
+            → OnOk result (AreHeld (xs ++ tree_answer list.now ∷ []) self.new) }
+    {
+        push_parts(&mut self.parts, list)?;
+        self.push_report(Status::Done, Report::needing(list.len() as u64))
+    }
+
+    /// This is wrong with the next text. It fails where memory runs out.
+    pub(crate) fn push_flaw(&mut self, flaw: &Flaw<'_>) -> Result<(), OutOfMemory>
+        requires { FitsFlaw flaw.now }
+        ensures { (xs : List TextAnswer) → AreHeld xs self.old
+            → OnOk result (AreHeld (xs ++ flaw_answer flaw.now ∷ []) self.new) }
+    {
+        let report = Report::of_flaw(flaw);
+        match flaw {
+            Flaw::Refused { expected, .. } => {
+                push_terminals(&mut self.expected, expected)?;
+                self.push_report(Status::Refused, report)
+            }
+            Flaw::NoRule { .. } => self.push_report(Status::Refused, report),
+        }
+    }
+
+    /// The tables are at fault on the next text. It fails where memory runs out.
+    pub(crate) fn push_fault(&mut self) -> Result<(), OutOfMemory>
+        ensures { (xs : List TextAnswer) → AreHeld xs self.old
+            → OnOk result (AreHeld (xs ++ fault_answer ∷ []) self.new) }
+    {
+        let report = Report {
+            fault: FAULTY_TABLES,
+            ..Report::needing(0)
+        };
+        self.push_report(Status::Fault, report)
+    }
+
+    /// Appends the report of a text, whose parts and terminals stand there.
+    fn push_report(&mut self, status: Status, report: Report) -> Result<(), OutOfMemory>
+        ensures texts { OnOk result (self.new.texts.items ≡ self.old.texts.items
+            ++ (record {
+              status = status_number status;
+              unused = 0;
+              parts_end = length self.old.parts.items;
+              expected_end = length self.old.expected.items;
+              report = report;
+            }) ∷ []) }
+        ensures parts { self.new.parts ≡ self.old.parts }
+        ensures expected { self.new.expected ≡ self.old.expected }
+    {
+        self.texts.push(TextReport {
+            status: status.number(),
+            unused: 0,
+            parts_end: self.parts.len() as u64,
+            expected_end: self.expected.len() as u64,
+            report,
+        })?;
+        Ok(())
+    }
+}
+
+/// Appends the parts of a tree, as C has them. It fails where memory runs out.
+fn push_parts(parts: &mut Vec<Part>, list: &[TreePart]) -> Result<(), OutOfMemory>
+    requires { EndWithin (length list.now) 0 list.now }
+    ensures { OnOk result (parts.new.items ≡ parts.old.items ++ listed 0 list.now) }
+{
+    for (index, part) in list.iter().enumerate() {
+        parts.push(Part::at(index, part))?;
+    }
+    Ok(())
+}
+
+/// Appends the numbers of terminals. It fails where memory runs out.
+fn push_terminals(numbers: &mut Vec<u32>, terminals: &[Sym]) -> Result<(), OutOfMemory>
+    ensures { OnOk result (numbers.new.items ≡ numbers.old.items ++ map (λ t. t.0) terminals.now) }
+{
+    for terminal in terminals {
+        numbers.push(terminal.0)?;
+    }
+    Ok(())
+}

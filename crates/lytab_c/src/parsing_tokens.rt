@@ -1,0 +1,132 @@
+ghost use Rattle.std.specs.Prelude.{◌≡◌, None, false, length, map, true, All, IfErr, IfOk, IfSome};
+ghost use Rattle.ly_places.specs.TokenAnswer.{IsTokenOver};
+ghost use Rattle.lytab_c.specs.Private.TokenPutting.{AreTokensSaid, IsFaultOver, IsParsedOver};
+ghost use Rattle.lytab_c.specs.Statuses.{status_number};
+ghost use Rattle.lytab_c.specs.Tokens.{placed_from, AreTokensParsed, IsFirstWrong};
+ghost use Rattle.lytab_c.specs.declared.status.Status.{Status as Code};
+
+use crate::parsing::{put_flaw, put_parts};
+use crate::part::Part;
+use crate::report::Report;
+use crate::status::Status;
+use crate::token::Token;
+use ly_base::OutOfMemory;
+use ly_drive::DriveFault;
+use ly_feed::TextFault;
+use ly_places::{Parsed, PlacedToken, parse_tokens};
+use ly_tables::{TableSet, read_tables};
+use std::alloc::Global;
+
+/// Answers tokens over a text by a table file, with the parts of their tree: what the parser says of just these tokens.
+/// The scanner of the table file doesn't run. The blocks are written as by `lytab_parse`.
+#[unsafe(no_mangle)]
+pub extern "C" fn lytab_parse_tokens(
+    alloc: Global,
+    tables: &[u8],
+    text: &[u8],
+    tokens: &[Token],
+    parts: &mut [Part],
+    expected: &mut [u32],
+    report: &mut Report,
+) -> u32
+    ensures parsed { (status : Code) × (result ≡ status_number status)
+        × AreTokensParsed tables.now text.now tokens.now
+        (record { parts = parts.old; expected = expected.old })
+        (record { parts = parts.new; expected = expected.new }) report.new status }
+    ensures parts { length parts.new ≡ length parts.old }
+    ensures expected { length expected.new ≡ length expected.old }
+{
+    parse_tokens_into(alloc, tables, text, tokens, parts, expected, report).number()
+}
+
+/// Answers tokens over a text by a table file, into blocks where there is room.
+fn parse_tokens_into(
+    alloc: Global,
+    tables: &[u8],
+    text: &[u8],
+    tokens: &[Token],
+    parts: &mut [Part],
+    expected: &mut [u32],
+    report: &mut Report,
+) -> Status
+    ensures { AreTokensParsed tables.now text.now tokens.now
+        (record { parts = parts.old; expected = expected.old })
+        (record { parts = parts.new; expected = expected.new }) report.new result }
+{
+    match read_tables(alloc, tables) {
+        Ok((set, _version)) => answer_tokens(alloc, &set, text, tokens, parts, expected, report),
+        Err(fault) => report.tell_fault(&DriveFault::Tables(fault)),
+    }
+}
+
+/// Answers tokens over a text by a table set, into blocks where there is room.
+fn answer_tokens(
+    alloc: Global,
+    set: &TableSet,
+    text: &[u8],
+    tokens: &[Token],
+    parts: &mut [Part],
+    expected: &mut [u32],
+    report: &mut Report,
+) -> Status
+    ensures { AreTokensSaid set.now text.now tokens.now
+        (record { parts = parts.old; expected = expected.old })
+        (record { parts = parts.new; expected = expected.new }) report.new result }
+{
+    if let Some(number) = wrong_token(tokens, set.terminals().len(), text.len()) {
+        *report = Report::numbering(number);
+        return Status::Misused;
+    }
+    match parse_by(alloc, set, text, tokens) {
+        Ok(Parsed::Tree(list)) => put_parts(&list, parts, report),
+        Ok(Parsed::Refused(flaw)) => put_flaw(&flaw, expected, report),
+        Err(fault) => report.tell_fault(&DriveFault::Text(fault)),
+    }
+}
+
+/// The number of the first token that has no terminal, or doesn't stand in the text; the first is 1.
+fn wrong_token(tokens: &[Token], terminals: usize, count: usize) -> Option<u64>
+    ensures wrong { IfSome result (IsFirstWrong terminals count tokens.now) }
+    ensures right { result ≡ None → All (λ t. IsTokenOver terminals count (placed_from t)) tokens.now }
+{
+    for (index, token) in tokens.iter().enumerate() {
+        let is_right = is_over(token, terminals, count);
+        if !is_right {
+            return Some(index as u64 + 1);
+        }
+    }
+    None
+}
+
+/// Whether a token has one of so many terminals, and not that of the end, and stands among so many bytes.
+fn is_over(token: &Token, terminals: usize, count: usize) -> bool
+    ensures right { result ≡ true → IsTokenOver terminals count (placed_from token.now) }
+    ensures wrong { result ≡ false → IsTokenOver terminals count (placed_from token.now) → ⊥ }
+{
+    token.terminal >= 1
+        && (token.terminal as usize) < terminals
+        && token.start <= token.end
+        && token.end <= count as u64
+}
+
+/// What a table set says of tokens over a text.
+fn parse_by<'t>(
+    alloc: Global,
+    set: &TableSet,
+    text: &'t [u8],
+    tokens: &[Token],
+) -> Result<Parsed<'t>, TextFault>
+    requires { All (λ t. IsTokenOver (length set.now.terminals) (length text.now) (placed_from t)) tokens.now }
+    ensures parsed { IfOk result (IsParsedOver set.now text.now tokens.now) }
+    ensures fault { IfErr result (IsFaultOver set.now text.now tokens.now) }
+{
+    let placed = placed_tokens(alloc, tokens)?;
+    parse_tokens(alloc, set, text, &placed)
+}
+
+/// The same tokens for a parser. It fails where memory runs out.
+fn placed_tokens(alloc: Global, tokens: &[Token]) -> Result<Vec<PlacedToken>, OutOfMemory>
+    ensures { IfOk result (λ placed. placed.items ≡ map placed_from tokens.now) }
+{
+    Ok(tokens.iter().map(|token| token.placed()).collect(alloc)?)
+}
