@@ -8,7 +8,7 @@ use crate::join_faults::find_join_faults;
 use crate::lex_faults::find_lex_faults;
 use crate::telling::{say_fault, say_findings};
 use crate::yacc_faults::find_yacc_faults;
-use crate::yacc_offsets::start_location;
+use crate::yacc_offsets::{endless_location, start_location};
 use ly_base::{Limits, OutOfMemory};
 use ly_generate::GenFault;
 use ly_page::{Named, Page};
@@ -81,6 +81,7 @@ fn told(
     if findings.is_empty() {
         let at = match fault {
             GenFault::Grammar(_) => start_location(alloc, yacc.bytes)?,
+            GenFault::Endless { .. } => endless_location(alloc, yacc.bytes)?,
             _ => None,
         };
         say_fault(&mut page, lex, yacc, fault, at, &Advice::of_whole(fault));

@@ -3,7 +3,7 @@ use ly_base::{Location, OutOfMemory};
 use ly_generate::GenFault;
 use std::alloc::Global;
 
-/// How many faults are said, and how often a file is read to find them.
+/// How many faults of a file are said, or of both together, and how often it is mended to find them.
 pub(crate) const MOST: usize = 20;
 
 /// A fault that is found, as it is said.
@@ -22,6 +22,10 @@ pub(crate) struct Finding {
 pub(crate) struct Findings {
     /// The faults.
     list: Vec<Finding>,
+    /// How many more are said of the file that is read.
+    room: usize,
+    /// Whether there may be more than these.
+    more: bool,
 }
 
 impl Findings {
@@ -29,7 +33,14 @@ impl Findings {
     pub(crate) fn new(alloc: Global) -> Findings {
         Findings {
             list: Vec::new(alloc),
+            room: MOST,
+            more: false,
         }
+    }
+
+    /// Those of the next file, or of both together, follow.
+    pub(crate) fn begin_next(&mut self) {
+        self.room = MOST;
     }
 
     /// Whether none is found.
@@ -37,9 +48,14 @@ impl Findings {
         self.list.is_empty()
     }
 
-    /// Whether as many are found as are said.
-    pub(crate) fn is_full(&self) -> bool {
-        self.list.len() >= MOST
+    /// Whether there may be more than these.
+    pub(crate) fn has_more(&self) -> bool {
+        self.more
+    }
+
+    /// Notes that there may be more than these.
+    pub(crate) fn note_more(&mut self) {
+        self.more = true;
     }
 
     /// The faults.
@@ -49,10 +65,19 @@ impl Findings {
 
     /// Adds a fault, but none for which the same has been said on its line, and none behind the most.
     pub(crate) fn add(&mut self, finding: Finding) -> Result<(), OutOfMemory> {
-        if self.is_full() || self.has(&finding) {
+        if self.has(&finding) {
             return Ok(());
         }
-        Ok(self.list.push(finding)?)
+        match self.room.checked_sub(1) {
+            Some(room) => {
+                self.room = room;
+                Ok(self.list.push(finding)?)
+            }
+            None => {
+                self.more = true;
+                Ok(())
+            }
+        }
     }
 
     /// Whether the same has been said on its line.

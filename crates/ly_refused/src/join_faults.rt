@@ -53,12 +53,14 @@ impl Joining<'_> {
         findings: &mut Findings,
         limits: &Limits,
     ) -> Result<(), OutOfMemory> {
-        for _ in 0..MOST {
+        findings.begin_next();
+        for _ in 0..=MOST {
             match self.next_fault(alloc, limits, findings.is_empty())? {
                 Some(fault) => self.take(alloc, findings, fault)?,
-                None => break,
+                None => return Ok(()),
             }
         }
+        findings.note_more();
         Ok(())
     }
 

@@ -42,10 +42,13 @@ fn form_of_flex(unit: Unit, line: &[u8]) -> Option<&'static str> {
         return Some("comments are `/* .. */`: among the rules they stand behind a blank");
     }
     if unit.kind == Kind::Directive && line.starts_with(b"%option") {
-        return Some("there are no options: leave the line out");
+        return Some(option_advice(line));
     }
     if unit.kind != Kind::Rule {
         return None;
+    }
+    if line.starts_with(b"/*") {
+        return Some("a comment among the rules stands behind a blank");
     }
     if line.starts_with(b"<<EOF>>") {
         return Some("the end of the text needs no rule, and has no action: leave it out");
@@ -53,11 +56,30 @@ fn form_of_flex(unit: Unit, line: &[u8]) -> Option<&'static str> {
     if line.starts_with(b"<*>") {
         return Some("name the conditions, with commas between them: `<INITIAL,NAME>`");
     }
+    if line.starts_with(b"<") && !opens_list(line) {
+        return Some("`<` begins a list of conditions: for the byte write `\\<` or `\"<\"`");
+    }
     let opens_scope = line.starts_with(b"<") && from_offset(line, action_start(line)).is_empty();
     if opens_scope && ends_with_brace(line) {
         return Some("write the conditions in front of each rule: there are no braces round many");
     }
     None
+}
+
+/// Whether a line begins as one with conditions does: with a name or `0` behind the `<`.
+fn opens_list(line: &[u8]) -> bool {
+    let behind = from_offset(line, 1);
+    behind.starts_with(b"0") || leading_name(behind, Language::Lex).is_some()
+}
+
+/// The advice for an option.
+fn option_advice(line: &[u8]) -> &'static str {
+    let caseless: [&[u8]; 2] = [b"case-insensitive", b"caseless"];
+    if caseless.iter().any(|word| offset_of(line, word).is_some()) {
+        "there are no options: write both cases of each letter, as `[aA]`"
+    } else {
+        "there are no options: leave the line out"
+    }
 }
 
 /// Whether a brace that opens is the last of a line but for blanks.
@@ -167,10 +189,22 @@ fn action_advice(line: &[u8]) -> &'static str {
     if offset_of(line, b"return \"").is_some() {
         return "a literal is one byte in single quotes: `return '(';`";
     }
-    if offset_of(line, b"return").is_some() && !line.contains(&b';') {
+    let action = from_offset(line, action_start(line));
+    if offset_of(action, b"//").is_some() {
+        return "comments are written `/* .. */`";
+    }
+    if ends_open(action) {
         return "a statement ends with a `;`: `return NAME;`";
     }
     "write `return NAME;`, `return 'c';`, `return yytext[0];`, `BEGIN NAME;`, `|` or nothing: lytab's actions are not C"
+}
+
+/// Whether a `return` stands in an action, and no `;` behind it.
+fn ends_open(action: &[u8]) -> bool {
+    match offset_of(action, b"return") {
+        Some(offset) => !from_offset(action, offset).contains(&b';'),
+        None => false,
+    }
 }
 
 /// The advice for what is no pattern.

@@ -28,18 +28,19 @@ pub(crate) fn find_lex_faults(
     limits: &Limits,
 ) -> Result<Option<MendedLex>, OutOfMemory> {
     let mut text = plain_text(alloc, findings, bytes, limits)?;
-    for _ in 0..MOST {
+    for _ in 0..=MOST {
         match read_lex(alloc, &text, limits) {
             Ok(file) => return Ok(Some(MendedLex { text, file })),
             Err(LexFault::OutOfMemory) => return Err(OutOfMemory),
             Err(LexFault::Refused { kind, offset }) => {
                 match mend_fault(alloc, findings, &text, kind, offset)? {
                     Some(next) => text = next,
-                    None => break,
+                    None => return Ok(None),
                 }
             }
         }
     }
+    findings.note_more();
     Ok(None)
 }
 

@@ -10,7 +10,7 @@ pub(crate) fn say_findings(page: &mut Page, lex: Named<'_>, yacc: Named<'_>, fin
     for found in findings.list() {
         say_fault(page, lex, yacc, &found.fault, Some(found.at), &found.advice);
     }
-    if findings.is_full() {
+    if findings.has_more() {
         page.say(b"there may be more faults behind these\n");
     }
 }

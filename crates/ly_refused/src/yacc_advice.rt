@@ -1,22 +1,32 @@
 //! What to write in place of what a yacc file is refused for.
 use crate::advice::Advice;
+use crate::nearest::nearest;
 use crate::yacc_before::Before;
 use crate::yacc_units::begins_rule;
-use ly_base::{Language, leading_name};
+use ly_base::{Language, OutOfMemory, leading_name};
 use ly_yaccread::YaccFaultKind;
+use std::alloc::Global;
 
 /// The advice behind a fault, by what stands at its offset and before it.
-pub(crate) fn yacc_advice(before: &Before, kind: YaccFaultKind, rest: &[u8]) -> Advice {
+pub(crate) fn yacc_advice(
+    alloc: Global,
+    before: &Before,
+    kind: YaccFaultKind,
+    rest: &[u8],
+) -> Result<Advice, OutOfMemory> {
     if rest.starts_with(b"//") {
-        return Advice::Words("comments are written `/* .. */`");
+        return Ok(Advice::Words("comments are written `/* .. */`"));
     }
-    Advice::Words(match kind {
+    if let (YaccFaultKind::BadDeclaration, Some(name)) = (kind, unknown_directive(rest))
+        && let Some(near) = nearest(alloc, name, &NEAR)?
+    {
+        return Ok(Advice::Near([b"%", near].concat(alloc)?));
+    }
+    Ok(Advice::Words(match kind {
         YaccFaultKind::NoRulesMark => "write a line `%%` before the first rule",
         YaccFaultKind::BadDeclaration => declaration_advice(before, rest),
         YaccFaultKind::BadRule => rule_advice(before, rest),
-        YaccFaultKind::BadLiteral => {
-            "a literal is one byte in single quotes, as `'+'`: give a longer token a name"
-        }
+        YaccFaultKind::BadLiteral => literal_advice(rest),
         YaccFaultKind::BadAction => action_advice(rest),
         YaccFaultKind::DollarRange => {
             "`$1` is the first symbol of this body: it has fewer than that"
@@ -29,7 +39,34 @@ pub(crate) fn yacc_advice(before: &Before, kind: YaccFaultKind, rest: &[u8]) -> 
             "an action ends its body: make the symbols before it a rule of their own"
         }
         YaccFaultKind::UnclosedComment => unclosed_advice(rest),
-    })
+    }))
+}
+
+/// The name of a directive that stands there, if it is none that is known.
+fn unknown_directive(rest: &[u8]) -> Option<&[u8]> {
+    let (name, _) = leading_name(rest.strip_prefix(b"%")?, Language::Yacc)?;
+    let known = DECLARING.contains(&name)
+        || DIRECTIVES.iter().any(|(directive, _)| *directive == name);
+    if known { None } else { Some(name) }
+}
+
+/// The advice for what is no literal.
+fn literal_advice(rest: &[u8]) -> &'static str {
+    let line = rest.split(|byte| *byte == b'\n').next().unwrap_or(rest);
+    let inside = line.get(1..).unwrap_or_default();
+    if inside.starts_with(b"\\0") || inside.starts_with(b"\\x0") || inside.starts_with(b"\0") {
+        return "a literal isn't byte 0, which is the number of the end: return a token with a name for it";
+    }
+    if !inside.contains(&b'\'') {
+        return "the quote isn't closed: a literal is one byte in single quotes, as `'+'`";
+    }
+    if inside.starts_with(b"''") {
+        return "write `'\\''` for the literal of a single quote";
+    }
+    if inside.starts_with(b"'") {
+        return "a literal has one byte between its quotes, as `'+'`";
+    }
+    "a literal is one byte in single quotes, as `'+'`: give a longer token a name"
 }
 
 /// The advice for what can't stand in the declarations.
@@ -43,6 +80,7 @@ fn declaration_advice(before: &Before, rest: &[u8]) -> &'static str {
             "tokens have no second name: leave the string out, and use the token's name in the rules",
         Some(b',') => "symbols have blanks between them, and no commas",
         Some(b';') => "a declaration ends without a `;`",
+        Some(0x80..=0xFF) => OTHER_BYTE,
         _ =>
             "a declaration is `%token`, `%left`, `%right`, `%nonassoc` or `%type` and symbols, or `%start` and a name",
     }
@@ -50,6 +88,17 @@ fn declaration_advice(before: &Before, rest: &[u8]) -> &'static str {
 
 /// Directives whose declarations name symbols.
 const DECLARING: [&[u8]; 6] = [b"token", b"left", b"right", b"nonassoc", b"type", b"union"];
+
+/// Directives for which one may be meant that isn't known.
+const NEAR: [&[u8]; 7] = [
+    b"token",
+    b"left",
+    b"right",
+    b"nonassoc",
+    b"type",
+    b"union",
+    b"start",
+];
 
 /// Other directives, and the advice for each.
 const DIRECTIVES: [(&[u8], &str); 4] = [
@@ -83,8 +132,15 @@ fn directive_advice(before: &Before, rest: &[u8]) -> &'static str {
     "POSIX has no such declaration: leave it out"
 }
 
+/// The advice for a byte that isn't one of ASCII.
+const OTHER_BYTE: &str =
+    "no name has this byte: names are of the letters `a` to `z` and `A` to `Z`, digits, `_` and `.`";
+
 /// The advice for what can't stand in the rules.
 fn rule_advice(before: &Before, rest: &[u8]) -> &'static str {
+    if let Some((_, [0x80..=0xFF, ..])) = leading_name(rest, Language::Yacc) {
+        return OTHER_BYTE;
+    }
     match rest.first() {
         Some(b'%') => rule_directive_advice(rest),
         Some(b'"') =>
@@ -94,6 +150,7 @@ fn rule_advice(before: &Before, rest: &[u8]) -> &'static str {
         }
         Some(b':' | b'=' | b'-') => "a rule is `name : symbols ;`",
         Some(b'<') => "places have no types here: leave the tag out",
+        Some(0x80..=0xFF) => OTHER_BYTE,
         _ if before.in_body =>
             "a body has symbols, and at its end perhaps an action: is a `;` or a `|` missing?",
         _ => "a rule is `name : symbols ;`: is a `:` or a `;` missing?",
@@ -108,6 +165,11 @@ fn rule_directive_advice(rest: &[u8]) -> &'static str {
     if rest.starts_with(b"%prec") {
         return "`%prec` stands once, behind the symbols of a body, with a token behind it";
     }
+    if let Some((name, _)) = leading_name(rest.get(1..).unwrap_or_default(), Language::Yacc)
+        && (DECLARING.contains(&name) || name == b"start".as_slice())
+    {
+        return "declarations stand before the first `%%`";
+    }
     "a rule has no directive but `%prec`: leave it out"
 }
 
@@ -117,6 +179,8 @@ fn action_advice(rest: &[u8]) -> &'static str {
         "close the braces of the action with `}`"
     } else if rest.starts_with(b"}") {
         "the statement of an action ends with a `;`: write `{ $$ = Name($1,$3); }` or `{ $$ = $1; }`"
+    } else if rest.starts_with(b";") {
+        "a node without children has parentheses too: `{ $$ = Name(); }`"
     } else {
         "write `{ $$ = Name($1,$3); }`, `{ $$ = $1; }`, or no action: lytab's actions are not C"
     }

@@ -27,18 +27,20 @@ pub(crate) fn find_yacc_faults(
     bytes: &[u8],
 ) -> Result<Option<MendedYacc>, OutOfMemory> {
     let mut text = plain_text(alloc, findings, bytes)?;
-    for mended in 0..MOST {
+    findings.begin_next();
+    for mended in 0..=MOST {
         match read_yacc(alloc, &text) {
             Ok(file) => return Ok(Some(MendedYacc { text, file })),
             Err(YaccFault::OutOfMemory) => return Err(OutOfMemory),
             Err(YaccFault::Refused { kind, offset }) => {
                 match mend_fault(alloc, findings, &text, kind, offset, mended)? {
                     Some(next) => text = next,
-                    None => break,
+                    None => return Ok(None),
                 }
             }
         }
     }
+    findings.note_more();
     Ok(None)
 }
 
@@ -68,7 +70,7 @@ fn mend_fault(
     findings.add(Finding {
         fault: GenFault::Yacc(YaccFault::Refused { kind, offset }),
         at: locate(text, offset),
-        advice: yacc_advice(&before, kind, from_offset(text, offset)),
+        advice: yacc_advice(alloc, &before, kind, from_offset(text, offset))?,
     })?;
     let Some(edit) = mending(text, &before, kind, offset, mended) else {
         return Ok(None);

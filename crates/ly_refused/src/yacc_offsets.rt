@@ -1,8 +1,11 @@
 //! Where what a fault of both files names stands in a yacc file.
 use crate::join_mending::is_name;
-use ly_base::{Location, OutOfMemory, locate};
+use crate::location::from_offset;
+use ly_base::{Language, Location, OutOfMemory, after_gap, locate};
 use ly_join::{JoinFault, TerminalName};
-use ly_yaccread::{DeclarationKind, SymbolName, YaccFault, YaccFile, read_yacc, word_spans};
+use ly_yaccread::{
+    DeclarationKind, Production, SymbolName, YaccFault, YaccFile, read_yacc, word_spans,
+};
 use std::alloc::Global;
 
 /// Where what a fault of both files names stands in a yacc file: first, or where it is named again.
@@ -43,6 +46,35 @@ pub(crate) fn start_location(alloc: Global, text: &[u8]) -> Result<Option<Locati
         None => file.rule_offsets.first().map(|rule| rule.left as usize),
     };
     Ok(offset.map(|offset| locate(text, offset)))
+}
+
+/// Where the first body stands that is its left side alone.
+pub(crate) fn endless_location(
+    alloc: Global,
+    text: &[u8],
+) -> Result<Option<Location>, OutOfMemory> {
+    let Some(file) = readable(alloc, text)? else {
+        return Ok(None);
+    };
+    let Some(body) = endless_body(&file) else {
+        return Ok(None);
+    };
+    let behind = after_gap(from_offset(text, body), Language::Yacc);
+    Ok(Some(locate(text, text.len().saturating_sub(behind.len()))))
+}
+
+/// The offset of the first body that is its left side alone.
+fn endless_body(file: &YaccFile) -> Option<usize> {
+    let rule = file.rules.iter().position(is_endless)?;
+    Some(file.rule_offsets.get(rule)?.body as usize)
+}
+
+/// Whether the body of a rule is its left side alone.
+fn is_endless(rule: &Production) -> bool {
+    match rule.body.as_slice() {
+        [SymbolName::Name(name)] => name.as_slice() == rule.left.as_slice(),
+        _ => false,
+    }
 }
 
 /// What a yacc file says; nothing where it is refused.
