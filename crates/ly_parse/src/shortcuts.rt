@@ -12,12 +12,16 @@ use std::marker::PhantomData;
 
 /// How many places there are for shortcuts: as many as `Numbers::place` names.
 const PLACES: usize = 32_768;
+/// How many of the first shortcuts aren't kept: a short text has hardly more, and then takes no room for them.
+const FIRST: usize = 256;
 
 /// The shortcuts that were found, each at the place of its origin, where the next one of that place takes over.
 #[derive(Drop)]
 pub(crate) struct Shortcuts<O> {
     /// The places; none before the first shortcut is kept, which takes all of them.
     places: Vec<Kept>,
+    /// How many of the first ones have come.
+    count: usize,
     /// What all of them set out from: situations, or landings.
     origins: PhantomData<O>,
 }
@@ -29,6 +33,7 @@ impl<O: Origin> Shortcuts<O> {
     {
         Shortcuts {
             places: Vec::new(alloc),
+            count: 0,
             origins: PhantomData,
         }
     }
@@ -41,8 +46,8 @@ impl<O: Origin> Shortcuts<O> {
         self.places.get(from.numbers().place())?.shortcut(from)
     }
 
-    /// Keeps a shortcut at its place, unless one of its numbers is past `u16::MAX`: the tables are then asked each
-    /// time.
+    /// Keeps a shortcut at its place, unless it is one of the first, or one of its numbers is past `u16::MAX`: the
+    /// tables are then asked each time.
     pub(crate) fn keep(&mut self, shortcut: Shortcut<O>) -> Result<(), OutOfMemory>
         ensures { (m : Tables) → AreShortcuts O.origin_of (O.leads m) self.old
             → O.leads m shortcut.from shortcut.state.0 (action_from shortcut.action)
@@ -51,6 +56,10 @@ impl<O: Origin> Shortcuts<O> {
         let Some(kept) = Kept::new(shortcut) else {
             return Ok(());
         };
+        if self.count < FIRST {
+            self.count += 1;
+            return Ok(());
+        }
         if self.places.is_empty() {
             self.places.resize(PLACES, kept)?;
         }
