@@ -3,8 +3,8 @@
 //! The parser runs over rules that keep all of their bodies (`keeping`), so that its term is the derivation of the
 //! text; its leaves are the tokens in their order. From both the parts of the tree are made (`parts_of`, `placed`).
 //!
-//! `parse` gives the parts, or what is wrong with a text, and a `TextParser` does so for many; `parse_tokens` says it of
-//! tokens that were found otherwise; `drive_placed` reads a text from a reader and writes its answer.
+//! `parse` gives the parts, or what is wrong with a text, and a `TextParser` does so for many; `parse_tokens` says it
+//! of tokens that were found otherwise; `drive_placed` reads a text from a reader and writes its answer.
 #![tactic(auto)]
 
 mod derivation;

@@ -29,8 +29,8 @@ placed_from t = record { terminal = record { 0 = t.terminal }; extent = record {
 abbrev pub given_over : List ℕ → List Token → List (lexed.Token ℕ)
 given_over text tokens = map (token_over text) (map placed_from tokens)
 
--- The first token that has none of so many terminals, or that of the end, or that doesn't stand among so many bytes, has
--- this number, counted from 1.
+-- The first token that has none of so many terminals, or that of the end, or that doesn't stand among so many bytes,
+-- has this number, counted from 1.
 abbrev pub IsFirstWrong : ℕ → ℕ → List Token → ℕ → Type 0
 IsFirstWrong terminals count [] number = ⊥
 IsFirstWrong terminals count (t ∷ ts) number = ((IsTokenOver terminals count (placed_from t) → ⊥) × (number ≡ 1))

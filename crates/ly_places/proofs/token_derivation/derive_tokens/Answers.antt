@@ -1,7 +1,7 @@
 use Rattle.std.proofs.Common.{◌∙◌, [], ap, length, map, refl, subst}
 use Rattle.std.specs.Prelude.{Ok}
-use Rattle.ly_places.proofs.TokenLemmas.{end_derived, end_err_told, end_flaw_told, flaw_told, none_refused, read_err_told}
-use Rattle.ly_places.proofs.TokenLemmas.{same_extents}
+use Rattle.ly_places.proofs.TokenLemmas.{end_derived, end_err_told, end_flaw_told, flaw_told, none_refused}
+use Rattle.ly_places.proofs.TokenLemmas.{read_err_told, same_extents}
 use Rattle.ly_places.specs.Private.TokenDerived.{AreReadOver, IsEndRead}
 use Rattle.ly_parse.specs.Reading.{ReadsTokens}
 use Rattle.ly_places.specs.TokenAnswer.{token_over}

@@ -18,7 +18,8 @@ loop-end-preserved c =
     one_answered c.args.set.now texts ends start i 0 c.loop-end.answers c.answer_next.new.answers
     (omega (arith, c.loop-end-test.true)) so_far (
       told.0,
-      subst (λ s. IsAnswerBy s (take (get_or ends i 0 - start) (drop start texts)) told.0) c.in_ok-parser.ensures told.1,
+      subst (λ s. IsAnswerBy s (take (get_or ends i 0 - start) (drop start texts)) told.0) c.in_ok-parser.ensures
+      told.1,
       told.2,
     )
 
