@@ -18,8 +18,8 @@ use ly_places::{Parsed, TextParser};
 use ly_tables::{TableSet, read_tables};
 use std::alloc::Global;
 
-/// Answers many texts by a table file, which is read once: for each just what `lytab_parse` says of that text alone. The
-/// texts stand one behind another, and it is said where each ends. So do their parts, and of the terminals that are
+/// Answers many texts by a table file, which is read once: for each just what `lytab_parse` says of that text alone.
+/// The texts stand one behind another, and it is said where each ends. So do their parts, and of the terminals that are
 /// expected as many as there is room for.
 #[unsafe(no_mangle)]
 pub extern "C" fn lytab_parse_all(

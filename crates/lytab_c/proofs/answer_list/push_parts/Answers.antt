@@ -20,7 +20,8 @@ loop-index-preserved c =
     let i = c.loop-index.index in
     let list = c.args.list.now in
     let front = listed 0 (take i list) in
-    let size : i ≡ 0 + length (take i list) = omega (arith, length-take-le i list (omega (arith, c.loop-index-test.true))) in
+    let size : i ≡ 0 + length (take i list)
+    = omega (arith, length-take-le i list (omega (arith, c.loop-index-test.true))) in
     c.in_ok-push.ensures.items
     ∙ (ap (λ xs. xs ++ c.at.result ∷ []) c.loop-index.invariant
     ∙ (append_assoc c.args.parts.now.items front (c.at.result ∷ [])

@@ -19,7 +19,7 @@ loop-end-preserved c =
     (omega (arith, c.loop-end-test.true)) so_far (
       told.0,
       subst (λ s. IsAnswerBy s (take (get_or ends i 0 - start) (drop start texts)) told.0) c.in_ok-parser.ensures
-      told.1,
+          told.1,
       told.2,
     )
 
