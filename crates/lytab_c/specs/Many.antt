@@ -92,8 +92,8 @@ pub record ManyBlocks : Type 0 where
   pub expected : List ℕ
 
 -- Each text is answered as it is alone, and the blocks have that, with as many terminals as there is room for; the
--- table file is refused; memory ran out; an end is wrong; or a block is too short for the reports or the parts. What isn't
--- said to be written is as it was.
+-- table file is refused; memory ran out; an end is wrong; or a block is too short for the reports or the parts. What
+-- isn't said to be written is as it was.
 abbrev pub AreAllParsed : List ℕ → List ℕ → List ℕ → ManyBlocks → ManyBlocks → Report → Status → Type 0
 AreAllParsed tables texts ends old new report Done = AreEnds 0 (length texts) ends
     × (s : TableSet) × IsDriven tables s × (xs : List TextAnswer) × AreSaidAlone tables (texts_from 0 texts ends) xs
