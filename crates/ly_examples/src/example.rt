@@ -133,8 +133,8 @@ impl<'a> Examples<'a> {
         }
     }
 
-    /// A string of symbols at which the rule of a conflict is possible, which is sought over so many demands; none where
-    /// there are more.
+    /// A string of symbols at which the rule of a conflict is possible, which is sought over so many demands; none
+    /// where there are more.
     ///
     /// `OutOfMemory` comes where a growth was refused.
     pub fn of_rule(
@@ -157,8 +157,8 @@ impl<'a> Examples<'a> {
         self.string_of(alloc, conflict, demand, bound)
     }
 
-    /// A string of symbols at which what stands against the rule of a conflict is possible, which is sought over so many
-    /// demands; none where there are more.
+    /// A string of symbols at which what stands against the rule of a conflict is possible, which is sought over so
+    /// many demands; none where there are more.
     ///
     /// `OutOfMemory` comes where a growth was refused.
     pub fn of_choice(

@@ -23,7 +23,8 @@ returns c =
     let e : Demand = record { state = d.state; first = Settled; second = d.second } in
     IfOk-weaker c.string_of.result
     (λ found. IfSome found (λ s. IsMet M told.terminal (reverse (map symbol_of s.items)) e))
-    (λ found. IfSome found (λ s. IsPlaceOf M.grammar told (rival told.kind told.choice) (reverse (map symbol_of s.items))))
+    (λ found. IfSome found (λ s. IsPlaceOf M.grammar told (rival told.kind told.choice)
+    (reverse (map symbol_of s.items))))
     (λ found met. IfSome_then found met
     (λ s m. place_of_rival M is told d e (reverse (map symbol_of s.items)) c.demand.ensures.opens refl refl m))
     c.string_of.ensures
