@@ -1,21 +1,29 @@
-//! A sentence with two trees, sought behind a string of symbols at which two actions are possible: both derivations
-//! go on at once, until they have come to the same tokens. What is found is asked of `ly_examples` before it is said.
-use crate::bodies::{behind_dot, body_of, rest_of};
-use crate::drawing::begin;
-use crate::half::{Half, LONGEST};
-use crate::yields::{Derived, Yields, push_reversed};
-use ly_base::{OutOfMemory, Sym};
-use ly_examples::ambiguous_sentence;
+//! A sentence with two trees that take the two actions of a conflict, sought from the conflict on outwards: two
+//! readings go on at once behind its place, and get rules around them, until both are of one nonterminal and have come
+//! to the same tokens (in the manner of Isradisaikul and Myers 2015). What is found is asked of `ly_examples` before it
+//! is said.
+use crate::bodies::{behind_dot, body_of};
+use crate::drawing::core_of;
+use crate::growing::Search;
+use crate::pair::{Pair, beginning};
+use crate::reading::Reading;
+use crate::surroundings::Surroundings;
+use crate::ways::Ways;
+use crate::yields::{Derived, Yields};
+use ly_base::{OutOfMemory, StateNo, Sym};
 use ly_join::{Grammar, Symbol};
 use ly_lr0::{Item, Lr0};
+use ly_resolve::{Action, Conflict, ConflictKind};
 use std::alloc::{AllocError, Global};
-use std::mem::swap;
 
-/// How many pairs of derivations are looked at, at most.
-const MOST: usize = 2_000;
+/// How many pairs of readings of whole texts are looked at for a conflict, at most.
+const MOST_WHOLE: usize = 2_000;
+
+/// How many pairs of other readings are looked at for a conflict, at most.
+const MOST: usize = 6_000;
 
 /// How many symbols are derived for all sentences together, at most.
-const STEPS: usize = 10_000_000;
+const STEPS: usize = 20_000_000;
 
 /// A sentence with two trees.
 #[derive(Drop)]
@@ -28,260 +36,183 @@ pub(crate) struct Ambiguity {
     pub(crate) other: Vec<usize>,
 }
 
-/// Two derivations that have come to the same tokens.
-#[derive(Drop)]
-struct Pair {
-    /// The first one.
-    one: Half,
-    /// The second one.
-    other: Half,
-}
-
-/// How far two derivations go on together.
-#[derive(Clone, Copy)]
-enum Course {
-    /// To their ends.
-    Ended,
-    /// To where one of them has to replace a nonterminal.
-    Open,
-    /// To where they can't come to the same tokens.
-    Parted,
-}
-
 /// What sentences are sought by.
 #[derive(Drop)]
 pub(crate) struct Finder<'a> {
     /// The automaton, which knows the rules of each nonterminal.
-    lr0: &'a Lr0<'a>,
+    pub(crate) lr0: &'a Lr0<'a>,
     /// Its grammar.
-    grammar: &'a Grammar,
+    pub(crate) grammar: &'a Grammar,
     /// The shortest yields of nonterminals.
-    yields: &'a Yields,
+    pub(crate) yields: &'a Yields,
+    /// What stands round nonterminals and states.
+    pub(crate) surroundings: Surroundings,
     /// How many symbols may still be derived.
     steps: usize,
 }
 
 impl<'a> Finder<'a> {
     /// What sentences of an automaton's grammar are sought by.
-    pub(crate) fn new(lr0: &'a Lr0<'a>, yields: &'a Yields) -> Finder<'a> {
-        Finder {
+    pub(crate) fn new(
+        alloc: Global,
+        lr0: &'a Lr0<'a>,
+        yields: &'a Yields,
+    ) -> Result<Finder<'a>, AllocError> {
+        Ok(Finder {
             lr0,
             grammar: lr0.reduced().grammar(),
             yields,
+            surroundings: Surroundings::of(alloc, lr0)?,
             steps: STEPS,
-        }
+        })
     }
 
-    /// A sentence with two trees, which begin as two ways to the same string do.
+    /// A sentence with two trees, which take the two actions of a conflict. It is sought first behind the ways to both
+    /// at a string, from the start on, and then from the conflict on outwards.
     pub(crate) fn find(
         &mut self,
         alloc: Global,
-        one: &[Item],
-        other: &[Item],
+        conflict: &Conflict,
+        at: Option<&Ways>,
     ) -> Result<Option<Ambiguity>, OutOfMemory> {
-        let mut pairs = self.first_pair(alloc, one, other)?;
-        for place in 0..MOST {
-            if place >= pairs.len() || self.steps == 0 {
-                break;
+        if let Some(ways) = at {
+            let mut search = Search::new(alloc, conflict)?;
+            self.begin_whole(alloc, &mut search, conflict, ways)?;
+            let found = self.search(alloc, &mut search, MOST_WHOLE)?;
+            if found.is_some() {
+                return Ok(found);
             }
-            match self.go_on(alloc, &mut pairs[place])? {
-                Course::Ended => return self.checked(alloc, &pairs[place]),
-                Course::Open => self.push_next(alloc, &mut pairs, place)?,
-                Course::Parted => {}
+        }
+        let mut search = Search::new(alloc, conflict)?;
+        self.begin(alloc, &mut search, conflict)?;
+        self.search(alloc, &mut search, MOST)
+    }
+
+    /// Goes on with a search, over so many pairs at most.
+    fn search(
+        &mut self,
+        alloc: Global,
+        search: &mut Search,
+        most: usize,
+    ) -> Result<Option<Ambiguity>, OutOfMemory> {
+        for _ in 0..most {
+            let Some(pair) = search.queue.pop() else {
+                break;
+            };
+            if let Some(found) = self.look_at(alloc, search, pair)? {
+                return Ok(Some(found));
+            }
+            if self.steps == 0 {
+                break;
             }
         }
         Ok(None)
     }
 
-    /// The pair of the derivations that two ways begin.
-    fn first_pair(
+    /// Adds the pair of whole texts that two ways to the same string begin.
+    fn begin_whole(
         &self,
         alloc: Global,
-        one: &[Item],
-        other: &[Item],
-    ) -> Result<Vec<Pair>, AllocError> {
-        let mut pairs = Vec::new(alloc);
-        let one = self.begun(alloc, one)?;
-        let other = self.begun(alloc, other)?;
-        pairs.push(Pair { one, other })?;
-        Ok(pairs)
-    }
-
-    /// The derivation that a way begins, with the shortest yields of what it has passed.
-    fn begun(&self, alloc: Global, way: &[Item]) -> Result<Half, AllocError> {
-        let mut half = Half::new(alloc);
-        let mut open = Vec::new(alloc);
-        for item in way {
-            self.pass(alloc, *item, &mut open, &mut half.rules)?;
-        }
-        self.push_ahead(&open, &mut half.ahead)?;
-        Ok(half)
-    }
-
-    /// Goes on to an item of a way: the inmost open rule has passed a symbol, which is derived, or another is opened.
-    fn pass(
-        &self,
-        alloc: Global,
-        item: Item,
-        open: &mut Vec<Item>,
-        rules: &mut Vec<usize>,
-    ) -> Result<(), AllocError> {
-        if let (Some(top), true) = (open.last_mut(), item.dot > 0) {
-            let passed = *top;
-            *top = item;
-            return self.derive_behind(alloc, passed, rules);
-        }
-        if item.rule > 0 {
-            rules.push(item.rule)?;
-        }
-        open.push(item)?;
-        Ok(())
-    }
-
-    /// Adds the rules of the shortest yield of the symbol behind an item's dot.
-    fn derive_behind(
-        &self,
-        alloc: Global,
-        item: Item,
-        rules: &mut Vec<usize>,
-    ) -> Result<(), AllocError> {
-        let Some(symbol) = behind_dot(self.grammar, item) else {
-            return Ok(());
+        search: &mut Search,
+        conflict: &Conflict,
+        ways: &Ways,
+    ) -> Result<(), OutOfMemory> {
+        let mut string = Vec::from_slice(alloc, &ways.string)?;
+        string.reverse();
+        let mut states = Vec::new(alloc);
+        states.push(StateNo(0))?;
+        let passed = string.len();
+        let pair = Pair {
+            one: Reading::of_way(alloc, self.grammar, &ways.one, passed)?,
+            other: Reading::of_way(alloc, self.grammar, &ways.other, passed)?,
+            string,
+            states,
+            pending: conflict.kind == ConflictKind::ReduceReduce,
+            read: 0,
+            taken: 0,
         };
-        let passed = self.yields.derive(alloc, self.grammar, &[symbol])?;
-        rules.extend_from_slice(&passed.rules)
+        Ok(search.queue.push(self.yields, pair)?)
     }
 
-    /// Adds what is ahead in open rules, the outmost first: of the inmost what stands behind its dot, and of each other
-    /// what stands behind the rule within it.
-    fn push_ahead(&self, open: &[Item], ahead: &mut Vec<Symbol>) -> Result<(), AllocError> {
-        for (place, item) in open.iter().enumerate() {
-            let inmost = place.saturating_add(1) == open.len();
-            let passed = if inmost {
-                item.dot
-            } else {
-                item.dot.saturating_add(1)
-            };
-            push_reversed(ahead, rest_of(self.grammar, item.rule, passed))?;
+    /// Adds the pairs with which a search begins.
+    fn begin(
+        &self,
+        alloc: Global,
+        search: &mut Search,
+        conflict: &Conflict,
+    ) -> Result<(), OutOfMemory> {
+        let other = self.complete(conflict.rule);
+        if let (ConflictKind::ReduceReduce, Action::Reduce(rule)) = (
+            conflict.kind,
+            conflict.choice,
+        ) {
+            let one = self.complete(rule);
+            return Ok(self.begin_with(alloc, search, conflict.state, one, other)?);
+        }
+        let ahead = Some(Symbol::Terminal(conflict.terminal));
+        for item in &core_of(alloc, self.lr0, conflict.state)? {
+            if behind_dot(self.grammar, *item) == ahead {
+                self.begin_with(alloc, search, conflict.state, *item, other)?;
+            }
         }
         Ok(())
     }
 
-    /// Goes on with two derivations as long as they have the same symbol ahead.
-    fn go_on(&mut self, alloc: Global, pair: &mut Pair) -> Result<Course, AllocError> {
-        for _ in 0..LONGEST {
-            let (Some(symbol), Some(same)) = (pair.one.next(), pair.other.next()) else {
-                break;
-            };
-            if symbol != same {
-                return Ok(match (symbol, same) {
-                    (Symbol::Terminal(_), Symbol::Terminal(_)) => Course::Parted,
-                    _ => Course::Open,
-                });
-            }
-            self.pass_both(alloc, pair, symbol)?;
-        }
-        let ended = self.end(alloc, &mut pair.one)? && self.end(alloc, &mut pair.other)?;
-        Ok(if ended { Course::Ended } else { Course::Parted })
+    /// The item of a rule with its dot at the end.
+    fn complete(&self, rule: usize) -> Item {
+        let dot = body_of(self.grammar, rule).len();
+        Item { rule, dot }
     }
 
-    /// Goes on with two derivations behind the symbol that both have ahead.
-    fn pass_both(
-        &mut self,
+    /// Adds the pair with which a search begins: both items are in the state.
+    fn begin_with(
+        &self,
         alloc: Global,
-        pair: &mut Pair,
-        symbol: Symbol,
+        search: &mut Search,
+        state: StateNo,
+        one: Item,
+        other: Item,
     ) -> Result<(), AllocError> {
-        pair.one.ahead.pop();
-        pair.other.ahead.pop();
-        let passed = self.yielded(alloc, &[symbol])?;
-        pair.one.rules.extend_from_slice(&passed.rules)?;
-        pair.other.rules.extend_from_slice(&passed.rules)
-    }
-
-    /// Ends a derivation without further tokens, and answers whether it can end so.
-    fn end(&mut self, alloc: Global, half: &mut Half) -> Result<bool, AllocError> {
-        half.ahead.reverse();
-        let rest = self.yielded(alloc, &half.ahead)?;
-        half.ahead.clear();
-        half.rules.extend_from_slice(&rest.rules)?;
-        Ok(rest.whole && rest.tokens.is_empty())
+        let (longer, _) = if one.dot > other.dot {
+            (one, other)
+        } else {
+            (other, one)
+        };
+        let mut string = Vec::new(alloc);
+        let mut states = Vec::new(alloc);
+        states.push(state)?;
+        for symbol in body_of(self.grammar, longer.rule)
+            .iter()
+            .take(longer.dot)
+            .rev()
+        {
+            string.push(*symbol)?;
+            states = self.surroundings.before(alloc, &states, *symbol)?;
+        }
+        let states = beginning(alloc, self.lr0, &states, longer.rule)?;
+        let one = Reading::of(alloc, self.grammar, one)?;
+        let other = Reading::of(alloc, self.grammar, other)?;
+        let pair = Pair {
+            pending: one.ahead.is_empty(),
+            one,
+            other,
+            string,
+            states,
+            read: 0,
+            taken: 0,
+        };
+        search.queue.push(self.yields, pair)
     }
 
     /// The trees of symbols that have the fewest tokens.
-    fn yielded(&mut self, alloc: Global, symbols: &[Symbol]) -> Result<Derived, AllocError> {
+    pub(crate) fn yielded(
+        &mut self,
+        alloc: Global,
+        symbols: &[Symbol],
+    ) -> Result<Derived, AllocError> {
         let derived = self.yields.derive(alloc, self.grammar, symbols)?;
         let steps = derived.rules.len().saturating_add(derived.tokens.len());
         self.steps = self.steps.saturating_sub(steps);
         Ok(derived)
-    }
-
-    /// Adds the pairs that a pair becomes where one of its derivations replaces the nonterminal that is ahead.
-    fn push_next(
-        &self,
-        alloc: Global,
-        pairs: &mut Vec<Pair>,
-        place: usize,
-    ) -> Result<(), AllocError> {
-        let (Some(pair), true) = (pairs.get(place), pairs.len() < MOST) else {
-            return Ok(());
-        };
-        let (mut ones, mut others) = (Vec::new(alloc), Vec::new(alloc));
-        self.push_replaced(alloc, &pair.one, &pair.other, &mut ones)?;
-        self.push_replaced(alloc, &pair.other, &pair.one, &mut others)?;
-        for pair in &mut others {
-            swap(&mut pair.one, &mut pair.other);
-        }
-        pairs.append(&mut ones)?;
-        pairs.append(&mut others)
-    }
-
-    /// Adds what a derivation becomes where it replaces the nonterminal that is ahead, each with the one beside it.
-    fn push_replaced(
-        &self,
-        alloc: Global,
-        half: &Half,
-        beside: &Half,
-        pairs: &mut Vec<Pair>,
-    ) -> Result<(), AllocError> {
-        let Some(Symbol::Nonterminal(left)) = half.next() else {
-            return Ok(());
-        };
-        if left.0 > self.lr0.reduced().grammar().accept().0 || half.is_long() || beside.is_long() {
-            return Ok(());
-        }
-        for rule in self.lr0.rules_of(left) {
-            let body = body_of(self.grammar, *rule);
-            if self.may_meet(body, beside) {
-                let one = half.with_rule(alloc, *rule, body)?;
-                let other = beside.copy(alloc)?;
-                pairs.push(Pair { one, other })?;
-            }
-        }
-        Ok(())
-    }
-
-    /// Whether symbols may begin with the terminal that is ahead beside them, if one is.
-    fn may_meet(&self, symbols: &[Symbol], beside: &Half) -> bool {
-        match beside.next() {
-            Some(Symbol::Terminal(terminal)) => {
-                let (begins, nullable) = begin(self.lr0.reduced(), symbols, terminal);
-                begins || nullable
-            }
-            _ => true,
-        }
-    }
-
-    /// What was found, if it is a sentence with two trees.
-    fn checked(&self, alloc: Global, pair: &Pair) -> Result<Option<Ambiguity>, OutOfMemory> {
-        let (one, other) = (&pair.one.rules, &pair.other.rules);
-        let Some(sentence) = ambiguous_sentence(alloc, self.grammar, one, other)? else {
-            return Ok(None);
-        };
-        Ok(Some(Ambiguity {
-            sentence,
-            one: Vec::from_slice(alloc, one)?,
-            other: Vec::from_slice(alloc, other)?,
-        }))
     }
 }

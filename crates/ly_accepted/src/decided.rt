@@ -5,7 +5,7 @@ ghost use Rattle.ly_lookahead.specs.Lookaheads.{AreLookaheads};
 use crate::bodies::body_of;
 use crate::states::place_of;
 use ly_base::{OutOfMemory, StateNo, Sym};
-use ly_join::{Precedence, Spec, Symbol};
+use ly_join::{Associativity, Precedence, Spec, Symbol};
 use ly_lookahead::{Lookaheads, lookaheads};
 use ly_lr0::{Item, Lr0};
 use ly_resolve::Resolved;
@@ -16,7 +16,7 @@ use std::alloc::Global;
 pub(crate) struct Decided {
     /// Whether the precedence of each terminal meets that of a rule.
     terminals: Vec<bool>,
-    /// Whether that of each rule meets that of a terminal.
+    /// Whether the `%prec` of each rule settles a shift otherwise than the last terminal of its body does.
     rules: Vec<bool>,
     /// Whether a rule whose precedence is declared at each place does so.
     levels: Vec<bool>,
@@ -56,7 +56,7 @@ impl Decided {
         }
     }
 
-    /// Whether the precedence of a rule decides something.
+    /// Whether the `%prec` of a rule decides something.
     pub(crate) fn by_rule(&self, rule: usize) -> bool {
         is_marked(&self.rules, rule)
     }
@@ -81,15 +81,71 @@ impl Decided {
         }
     }
 
-    /// Marks a terminal and a rule that meet, if both have a precedence.
+    /// Marks what the precedences of a terminal and a rule decide that meet.
     fn mark_meeting(&mut self, spec: &Spec, terminal: Sym, rule: usize) {
-        let of_terminal = spec.precedences().get(terminal.0 as usize);
-        if let (Some(ranked), Some(Some(_))) = (precedence_of(spec, rule), of_terminal) {
+        let Some(of_terminal) = rank_of(spec, terminal) else {
+            return;
+        };
+        let of_rule = precedence_of(spec, rule);
+        if let Some(ranked) = of_rule {
             mark(&mut self.terminals, terminal.0 as usize);
-            mark(&mut self.rules, rule);
             mark(&mut self.levels, ranked.level);
         }
+        if outcome(of_rule, of_terminal) != outcome(last_rank(spec, rule), of_terminal) {
+            mark(&mut self.rules, rule);
+        }
     }
+}
+
+/// How a shift against a reduction is settled.
+#[derive(Clone, Copy, PartialEq, Eq)]
+enum Settled {
+    /// It is a conflict.
+    Not,
+    /// By the shift.
+    Shift,
+    /// By the reduction.
+    Reduce,
+    /// By neither.
+    Error,
+}
+
+/// How a shift of a terminal that has a precedence is settled against a reduction.
+fn outcome(rule: Option<Precedence>, terminal: Precedence) -> Settled {
+    let Some(rule) = rule else {
+        return Settled::Not;
+    };
+    if rule.level > terminal.level {
+        return Settled::Reduce;
+    }
+    if rule.level < terminal.level {
+        return Settled::Shift;
+    }
+    match terminal.associativity {
+        Associativity::Left => Settled::Reduce,
+        Associativity::Right => Settled::Shift,
+        Associativity::Nonassociative => Settled::Error,
+    }
+}
+
+/// The precedence of a terminal, if it has one.
+pub(crate) fn rank_of(spec: &Spec, terminal: Sym) -> Option<Precedence> {
+    *spec.precedences().get(terminal.0 as usize)?
+}
+
+/// The precedence that a rule has without its `%prec`, if it has one: that of its last terminal.
+fn last_rank(spec: &Spec, rule: usize) -> Option<Precedence> {
+    rank_of(spec, last_terminal(spec, rule)?)
+}
+
+/// The last terminal in the body of a rule, if it has one.
+pub(crate) fn last_terminal(spec: &Spec, rule: usize) -> Option<Sym> {
+    for symbol in body_of(spec.grammar(), rule).iter().rev() {
+        if let Symbol::Terminal(terminal) = symbol {
+            return Some(*terminal);
+        }
+    }
+    None
 }
 
 /// The precedence of a rule, if it has one.

@@ -1,19 +1,20 @@
 //! What is doubtful in files that are accepted.
 ghost use Rattle.ly_subset.specs.Automaton.{IsBreadthFirst};
 
+use crate::bodies::body_of;
 use crate::decided::Decided;
-use crate::patterns::{Surprise, surprises};
+use crate::lex_doubts::say_lex_doubts;
 use crate::places::Places;
 use crate::scanner::say_other_bytes;
 use crate::surveying::{Accepted, first_of, say_numbered};
 use ly_base::{OutOfMemory, Sym, locate};
-use ly_examples::{unmatched_rules, unreduced_rules, unreturned_terminals, unused_terminals};
-use ly_page::{Named, Page};
+use ly_examples::{unreduced_rules, unreturned_terminals, unused_terminals};
+use ly_page::Page;
 use ly_yaccread::SymbolName;
 use std::alloc::Global;
 
 /// How many terminals of a kind are told, at most.
-const MOST: usize = 50;
+pub(crate) const MOST: usize = 50;
 
 /// What doubts are told by.
 #[derive(Clone, Copy)]
@@ -42,7 +43,8 @@ const STANDS_NOWHERE: Said<'static> = Said {
     more: b"stand in no rule\n",
 };
 
-/// Says what is doubtful, a line each: first of the lex file, and then of the yacc file.
+/// Says what is doubtful, a line each: first of the lex file, and then of the yacc file. That nothing is, is said where
+/// there are no conflicts either.
 pub(crate) fn say_doubts(
     alloc: Global,
     page: &mut Page,
@@ -56,38 +58,25 @@ pub(crate) fn say_doubts(
         places,
     };
     let before = page.len();
-    teller.say_of_lex(alloc, page)?;
+    say_lex_doubts(alloc, page, files)?;
     teller.say_of_yacc(alloc, page)?;
-    if page.len() == before {
+    if page.len() == before && files.resolved.conflicts().is_empty() {
         page.say(b"No doubts.\n");
     }
     say_other_bytes(alloc, page, files)
 }
 
 impl Teller<'_> {
-    /// Says what is doubtful in the lex file.
-    fn say_of_lex(&self, alloc: Global, page: &mut Page) -> Result<(), OutOfMemory>
-        requires { IsBreadthFirst self.now.files.dfa.now }
-    {
-        self.say_surprises(alloc, page)?;
-        self.say_indented(page);
-        self.say_unmatched(alloc, page)
-    }
-
     /// Says what is doubtful in the yacc file.
     fn say_of_yacc(&self, alloc: Global, page: &mut Page) -> Result<(), OutOfMemory>
         requires { IsBreadthFirst self.now.files.dfa.now }
     {
         self.say_removed(page);
         self.say_unreduced(alloc, page)?;
+        self.say_losing(alloc, page)?;
         self.say_terminals(alloc, page)?;
         self.say_declared_again(alloc, page)?;
         self.say_undecided(alloc, page)
-    }
-
-    /// Says the place of a rule of the lex file.
-    fn say_lex_rule(&self, page: &mut Page, rule: usize) {
-        page.say_line_of(self.files.lex, self.files.line_of_lex_rule(rule));
     }
 
     /// Says the place of a rule of the yacc file, and its number.
@@ -102,29 +91,6 @@ impl Teller<'_> {
             .places
             .location_of_terminal(self.files.spec, self.files.yacc.bytes, terminal);
         page.say_location_in(self.files.yacc, at);
-    }
-
-    /// Says what in the patterns of the lex file means something else than it may seem to.
-    fn say_surprises(&self, alloc: Global, page: &mut Page) -> Result<(), OutOfMemory> {
-        let lex = self.files.lex;
-        for start in &self.files.file.rule_starts {
-            let found = surprises(alloc, line_from(lex.bytes, *start))?;
-            if found.letter.is_some() || found.interval {
-                say_surprise(page, lex, locate(lex.bytes, *start).line, found);
-            }
-        }
-        Ok(())
-    }
-
-    /// Says which rules of the lex file never match.
-    fn say_unmatched(&self, alloc: Global, page: &mut Page) -> Result<(), OutOfMemory>
-        requires { IsBreadthFirst self.now.files.dfa.now }
-    {
-        for rule in &unmatched_rules(alloc, self.files.file.rules.len(), self.files.dfa)? {
-            self.say_lex_rule(page, *rule);
-            page.say(b"this rule never matches: earlier rules take all that it could\n");
-        }
-        Ok(())
     }
 
     /// Says which rules of the grammar are removed.
@@ -147,12 +113,30 @@ impl Teller<'_> {
         Ok(())
     }
 
+    /// Says which rules without an action have the tree of a literal, and lose those of their other symbols.
+    fn say_losing(&self, alloc: Global, page: &mut Page) -> Result<(), OutOfMemory> {
+        for rule in first_of(&self.places.losing_rules(alloc)?, MOST) {
+            self.say_rule(page, *rule);
+            page.say(b" has no action: its tree is that of its first symbol, ");
+            if let Some(first) = body_of(self.files.spec.grammar(), *rule).first() {
+                page.say_symbol(self.files.spec, *first);
+            }
+            page.say(b", alone\n");
+        }
+        Ok(())
+    }
+
     /// Says which terminals stand in no rule, and which of the others no rule of the lex file returns.
     fn say_terminals(&self, alloc: Global, page: &mut Page) -> Result<(), OutOfMemory>
         requires { IsBreadthFirst self.now.files.dfa.now }
     {
         let unused = unused_terminals(alloc, self.files.spec)?;
-        self.say_all_so(page, &unused, &[], STANDS_NOWHERE);
+        self.say_all_so(
+            page,
+            &unused,
+            &self.precedence_names(alloc, &unused)?,
+            STANDS_NOWHERE,
+        );
         let unreturned = unreturned_terminals(alloc, self.files.spec, self.files.dfa)?;
         let is_unreturned = Said {
             one: b" is returned by no rule of ",
@@ -163,12 +147,23 @@ impl Teller<'_> {
         Ok(())
     }
 
-    /// Says what is so of terminals, but of those that were told before, and of those that give a rule its precedence.
-    fn say_all_so(&self, page: &mut Page, terminals: &[Sym], told: &[Sym], so: Said<'_>) {
+    /// Those of terminals that stand behind a `%prec`, and so are there to give a rule its precedence.
+    fn precedence_names(&self, alloc: Global, terminals: &[Sym]) -> Result<Vec<Sym>, OutOfMemory> {
+        let mut names = Vec::new(alloc);
+        for terminal in terminals {
+            if self.places.gives_precedence(self.files.spec, *terminal) {
+                names.push(*terminal)?;
+            }
+        }
+        Ok(names)
+    }
+
+    /// Says what is so of terminals, but of these, which it isn't said of.
+    fn say_all_so(&self, page: &mut Page, terminals: &[Sym], but: &[Sym], so: Said<'_>) {
         let spec = self.files.spec;
         let mut said = 0;
         for terminal in terminals {
-            if told.contains(terminal) || self.places.gives_precedence(spec, *terminal) {
+            if but.contains(terminal) {
                 continue;
             }
             if said < MOST {
@@ -181,14 +176,6 @@ impl Teller<'_> {
             said = said.saturating_add(1);
         }
         self.say_more(page, said, so.more);
-    }
-
-    /// Says which lines among the rules of the lex file aren't used.
-    fn say_indented(&self, page: &mut Page) {
-        for line in first_of(self.files.indented, MOST) {
-            page.say_line_of(self.files.lex, *line);
-            page.say(b"this line begins with a blank, and so is no rule: it is not used\n");
-        }
     }
 
     /// Says which tokens are declared more than once.
@@ -252,30 +239,5 @@ impl Teller<'_> {
             say_numbered(page, b": ", (count - MOST) as u64, b" terminals more ");
             page.say(so);
         }
-    }
-}
-
-/// The line of a text that begins at an offset, without its newline.
-fn line_from(text: &[u8], start: usize) -> &[u8] {
-    let rest = text.get(start..).unwrap_or(b"");
-    rest.split(|byte| *byte == b'\n').next().unwrap_or(rest)
-}
-
-/// Says what is surprising in the pattern on a line of the lex file.
-fn say_surprise(page: &mut Page, lex: Named<'_>, line: u64, found: Surprise) {
-    if let Some(letter) = found.letter {
-        page.say_line_of(lex, line);
-        page.say(b"\\");
-        page.say(&[letter]);
-        page.say(b" is the letter ");
-        page.say(&[letter]);
-        page.say(b" in a pattern; a class of bytes is written as [[:digit:]] or [0-9]\n");
-    }
-    if found.interval {
-        page.say_line_of(lex, line);
-        page.say(
-            b"the interval repeats all that stands before it, not its last piece alone, as POSIX has it; \
-            write parentheses around what is to be repeated\n",
-        );
     }
 }

@@ -1,15 +1,13 @@
 //! How an action comes about behind a string of symbols: the rules that are under way there.
 use crate::bodies::{behind_dot, rest_of};
+use crate::claims::{Claimed, MOST, Opening, Search, item_of, with_item};
 use indexmap::{IndexMap, IndexSet};
 use ly_base::{OutOfMemory, StateNo, Sym};
 use ly_examples::Claim;
 use ly_grammar::Reduced;
 use ly_join::{Grammar, Symbol};
 use ly_lr0::{Item, Lr0};
-use std::alloc::{AllocError, Global};
-
-/// How many claims are looked at, at most, to find how an action comes about.
-const MOST: usize = 50_000;
+use std::alloc::Global;
 
 /// A string of symbols behind which an action is drawn.
 #[derive(Drop)]
@@ -24,35 +22,6 @@ pub(crate) struct Drawing<'a> {
     terminal: Sym,
     /// For each beginning of the string, the empty one first, the items of its core.
     cores: Vec<Vec<Item>>,
-}
-
-/// A claim on a beginning of the string.
-#[derive(Clone, Copy, PartialEq, Eq, Hash)]
-struct Claimed {
-    /// How many symbols the beginning has.
-    length: usize,
-    /// What is claimed of it.
-    claim: Claim,
-}
-
-/// A rule that begins behind a beginning of the string.
-#[derive(Clone, Copy, PartialEq, Eq, Hash)]
-struct Opening {
-    /// How many symbols the beginning has.
-    length: usize,
-    /// The left side of the rule.
-    left: Sym,
-    /// Whether it is claimed with any terminal.
-    in_core: bool,
-}
-
-/// The claims that were found on the way back to the start.
-#[derive(Drop)]
-struct Search {
-    /// Each with the place of the one that is true by it.
-    found: IndexMap<Claimed, usize>,
-    /// The openings of those that were looked at.
-    opened: IndexSet<Opening>,
 }
 
 impl<'a> Drawing<'a> {
@@ -201,70 +170,6 @@ impl<'a> Drawing<'a> {
     }
 }
 
-impl Search {
-    /// The claim at a place; none behind so many that the search ends.
-    fn claimed(&self, place: usize) -> Option<Claimed> {
-        if self.found.len() > MOST {
-            return None;
-        }
-        let (claimed, _) = self.found.get_index(place)?;
-        Some(*claimed)
-    }
-
-    /// Whether a claim depends on an opening that was met before. A new one is met here.
-    fn opens_again(&mut self, opening: Option<Opening>) -> Result<bool, AllocError> {
-        let Some(opening) = opening else {
-            return Ok(false);
-        };
-        let again = self.opened.contains(&opening);
-        if !again {
-            self.opened.insert(opening)?;
-        }
-        Ok(again)
-    }
-
-    /// Adds claims by which the one at a place is true, up to the one on the start, and answers whether that is among
-    /// them and new.
-    fn has_start(&mut self, claims: &[Claimed], place: usize) -> Result<bool, AllocError> {
-        for before in claims {
-            if self.found.contains_key(before) {
-                continue;
-            }
-            self.found.insert(*before, place)?;
-            if before.is_start() {
-                return Ok(true);
-            }
-        }
-        Ok(false)
-    }
-
-    /// The items of the claims from the last one back to the first, each found from the next.
-    fn way_back(&self, alloc: Global) -> Result<Vec<Item>, OutOfMemory> {
-        let mut way = Vec::new(alloc);
-        let mut place = self.found.len().saturating_sub(1);
-        for _ in 0..self.found.len() {
-            let Some((claimed, from)) = self.found.get_index(place) else {
-                break;
-            };
-            if let Some(item) = item_of(claimed.claim) {
-                way.push(item)?;
-            }
-            if place == 0 {
-                break;
-            }
-            place = *from;
-        }
-        Ok(way)
-    }
-}
-
-impl Claimed {
-    /// Whether it is the one on the start that is always true.
-    fn is_start(&self) -> bool {
-        self.length == 0 && self.claim == Claim::InCore(Item { rule: 0, dot: 0 })
-    }
-}
-
 /// Adds the cores of the states to which the beginnings of a string lead, up to where it leads nowhere.
 fn push_cores(
     alloc: Global,
@@ -303,23 +208,6 @@ fn goto_of(lr0: &Lr0<'_>, state: StateNo, symbol: Symbol) -> Option<StateNo> {
         lr0.goto(state, symbol)
     } else {
         None
-    }
-}
-
-/// The item of a claim, if it has one.
-fn item_of(claim: Claim) -> Option<Item> {
-    match claim {
-        Claim::Settled => None,
-        Claim::InCore(item) | Claim::With(item) => Some(item),
-    }
-}
-
-/// The claim of the same kind on another item.
-fn with_item(claim: Claim, item: Item) -> Claim {
-    match claim {
-        Claim::Settled => Claim::Settled,
-        Claim::InCore(_) => Claim::InCore(item),
-        Claim::With(_) => Claim::With(item),
     }
 }
 

@@ -1,133 +1,298 @@
-//! What in a pattern means something else than whoever knows flex may think. It is looked for by a sketch of what
-//! patterns are: what is found is told, and nothing rests on it.
-use std::alloc::{AllocError, Global};
+//! What in a pattern means something else than whoever knows flex may think. Each doubt is what the reader of patterns
+//! answers: where its reading of a beginning ends tells what stands there, and its reading of the pattern as it may be
+//! meant tells whether that is another one.
+use ly_base::{Limits, OutOfMemory};
+use ly_ere::{EreFault, EreFaultKind, Names, Pattern, Re, read_pattern};
+use std::alloc::Global;
 
-/// What is found in the pattern at the front of a line.
-#[derive(Clone, Copy, Default)]
-pub(crate) struct Surprise {
-    /// A letter behind a backslash that elsewhere stands for a class of bytes, if there is one.
-    pub(crate) letter: Option<u8>,
-    /// Whether an interval stands behind more than one piece.
-    pub(crate) interval: bool,
-}
+/// How many bytes of a pattern are looked at, at most.
+const LONGEST: usize = 1_000;
 
-/// Where a sketch stands.
-#[derive(Clone, Copy, PartialEq, Eq)]
-enum Inside {
-    /// Outside of quotes, brackets and braces.
-    Pattern,
-    /// In quotes.
-    Quotes,
-    /// In brackets.
-    Brackets,
-    /// In braces: a name, or an interval.
+/// How many bytes of patterns are read to doubt one, at most.
+const MOST: usize = 200_000;
+
+/// What may not be meant.
+#[derive(Clone, Copy, Debug, PartialEq, Eq)]
+pub(crate) enum Surprise {
+    /// A letter behind a backslash that elsewhere stands for a class of bytes.
+    Letter(u8),
+    /// `\b`, the backspace.
+    Backspace,
+    /// `\x{`, whose `x` is a letter behind a backslash.
     Braces,
+    /// `\u`, a letter behind a backslash.
+    Unicode,
+    /// `?` behind `*`, `+` or `?`.
+    Reluctant,
+    /// A character of several bytes in brackets.
+    ManyBytes,
+    /// An interval behind more than one piece.
+    Interval,
+    /// `$`, which asks for a newline.
+    LineEnd,
+    /// `<<EOF>>`, which is its bytes.
+    EndOfFile,
 }
 
-/// A look over a pattern, from left to right.
+/// A doubt about a pattern.
+#[derive(Clone, Copy, Debug)]
+pub(crate) struct Doubtful {
+    /// What it is about.
+    pub(crate) surprise: Surprise,
+    /// How many bytes of the pattern stand before it.
+    pub(crate) offset: usize,
+}
+
+/// What stands at an offset of a pattern.
+#[derive(Clone, Copy, PartialEq, Eq)]
+enum Stand {
+    /// The beginning of a piece, an operator, or the end.
+    Piece,
+    /// What is in brackets.
+    Brackets,
+    /// Another byte of a piece.
+    Within,
+}
+
+/// A pattern that is doubted.
 #[derive(Drop)]
-struct Sketch {
-    /// What was found.
-    found: Surprise,
-    /// Where it stands.
-    inside: Inside,
-    /// How many pieces of the branch there are.
-    pieces: u64,
-    /// How many there are in front of each group that is open.
-    outer: Vec<u64>,
+struct Doubting<'a> {
+    /// The definitions of the file.
+    names: &'a Names,
+    /// The limits for patterns.
+    limits: Limits,
+    /// The text of the pattern.
+    text: &'a [u8],
+    /// What is doubted.
+    found: Vec<Doubtful>,
+    /// How many bytes may still be read.
+    bytes: usize,
 }
 
-/// What is surprising in the pattern at the front of a line.
-pub(crate) fn surprises(alloc: Global, line: &[u8]) -> Result<Surprise, AllocError> {
-    let mut sketch = Sketch {
-        found: Surprise::default(),
-        inside: Inside::Pattern,
-        pieces: 0,
-        outer: Vec::new(alloc),
+/// What is doubtful in the text of a pattern, each kind of doubt once.
+pub(crate) fn surprises(
+    alloc: Global,
+    names: &Names,
+    text: &[u8],
+) -> Result<Vec<Doubtful>, OutOfMemory> {
+    let mut doubting = Doubting {
+        names,
+        limits: Limits::version_2(),
+        text: text.get(..LONGEST).unwrap_or(text),
+        found: Vec::new(alloc),
+        bytes: MOST,
     };
-    sketch.take_pattern(behind_conditions(line))?;
-    Ok(sketch.found)
+    doubting.look(alloc)?;
+    let Doubting { found, .. } = doubting;
+    Ok(found)
 }
 
-/// What stands behind the conditions at the front of a line.
-fn behind_conditions(line: &[u8]) -> &[u8] {
-    if !line.starts_with(b"<") {
-        return line;
+impl Doubting<'_> {
+    /// Looks at the whole pattern.
+    fn look(&mut self, alloc: Global) -> Result<(), OutOfMemory> {
+        if self.text.starts_with(b"<<EOF>>") {
+            self.note(Surprise::EndOfFile, 0)?;
+        }
+        for offset in 0..self.text.len() {
+            self.look_at(alloc, offset)?;
+        }
+        Ok(())
     }
-    match line.iter().position(|byte| *byte == b'>') {
-        Some(place) => line.get(place.saturating_add(1)..).unwrap_or_default(),
-        None => line,
-    }
-}
 
-impl Sketch {
-    /// Takes the pattern at the front of bytes.
-    fn take_pattern(&mut self, bytes: &[u8]) -> Result<(), AllocError> {
-        let mut escaped = false;
-        for (place, byte) in bytes.iter().enumerate() {
-            if escaped {
-                self.escape(*byte);
-                escaped = false;
-            } else if self.ends_at(*byte) {
+    /// Looks at what stands at an offset.
+    fn look_at(&mut self, alloc: Global, offset: usize) -> Result<(), OutOfMemory> {
+        match (self.byte(offset), self.byte(offset.saturating_add(1))) {
+            (Some(b'\\'), Some(letter)) => self.look_at_escape(alloc, offset, letter),
+            (Some(b'*' | b'+' | b'?'), Some(b'?')) => {
+                self.note_if(alloc, Surprise::Reluctant, offset, Stand::Piece)
+            }
+            (Some(0xC2..=0xF4), Some(0x80..=0xBF)) => {
+                self.note_if(alloc, Surprise::ManyBytes, offset, Stand::Brackets)
+            }
+            (Some(b'{'), Some(b'0'..=b'9')) => self.look_at_interval(alloc, offset),
+            (Some(b'$'), None) => self.note_if(alloc, Surprise::LineEnd, offset, Stand::Piece),
+            _ => Ok(()),
+        }
+    }
+
+    /// Looks at a backslash in front of a letter.
+    fn look_at_escape(
+        &mut self,
+        alloc: Global,
+        offset: usize,
+        letter: u8,
+    ) -> Result<(), OutOfMemory> {
+        let surprise = match letter {
+            b'd' | b'w' | b's' | b'D' | b'W' | b'S' => Surprise::Letter(letter),
+            b'b' => Surprise::Backspace,
+            b'x' if self.byte(offset.saturating_add(2)) == Some(b'{') => Surprise::Braces,
+            b'u' => Surprise::Unicode,
+            _ => return Ok(()),
+        };
+        if self.has(surprise) {
+            return Ok(());
+        }
+        match self.stand(alloc, offset)? {
+            Stand::Piece => self.note(surprise, offset),
+            Stand::Brackets if self.is_letter_in_brackets(alloc, offset, letter)? => {
+                match surprise {
+                    Surprise::Letter(_) => self.note(surprise, offset),
+                    _ => Ok(()),
+                }
+            }
+            _ => Ok(()),
+        }
+    }
+
+    /// Whether the backslash in front of a letter in brackets belongs to it: without that the pattern is the same.
+    fn is_letter_in_brackets(
+        &mut self,
+        alloc: Global,
+        offset: usize,
+        letter: u8,
+    ) -> Result<bool, OutOfMemory> {
+        let (before, behind) = self.text.split_at(offset.min(self.text.len()));
+        let mut meant = Vec::from_slice(alloc, before)?;
+        meant.push(letter)?;
+        meant.extend_from_slice(behind.get(1..).unwrap_or_default())?;
+        self.is_same(alloc, &meant)
+    }
+
+    /// Looks at what may be an interval: it is doubted where the pattern is another one with parentheses around it and
+    /// the last piece before it.
+    fn look_at_interval(&mut self, alloc: Global, offset: usize) -> Result<(), OutOfMemory> {
+        if self.has(Surprise::Interval) || self.stand(alloc, offset)? != Stand::Piece {
+            return Ok(());
+        }
+        let behind = self.text.get(offset..).unwrap_or_default();
+        let Some(length) = behind.iter().position(|byte| *byte == b'}') else {
+            return Ok(());
+        };
+        let end = offset.saturating_add(length).saturating_add(1);
+        for start in (0..offset).rev() {
+            if self.stand(alloc, start)? == Stand::Piece && self.is_pattern(alloc, start, offset)? {
+                if !self.is_same(alloc, &self.parenthesised(alloc, start, end)?)? {
+                    self.note(Surprise::Interval, offset)?;
+                }
                 break;
-            } else if *byte == b'\\' && self.inside != Inside::Braces {
-                escaped = true;
-            } else {
-                self.take(*byte, bytes.get(place.saturating_add(1)).copied())?;
             }
         }
         Ok(())
     }
 
-    /// Whether the pattern ends at a byte.
-    fn ends_at(&self, byte: u8) -> bool {
-        self.inside == Inside::Pattern && (byte == b' ' || byte == b'\t')
+    /// The pattern with parentheses around a part of it.
+    fn parenthesised(
+        &self,
+        alloc: Global,
+        start: usize,
+        end: usize,
+    ) -> Result<Vec<u8>, OutOfMemory> {
+        let mut text = Vec::from_slice(alloc, self.text.get(..start).unwrap_or_default())?;
+        text.push(b'(')?;
+        text.extend_from_slice(self.text.get(start..end).unwrap_or_default())?;
+        text.push(b')')?;
+        text.extend_from_slice(self.text.get(end..).unwrap_or_default())?;
+        Ok(text)
     }
 
-    /// Takes what stands behind a backslash.
-    fn escape(&mut self, escaped: u8) {
-        if self.inside == Inside::Pattern {
-            self.pieces = self.pieces.saturating_add(1);
-        }
-        if let (b'd' | b'w' | b's' | b'D' | b'W' | b'S', true) = (
-            escaped,
-            self.inside != Inside::Quotes,
-        ) {
-            self.found.letter = self.found.letter.or(Some(escaped));
+    /// What stands at an offset, by how far the beginning up to there can be read.
+    fn stand(&mut self, alloc: Global, offset: usize) -> Result<Stand, OutOfMemory> {
+        let Some(before) = self.text.get(..offset) else {
+            return Ok(Stand::Within);
+        };
+        match self.read(alloc, before) {
+            Ok(_) => Ok(Stand::Piece),
+            Err(EreFault::OutOfMemory) => Err(OutOfMemory),
+            Err(EreFault::Refused { kind, .. }) => Ok(match kind {
+                EreFaultKind::Empty
+                | EreFaultKind::UnclosedGroup
+                | EreFaultKind::TrailingHeadEmpty
+                | EreFaultKind::TrailingBothVary
+                | EreFaultKind::TooHeavy => Stand::Piece,
+                EreFaultKind::UnclosedBracket => Stand::Brackets,
+                _ => Stand::Within,
+            }),
         }
     }
 
-    /// Takes a byte, in front of another one.
-    fn take(&mut self, byte: u8, next: Option<u8>) -> Result<(), AllocError> {
-        match (self.inside, byte) {
-            (Inside::Pattern, _) => return self.take_in_pattern(byte, next),
-            (Inside::Quotes, b'"') | (Inside::Brackets, b']') | (Inside::Braces, b'}') => {
-                self.inside = Inside::Pattern;
-                self.pieces = self.pieces.saturating_add(1);
-            }
-            _ => {}
-        }
-        Ok(())
+    /// Whether a part of the pattern is one by itself.
+    fn is_pattern(&mut self, alloc: Global, start: usize, end: usize) -> Result<bool, OutOfMemory> {
+        let Some(part) = self.text.get(start..end) else {
+            return Ok(false);
+        };
+        Ok(self.pattern(alloc, part)?.is_some())
     }
 
-    /// Takes a byte outside of quotes, brackets and braces.
-    fn take_in_pattern(&mut self, byte: u8, next: Option<u8>) -> Result<(), AllocError> {
-        match byte {
-            b'"' => self.inside = Inside::Quotes,
-            b'[' => self.inside = Inside::Brackets,
-            b'{' => {
-                self.found.interval |= self.pieces > 1 && matches!(next, Some(b'0'..=b'9'));
-                self.inside = Inside::Braces;
-            }
-            b'(' => {
-                self.outer.push(self.pieces)?;
-                self.pieces = 0;
-            }
-            b')' => self.pieces = self.outer.pop().unwrap_or(0).saturating_add(1),
-            b'|' | b'/' => self.pieces = 0,
-            b'*' | b'+' | b'?' | b'^' | b'$' => {}
-            _ => self.pieces = self.pieces.saturating_add(1),
+    /// What a text is as a pattern, if it is one.
+    fn pattern(&mut self, alloc: Global, text: &[u8]) -> Result<Option<Pattern>, OutOfMemory> {
+        match self.read(alloc, text) {
+            Ok(pattern) => Ok(Some(pattern)),
+            Err(EreFault::OutOfMemory) => Err(OutOfMemory),
+            Err(EreFault::Refused { .. }) => Ok(None),
         }
-        Ok(())
     }
+
+    /// Whether another text is the same pattern; also where one of them is none.
+    fn is_same(&mut self, alloc: Global, other: &[u8]) -> Result<bool, OutOfMemory> {
+        let (Some(one), Some(other)) = (
+            self.pattern(alloc, self.text)?,
+            self.pattern(alloc, other)?,
+        ) else {
+            return Ok(true);
+        };
+        let tails = match (&one.tail, &other.tail) {
+            (Some(one), Some(other)) => are_same(one, other),
+            (None, None) => true,
+            _ => false,
+        };
+        Ok(tails && are_same(&one.head, &other.head))
+    }
+
+    /// Reads a text as a pattern. Where too much was read already, it counts as too heavy.
+    fn read(&mut self, alloc: Global, text: &[u8]) -> Result<Pattern, EreFault> {
+        let Some(left) = self.bytes.checked_sub(text.len()) else {
+            return Err(EreFault::Refused {
+                kind: EreFaultKind::UnclosedQuote,
+                offset: 0,
+            });
+        };
+        self.bytes = left;
+        read_pattern(alloc, text, self.names, &self.limits)
+    }
+
+    /// The byte at an offset.
+    fn byte(&self, offset: usize) -> Option<u8> {
+        self.text.get(offset).copied()
+    }
+
+    /// Whether something was doubted.
+    fn has(&self, surprise: Surprise) -> bool {
+        self.found.iter().any(|found| found.surprise == surprise)
+    }
+
+    /// Doubts what stands at an offset, if that is of this kind.
+    fn note_if(
+        &mut self,
+        alloc: Global,
+        surprise: Surprise,
+        offset: usize,
+        wanted: Stand,
+    ) -> Result<(), OutOfMemory> {
+        if self.has(surprise) || self.stand(alloc, offset)? != wanted {
+            return Ok(());
+        }
+        self.note(surprise, offset)
+    }
+
+    /// Doubts what stands at an offset.
+    fn note(&mut self, surprise: Surprise, offset: usize) -> Result<(), OutOfMemory> {
+        Ok(self.found.push(Doubtful { surprise, offset })?)
+    }
+}
+
+/// Whether two expressions are the same.
+fn are_same(one: &Re, other: &Re) -> bool {
+    let (nodes, root) = one.nodes();
+    let (others, same) = other.nodes();
+    root == same && nodes == others
 }

@@ -3,8 +3,8 @@ use indexmap::IndexSet;
 use ly_base::{Location, OutOfMemory, Sym, literal, locate};
 use ly_join::{Spec, TerminalName};
 use ly_yaccread::{
-    DeclarationKind, Production, RuleOffsets, SymbolName, WordSpan, YaccFault, YaccFile, read_yacc,
-    word_spans,
+    DeclarationKind, Production, RuleOffsets, SymbolName, TreeAction, WordSpan, YaccFault,
+    YaccFile, read_yacc, word_spans,
 };
 use std::alloc::Global;
 
@@ -56,6 +56,22 @@ impl Places {
     /// The rules that have a `%prec`, rising.
     pub(crate) fn ranked_rules(&self) -> &[usize] {
         &self.ranked
+    }
+
+    /// The rules without an action that begin with a literal and have another symbol than literals, rising; none where
+    /// no rule of the file has an action.
+    pub(crate) fn losing_rules(&self, alloc: Global) -> Result<Vec<usize>, OutOfMemory> {
+        let mut losing = Vec::new(alloc);
+        if let Some(file) = &self.file
+            && !file.rules.iter().all(has_no_action)
+        {
+            for (place, rule) in file.rules.iter().enumerate() {
+                if has_no_action(rule) && loses_symbols(&rule.body) {
+                    losing.push(place.saturating_add(1))?;
+                }
+            }
+        }
+        Ok(losing)
     }
 
     /// The symbols that a `%token` declares, and another one before it, with their offsets.
@@ -187,6 +203,19 @@ fn ranked_rules(alloc: Global, rules: &[Production]) -> Result<Vec<usize>, OutOf
     Ok(ranked)
 }
 
+/// Whether a rule has no action.
+fn has_no_action(rule: &Production) -> bool {
+    matches!(rule.action, TreeAction::Default)
+}
+
+/// Whether a body begins with a literal and has a name too.
+fn loses_symbols(body: &[SymbolName]) -> bool {
+    matches!(body.first(), Some(SymbolName::Literal(_)))
+        && body
+            .iter()
+            .any(|symbol| matches!(symbol, SymbolName::Name(_)))
+}
+
 /// Bytes that tell a symbol from others: a name has no quote.
 fn key_of(alloc: Global, symbol: &SymbolName) -> Result<Vec<u8>, OutOfMemory> {
     match symbol {
@@ -201,7 +230,7 @@ fn declared_offset(file: &YaccFile, name: &TerminalName) -> Option<usize> {
     for declaration in &file.declarations {
         for symbol in &declaration.symbols {
             let offset = offsets.next()?;
-            if is_terminal(symbol, name) {
+            if name.is_symbol(symbol) {
                 return Some(*offset as usize);
             }
         }
@@ -212,7 +241,7 @@ fn declared_offset(file: &YaccFile, name: &TerminalName) -> Option<usize> {
 /// Whether a rule has a terminal behind its `%prec`.
 fn is_ranked_by(rule: &Production, name: &TerminalName) -> bool {
     match &rule.precedence {
-        Some(symbol) => is_terminal(symbol, name),
+        Some(symbol) => name.is_symbol(symbol),
         None => false,
     }
 }
@@ -220,20 +249,11 @@ fn is_ranked_by(rule: &Production, name: &TerminalName) -> bool {
 /// Whether a terminal is one of these symbols.
 fn has_terminal(symbols: &[SymbolName], name: &TerminalName) -> bool {
     for symbol in symbols {
-        if is_terminal(symbol, name) {
+        if name.is_symbol(symbol) {
             return true;
         }
     }
     false
-}
-
-/// Whether a symbol is a terminal.
-fn is_terminal(symbol: &SymbolName, terminal: &TerminalName) -> bool {
-    match (symbol, terminal) {
-        (SymbolName::Name(name), TerminalName::Token(token)) => name.as_slice() == token.as_slice(),
-        (SymbolName::Literal(byte), TerminalName::Literal(other)) => byte == other,
-        _ => false,
-    }
 }
 
 /// Whether a word is a terminal's.

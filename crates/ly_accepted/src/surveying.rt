@@ -110,7 +110,7 @@ fn say_all(
 {
     say_sizes(page, files);
     say_doubts(alloc, page, files, places)?;
-    say_conflicts(alloc, page, files)?;
+    say_conflicts(alloc, page, files, places)?;
     say_rules(page, files, places);
     Ok(())
 }

@@ -1,6 +1,7 @@
 //! A sentence with two trees, as it is said.
 use crate::ambiguity::Ambiguity;
 use crate::bodies::body_of;
+use crate::brackets::Style;
 use ly_base::{OutOfMemory, Sym};
 use ly_join::{Spec, Symbol};
 use ly_page::Page;
@@ -9,29 +10,24 @@ use std::alloc::Global;
 /// How many symbols of a tree are said, at most.
 const MOST: usize = 2_000;
 
-/// How trees are said: with brackets around the rules that have more than one symbol, or with brackets around all
-/// rules, and the names of their left sides before them.
-#[derive(Clone, Copy, PartialEq, Eq)]
-enum Style {
-    /// With brackets alone.
-    Brackets,
-    /// With names.
-    Names,
-}
-
-/// Says a sentence, and its two trees. They have names where brackets alone don't tell them apart.
+/// Says a sentence, and its two trees. They have names where brackets alone don't tell them apart, and where there are
+/// no tokens.
 pub(crate) fn say_ambiguity(
     alloc: Global,
     page: &mut Page,
     spec: &Spec,
     ambiguity: &Ambiguity,
 ) -> Result<(), OutOfMemory> {
-    page.say(b"    This sentence has two trees:");
-    for token in &ambiguity.sentence {
-        page.say(b" ");
-        page.say_terminal(spec, *token);
+    if ambiguity.sentence.is_empty() {
+        page.say(b"    The empty sentence has two trees:\n");
+    } else {
+        page.say(b"    This sentence has two trees:");
+        for token in &ambiguity.sentence {
+            page.say(b" ");
+            page.say_terminal(spec, *token);
+        }
+        page.say(b"\n");
     }
-    page.say(b"\n");
     let (one, other) = told_apart(alloc, spec, ambiguity)?;
     page.say(b"       ");
     page.say(&one);
@@ -41,14 +37,14 @@ pub(crate) fn say_ambiguity(
     Ok(())
 }
 
-/// Two trees, with names where brackets alone don't tell them apart.
+/// Two trees, with names where brackets alone don't tell them apart, and where there are no tokens.
 fn told_apart(
     alloc: Global,
     spec: &Spec,
     ambiguity: &Ambiguity,
 ) -> Result<(Vec<u8>, Vec<u8>), OutOfMemory> {
     let (one, other) = trees_of(alloc, spec, ambiguity, Style::Brackets)?;
-    if one == other {
+    if one == other || ambiguity.sentence.is_empty() {
         trees_of(alloc, spec, ambiguity, Style::Names)
     } else {
         Ok((one, other))

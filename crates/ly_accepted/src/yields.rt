@@ -83,7 +83,7 @@ impl Yields {
     }
 
     /// How many tokens the shortest yields of symbols have together, if they are known.
-    fn length(&self, symbols: &[Symbol]) -> Option<u64> {
+    pub(crate) fn length(&self, symbols: &[Symbol]) -> Option<u64> {
         let mut length: u64 = 0;
         for symbol in symbols {
             length = length.saturating_add(match symbol {

@@ -1,0 +1,123 @@
+//! The claims that are looked at on the way from an action back to the start, each on a beginning of one string.
+use indexmap::{IndexMap, IndexSet};
+use ly_base::{OutOfMemory, Sym};
+use ly_examples::Claim;
+use ly_lr0::Item;
+use std::alloc::{AllocError, Global};
+
+/// How many claims are looked at, at most, to find how an action comes about.
+pub(crate) const MOST: usize = 50_000;
+
+/// A claim on a beginning of the string.
+#[derive(Clone, Copy, PartialEq, Eq, Hash)]
+pub(crate) struct Claimed {
+    /// How many symbols the beginning has.
+    pub(crate) length: usize,
+    /// What is claimed of it.
+    pub(crate) claim: Claim,
+}
+
+/// A rule that begins behind a beginning of the string.
+#[derive(Clone, Copy, PartialEq, Eq, Hash)]
+pub(crate) struct Opening {
+    /// How many symbols the beginning has.
+    pub(crate) length: usize,
+    /// The left side of the rule.
+    pub(crate) left: Sym,
+    /// Whether it is claimed with any terminal.
+    pub(crate) in_core: bool,
+}
+
+/// The claims that were found on the way back to the start.
+#[derive(Drop)]
+pub(crate) struct Search {
+    /// Each with the place of the one that is true by it.
+    pub(crate) found: IndexMap<Claimed, usize>,
+    /// The openings of those that were looked at.
+    pub(crate) opened: IndexSet<Opening>,
+}
+
+impl Search {
+    /// The claim at a place; none behind so many that the search ends.
+    pub(crate) fn claimed(&self, place: usize) -> Option<Claimed> {
+        if self.found.len() > MOST {
+            return None;
+        }
+        let (claimed, _) = self.found.get_index(place)?;
+        Some(*claimed)
+    }
+
+    /// Whether a claim depends on an opening that was met before. A new one is met here.
+    pub(crate) fn opens_again(&mut self, opening: Option<Opening>) -> Result<bool, AllocError> {
+        let Some(opening) = opening else {
+            return Ok(false);
+        };
+        let again = self.opened.contains(&opening);
+        if !again {
+            self.opened.insert(opening)?;
+        }
+        Ok(again)
+    }
+
+    /// Adds claims by which the one at a place is true, up to the one on the start, and answers whether that is among
+    /// them and new.
+    pub(crate) fn has_start(
+        &mut self,
+        claims: &[Claimed],
+        place: usize,
+    ) -> Result<bool, AllocError> {
+        for before in claims {
+            if self.found.contains_key(before) {
+                continue;
+            }
+            self.found.insert(*before, place)?;
+            if before.is_start() {
+                return Ok(true);
+            }
+        }
+        Ok(false)
+    }
+
+    /// The items of the claims from the last one back to the first, each found from the next.
+    pub(crate) fn way_back(&self, alloc: Global) -> Result<Vec<Item>, OutOfMemory> {
+        let mut way = Vec::new(alloc);
+        let mut place = self.found.len().saturating_sub(1);
+        for _ in 0..self.found.len() {
+            let Some((claimed, from)) = self.found.get_index(place) else {
+                break;
+            };
+            if let Some(item) = item_of(claimed.claim) {
+                way.push(item)?;
+            }
+            if place == 0 {
+                break;
+            }
+            place = *from;
+        }
+        Ok(way)
+    }
+}
+
+impl Claimed {
+    /// Whether it is the one on the start that is always true.
+    pub(crate) fn is_start(&self) -> bool {
+        self.length == 0 && self.claim == Claim::InCore(Item { rule: 0, dot: 0 })
+    }
+}
+
+/// The item of a claim, if it has one.
+pub(crate) fn item_of(claim: Claim) -> Option<Item> {
+    match claim {
+        Claim::Settled => None,
+        Claim::InCore(item) | Claim::With(item) => Some(item),
+    }
+}
+
+/// The claim of the same kind on another item.
+pub(crate) fn with_item(claim: Claim, item: Item) -> Claim {
+    match claim {
+        Claim::Settled => Claim::Settled,
+        Claim::InCore(_) => Claim::InCore(item),
+        Claim::With(_) => Claim::With(item),
+    }
+}

@@ -1,0 +1,86 @@
+//! Which token's precedence settles the most conflicts.
+use crate::decided::{last_terminal, precedence_of, rank_of};
+use crate::groups::Group;
+use crate::surveying::say_numbered;
+use ly_base::{OutOfMemory, Sym};
+use ly_join::Spec;
+use ly_page::Page;
+use ly_resolve::{Conflict, ConflictKind};
+use std::alloc::Global;
+
+/// How many groups a precedence settles at least that is said.
+const LEAST: usize = 2;
+
+/// Says by which token's precedence the most groups of conflicts are settled, if it is more than one.
+pub(crate) fn say_cure(
+    alloc: Global,
+    page: &mut Page,
+    spec: &Spec,
+    conflicts: &[Conflict],
+    groups: &[Group],
+) -> Result<(), OutOfMemory> {
+    let mut counts: Vec<usize> = vec![in alloc; 0; spec.terminals().len()]?;
+    for group in groups {
+        if let Some(terminal) = cure_of(spec, conflicts, group)
+            && let Some(count) = counts.get_mut(terminal.0 as usize)
+        {
+            *count = count.saturating_add(1);
+        }
+    }
+    let mut best = None;
+    let mut most = LEAST;
+    for (terminal, count) in counts.iter().enumerate() {
+        if *count >= most {
+            best = Some(terminal);
+            most = count.saturating_add(1);
+        }
+    }
+    if let Some(terminal) = best
+        && let Ok(number) = u32::try_from(terminal)
+    {
+        page.say(b"A precedence for ");
+        page.say_terminal(spec, Sym(number));
+        say_numbered(
+            page,
+            b" settles ",
+            most.saturating_sub(1) as u64,
+            b" of these ",
+        );
+        page.say_count(groups.len(), b"group.\n", b"groups.\n");
+    }
+    Ok(())
+}
+
+/// The token whose precedence settles each conflict of a group, if there is one.
+fn cure_of(spec: &Spec, conflicts: &[Conflict], group: &Group) -> Option<Sym> {
+    let mut cure = None;
+    for index in &group.conflicts {
+        let needed = needed_for(spec, conflicts.get(*index)?)?;
+        if cure.is_some() && cure != Some(needed) {
+            return None;
+        }
+        cure = Some(needed);
+    }
+    cure
+}
+
+/// The token that is the only one without a precedence of those that a conflict is settled by.
+fn needed_for(spec: &Spec, conflict: &Conflict) -> Option<Sym> {
+    if conflict.kind == ConflictKind::ReduceReduce || conflict.terminal.0 == 0 {
+        return None;
+    }
+    let by_terminal = match rank_of(spec, conflict.terminal) {
+        Some(_) => None,
+        None => Some(conflict.terminal),
+    };
+    if precedence_of(spec, conflict.rule).is_some() {
+        return by_terminal;
+    }
+    let last = last_terminal(spec, conflict.rule)?;
+    let by_both = by_terminal.is_none() || by_terminal == Some(last);
+    if rank_of(spec, last).is_none() && by_both {
+        Some(last)
+    } else {
+        None
+    }
+}

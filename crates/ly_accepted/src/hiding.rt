@@ -1,0 +1,165 @@
+//! Why a rule of the lex file never matches: which rules take what it could.
+use crate::surveying::{Accepted, say_numbered};
+use indexmap::IndexSet;
+use ly_base::{Limits, OutOfMemory};
+use ly_page::Page;
+use ly_position::{PosFault, positions};
+use ly_subset::{Dfa, SubsetFault, subsets};
+use std::alloc::Global;
+
+/// How many pairs of states are looked at, at most.
+const MOST: usize = 2_000;
+
+/// How many rules are named, at most.
+const NAMED: usize = 5;
+
+/// What takes the strings of a rule.
+#[derive(Drop)]
+struct Hiding {
+    /// The rules that do, in the order in which they were met.
+    rules: IndexSet<usize>,
+    /// Whether all strings were looked at.
+    whole: bool,
+}
+
+/// Says why a rule of the lex file never matches.
+pub(crate) fn say_hiding(
+    alloc: Global,
+    page: &mut Page,
+    files: &Accepted<'_>,
+    rule: usize,
+) -> Result<(), OutOfMemory> {
+    page.say(b"this rule never matches: ");
+    let Some(own) = scanner_of(alloc, files, rule)? else {
+        page.say(b"earlier rules take all that it could\n");
+        return Ok(());
+    };
+    let hiding = winners(alloc, &own, files.dfa)?;
+    if !hiding.whole {
+        page.say(b"earlier rules take all that it could\n");
+    } else if hiding.rules.is_empty() {
+        page.say(b"it has the empty string alone, and no match is empty\n");
+    } else {
+        say_rules(alloc, page, files, &hiding)?;
+    }
+    Ok(())
+}
+
+/// Says by their lines which rules take all that a rule could.
+fn say_rules(
+    alloc: Global,
+    page: &mut Page,
+    files: &Accepted<'_>,
+    hiding: &Hiding,
+) -> Result<(), OutOfMemory> {
+    let mut lines = Vec::new(alloc);
+    for rule in &hiding.rules {
+        lines.push(files.line_of_lex_rule(*rule))?;
+    }
+    lines.sort()?;
+    let count = lines.len();
+    page.say(if count == 1 {
+        b"the rule of line".as_slice()
+    } else {
+        b"the rules of lines"
+    });
+    for (place, line) in lines.iter().enumerate().take(NAMED) {
+        let last = place.saturating_add(1) == count;
+        page.say(if place == 0 {
+            b" ".as_slice()
+        } else if last {
+            b" and "
+        } else {
+            b", "
+        });
+        page.say_number(*line);
+    }
+    if count > NAMED {
+        say_numbered(page, b" and ", (count - NAMED) as u64, b" more");
+    }
+    page.say(if count == 1 {
+        b" takes all that it could\n".as_slice()
+    } else {
+        b" take all that it could\n"
+    });
+    Ok(())
+}
+
+/// The scanner of one rule alone; none where that is too large.
+fn scanner_of(
+    alloc: Global,
+    files: &Accepted<'_>,
+    rule: usize,
+) -> Result<Option<Dfa>, OutOfMemory> {
+    let Some(rules) = files.file.rules.get(rule..rule.saturating_add(1)) else {
+        return Ok(None);
+    };
+    let limits = Limits::version_2();
+    let conditions = files.file.conditions;
+    let nfa = match positions(alloc, rules, &files.file.names, conditions, &limits) {
+        Ok(nfa) => nfa,
+        Err(PosFault::TooManyPositions) => return Ok(None),
+        Err(PosFault::OutOfMemory) => return Err(OutOfMemory),
+    };
+    match subsets(
+        alloc,
+        &nfa,
+        conditions,
+        &limits.with_scanner_states(MOST as u32),
+    ) {
+        Ok(dfa) => Ok(Some(dfa)),
+        Err(SubsetFault::TooManyStates) => Ok(None),
+        Err(SubsetFault::OutOfMemory) => Err(OutOfMemory),
+    }
+}
+
+/// The rules that win where a rule has a string, by its own scanner and that of all rules.
+fn winners(alloc: Global, own: &Dfa, all: &Dfa) -> Result<Hiding, OutOfMemory> {
+    let mut hiding = Hiding {
+        rules: IndexSet::new(alloc),
+        whole: true,
+    };
+    let mut pairs: IndexSet<(u32, u32)> = IndexSet::new(alloc);
+    for condition in 0..u32::try_from(own.starts() / 2).unwrap_or(0) {
+        for line in [false, true] {
+            if let (Some(own), Some(all)) = (
+                own.start(condition, line),
+                all.start(condition, line),
+            ) {
+                pairs.insert((own, all))?;
+            }
+        }
+    }
+    for place in 0..MOST {
+        let Some(pair) = pairs.get_index(place).copied() else {
+            return Ok(hiding);
+        };
+        hiding.look_behind(own, all, pair, &mut pairs)?;
+    }
+    hiding.whole = pairs.len() <= MOST;
+    Ok(hiding)
+}
+
+impl Hiding {
+    /// Looks at the states to which a byte leads from two states.
+    fn look_behind(
+        &mut self,
+        own: &Dfa,
+        all: &Dfa,
+        (from, beside): (u32, u32),
+        pairs: &mut IndexSet<(u32, u32)>,
+    ) -> Result<(), OutOfMemory> {
+        if (from as usize) >= own.len() || (beside as usize) >= all.len() {
+            return Ok(());
+        }
+        for byte in 0..=255u8 {
+            if let (Some(to), Some(along)) = (own.step(from, byte), all.step(beside, byte)) {
+                if let (Some(_), Some(winner)) = (own.rule(to), all.rule(along)) {
+                    self.rules.insert(winner.0 as usize)?;
+                }
+                pairs.insert((to, along))?;
+            }
+        }
+        Ok(())
+    }
+}

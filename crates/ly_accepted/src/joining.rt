@@ -1,0 +1,151 @@
+//! The trees of two readings that have come to the same tokens.
+use crate::ambiguity::{Ambiguity, Finder};
+use crate::bodies::{behind_dot, body_of, rest_of};
+use crate::drawing::Drawing;
+use crate::pair::Pair;
+use crate::reading::Reading;
+use crate::yields::push_reversed;
+use ly_base::{OutOfMemory, Sym};
+use ly_examples::{Claim, ambiguous_sentence};
+use ly_join::Symbol;
+use ly_lr0::Item;
+use std::alloc::{AllocError, Global};
+
+/// From how many states it is tried to lead to a pair.
+const STATES: usize = 4;
+
+impl Finder<'_> {
+    /// The sentence that two readings of one nonterminal have come to, if a string leads to where they begin.
+    pub(crate) fn joined(
+        &mut self,
+        alloc: Global,
+        pair: &Pair,
+        terminal: Sym,
+    ) -> Result<Option<Ambiguity>, OutOfMemory> {
+        for state in pair.states.iter().take(STATES) {
+            if (state.0 as usize) >= self.lr0.states() {
+                continue;
+            }
+            let mut prefix = self.lr0.prefix(alloc, *state)?;
+            prefix.reverse();
+            let Some(way) = self.way_to(alloc, &prefix, pair, terminal)? else {
+                continue;
+            };
+            let one = self.rules_of(alloc, &way, &pair.one)?;
+            let other = self.rules_of(alloc, &way, &pair.other)?;
+            let found = ambiguous_sentence(alloc, self.grammar, &one, &other)?;
+            if let Some(sentence) = found {
+                return Ok(Some(Ambiguity {
+                    sentence,
+                    one,
+                    other,
+                }));
+            }
+        }
+        Ok(None)
+    }
+
+    /// How the nonterminal of two readings comes about behind a prefix: the way to the item that waits for it; an empty
+    /// one where it is that of the whole text, and none where that isn't found.
+    fn way_to(
+        &self,
+        alloc: Global,
+        prefix: &[Symbol],
+        pair: &Pair,
+        terminal: Sym,
+    ) -> Result<Option<Vec<Item>>, OutOfMemory> {
+        let Some(outmost) = pair.one.outmost() else {
+            return Ok(None);
+        };
+        if outmost.rule == 0 {
+            return Ok(Some(Vec::new(alloc)));
+        }
+        let drawing = Drawing::new(alloc, self.lr0, prefix, terminal)?;
+        let begun = Item {
+            rule: outmost.rule,
+            dot: 0,
+        };
+        let mut way = drawing.way(alloc, Claim::InCore(begun))?;
+        if way.pop().is_none() {
+            return Ok(None);
+        }
+        Ok(Some(way))
+    }
+
+    /// The rules of the tree that a reading has below the last item of a way, each in front of those below it. What
+    /// the way passes and what stands behind the reading is of the fewest tokens.
+    fn rules_of(
+        &mut self,
+        alloc: Global,
+        way: &[Item],
+        reading: &Reading,
+    ) -> Result<Vec<usize>, AllocError> {
+        let (mut rules, mut outer, mut ahead) = (Vec::new(alloc), Vec::new(alloc), Vec::new(alloc));
+        for item in way {
+            self.pass(alloc, *item, &mut outer, &mut rules)?;
+        }
+        for item in &outer {
+            let behind = item.dot.saturating_add(1);
+            push_reversed(&mut ahead, rest_of(self.grammar, item.rule, behind))?;
+        }
+        for item in reading.open.iter().rev() {
+            self.push_opened(alloc, *item, &mut rules)?;
+        }
+        rules.extend_from_slice(&reading.rules)?;
+        ahead.reverse();
+        let rest = self.yielded(alloc, &ahead)?;
+        rules.extend_from_slice(&rest.rules)?;
+        Ok(rules)
+    }
+
+    /// Goes on to an item of a way: the inmost open rule has passed a symbol, which is derived, or another is opened.
+    fn pass(
+        &self,
+        alloc: Global,
+        item: Item,
+        open: &mut Vec<Item>,
+        rules: &mut Vec<usize>,
+    ) -> Result<(), AllocError> {
+        if let (Some(top), true) = (open.last_mut(), item.dot > 0) {
+            let passed = *top;
+            *top = item;
+            return self.derive_behind(alloc, passed, rules);
+        }
+        if item.rule > 0 {
+            rules.push(item.rule)?;
+        }
+        open.push(item)?;
+        Ok(())
+    }
+
+    /// Adds the rules of the shortest yield of the symbol behind an item's dot.
+    fn derive_behind(
+        &self,
+        alloc: Global,
+        item: Item,
+        rules: &mut Vec<usize>,
+    ) -> Result<(), AllocError> {
+        let Some(symbol) = behind_dot(self.grammar, item) else {
+            return Ok(());
+        };
+        let passed = self.yields.derive(alloc, self.grammar, &[symbol])?;
+        rules.extend_from_slice(&passed.rules)
+    }
+
+    /// Adds a rule under way, and the rules of the shortest yields of what stands before its dot.
+    fn push_opened(
+        &self,
+        alloc: Global,
+        item: Item,
+        rules: &mut Vec<usize>,
+    ) -> Result<(), AllocError> {
+        if item.rule > 0 {
+            rules.push(item.rule)?;
+        }
+        let before = body_of(self.grammar, item.rule)
+            .get(..item.dot)
+            .unwrap_or_default();
+        let passed = self.yields.derive(alloc, self.grammar, before)?;
+        rules.extend_from_slice(&passed.rules)
+    }
+}

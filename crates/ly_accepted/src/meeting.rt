@@ -1,0 +1,90 @@
+//! Whether the parser comes to a conflict by tokens, its other conflicts being settled as they are.
+use crate::bodies::body_of;
+use ly_base::{OutOfMemory, StateNo, Sym};
+use ly_join::Symbol;
+use ly_resolve::{Action, Conflict, Resolved};
+use std::alloc::Global;
+
+/// How many steps are made, at most.
+const STEPS: usize = 20_000;
+
+/// Whether the parser comes by these tokens to the state of a conflict, with the terminal of the conflict ahead.
+pub(crate) fn is_met(
+    alloc: Global,
+    resolved: &Resolved<'_>,
+    conflict: &Conflict,
+    tokens: &[Sym],
+) -> Result<bool, OutOfMemory> {
+    let mut stack = Vec::new(alloc);
+    stack.push(StateNo(0))?;
+    let mut left = tokens;
+    for _ in 0..STEPS {
+        let state = stack.last().copied().unwrap_or(StateNo(0));
+        let ahead = left.first().copied().unwrap_or(conflict.terminal);
+        if left.is_empty() && state == conflict.state {
+            return Ok(true);
+        }
+        match action_of(resolved, state, ahead) {
+            Some(Action::Reduce(rule)) => {
+                if !reduce_by(resolved, &mut stack, rule)? {
+                    return Ok(false);
+                }
+            }
+            Some(Action::Shift) if !left.is_empty() => {
+                let Some(next) = goto_of(resolved, state, Symbol::Terminal(ahead)) else {
+                    return Ok(false);
+                };
+                stack.push(next)?;
+                left = left.split_first().map_or(&[], |(_, rest)| rest);
+            }
+            _ => return Ok(false),
+        }
+    }
+    Ok(false)
+}
+
+/// What is done in a state before a terminal; nothing where it is refused.
+fn action_of(resolved: &Resolved<'_>, state: StateNo, terminal: Sym) -> Option<Action> {
+    if (state.0 as usize) >= resolved.lr0().states() {
+        return None;
+    }
+    let _spec = resolved.spec();
+    for entry in resolved.row(state) {
+        if entry.terminal == terminal {
+            return Some(entry.action);
+        }
+    }
+    None
+}
+
+/// Reduces by a rule, and answers whether that is possible.
+fn reduce_by(
+    resolved: &Resolved<'_>,
+    stack: &mut Vec<StateNo>,
+    rule: usize,
+) -> Result<bool, OutOfMemory> {
+    let grammar = resolved.lr0().reduced().grammar();
+    let Some(left) = grammar.rules().get(rule).map(|rule| rule.left()) else {
+        return Ok(false);
+    };
+    let kept = stack.len().saturating_sub(body_of(grammar, rule).len());
+    stack.truncate(kept);
+    let Some(below) = stack.last().copied() else {
+        return Ok(false);
+    };
+    let Some(next) = goto_of(resolved, below, Symbol::Nonterminal(left)) else {
+        return Ok(false);
+    };
+    stack.push(next)?;
+    Ok(true)
+}
+
+/// Where a symbol leads from a state.
+fn goto_of(resolved: &Resolved<'_>, state: StateNo, symbol: Symbol) -> Option<StateNo> {
+    let lr0 = resolved.lr0();
+    if (state.0 as usize) < lr0.states() {
+        lr0.goto(state, symbol)
+    } else {
+        None
+    }
+}

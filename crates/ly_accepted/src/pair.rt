@@ -1,0 +1,311 @@
+//! Two readings of one sentence that isn't whole yet, which take the two actions of a conflict at the same place.
+use crate::bodies::body_of;
+use crate::drawing::begin;
+use crate::reading::Reading;
+use crate::surroundings::Surroundings;
+use crate::yields::Yields;
+use ly_base::{StateNo, Sym};
+use ly_join::{Grammar, Symbol};
+use ly_lr0::{Item, Lr0};
+use std::alloc::{AllocError, Global};
+
+/// Two readings of one sentence.
+#[derive(Drop)]
+pub(crate) struct Pair {
+    /// The one that shifts, or reduces by the rule that is chosen.
+    pub(crate) one: Reading,
+    /// The one that reduces by the rule of the conflict.
+    pub(crate) other: Reading,
+    /// The symbols before the place in the longer of them, from the place back.
+    pub(crate) string: Vec<Symbol>,
+    /// The states from which these lead to that of the conflict.
+    pub(crate) states: Vec<StateNo>,
+    /// Whether the terminal of the conflict is still to come.
+    pub(crate) pending: bool,
+    /// How many tokens were read behind the place.
+    pub(crate) read: u64,
+    /// How many rules were taken to come here.
+    pub(crate) taken: u64,
+}
+
+/// Which of two readings.
+#[derive(Clone, Copy, PartialEq, Eq)]
+pub(crate) enum Which {
+    /// The first one.
+    One,
+    /// The second one.
+    Other,
+    /// Both of them.
+    Both,
+}
+
+/// What stands before the place of two readings.
+#[derive(Drop)]
+pub(crate) struct Before {
+    /// The symbols, from the place back.
+    string: Vec<Symbol>,
+    /// The states from which these lead to that of the conflict.
+    states: Vec<StateNo>,
+}
+
+impl Pair {
+    /// Whether both readings are of the same nonterminal, from the same symbol on, and have nothing ahead.
+    pub(crate) fn is_joined(&self, grammar: &Grammar) -> bool {
+        self.one.ahead.is_empty()
+            && self.other.ahead.is_empty()
+            && self.one.passed == self.other.passed
+            && self.one.left(grammar) == self.other.left(grammar)
+    }
+
+    /// Whether both readings are of the whole text, and have nothing ahead.
+    pub(crate) fn is_whole(&self, grammar: &Grammar) -> bool {
+        self.is_joined(grammar)
+            && match self.one.outmost() {
+                Some(item) => item.rule == 0,
+                None => false,
+            }
+    }
+
+    /// One of the readings; of both, the first one.
+    pub(crate) fn reading(&self, which: Which) -> &Reading {
+        match which {
+            Which::One | Which::Both => &self.one,
+            Which::Other => &self.other,
+        }
+    }
+
+    /// Which of two readings, of which one has nothing ahead at least, gets a rule around it; none where each may.
+    pub(crate) fn shorter(&self, grammar: &Grammar) -> Option<Which> {
+        if self.is_joined(grammar) {
+            return Some(Which::Both);
+        }
+        if !self.other.ahead.is_empty() {
+            return Some(Which::One);
+        }
+        if !self.one.ahead.is_empty() {
+            return Some(Which::Other);
+        }
+        if self.one.passed < self.other.passed {
+            return Some(Which::One);
+        }
+        if self.other.passed < self.one.passed {
+            return Some(Which::Other);
+        }
+        None
+    }
+
+    /// What stands before the place where a reading gets the rule of an item around it; none where no such string
+    /// leads to the state of the conflict.
+    pub(crate) fn before_within(
+        &self,
+        alloc: Global,
+        lr0: &Lr0<'_>,
+        surroundings: &Surroundings,
+        which: Which,
+        around: Item,
+    ) -> Result<Option<Before>, AllocError> {
+        let mut string = Vec::from_slice(alloc, &self.string)?;
+        let mut states = Vec::from_slice(alloc, &self.states)?;
+        let passed = self.reading(which).passed;
+        let body = body_of(lr0.reduced().grammar(), around.rule);
+        for (place, symbol) in body.iter().take(around.dot).rev().enumerate() {
+            match string.get(passed.saturating_add(place)) {
+                Some(known) if known != symbol => return Ok(None),
+                Some(_) => {}
+                None => {
+                    string.push(*symbol)?;
+                    states = surroundings.before(alloc, &states, *symbol)?;
+                }
+            }
+        }
+        if passed.saturating_add(around.dot) >= string.len() {
+            states = beginning(alloc, lr0, &states, around.rule)?;
+        }
+        if states.is_empty() {
+            return Ok(None);
+        }
+        Ok(Some(Before { string, states }))
+    }
+
+    /// The pair in which readings have the rule of an item around them, behind what stands before the place.
+    pub(crate) fn within(
+        &self,
+        alloc: Global,
+        grammar: &Grammar,
+        before: Before,
+        which: Which,
+        around: Item,
+    ) -> Result<Pair, AllocError> {
+        let one = match which {
+            Which::One | Which::Both => self.one.within(alloc, grammar, around)?,
+            Which::Other => self.one.copy(alloc)?,
+        };
+        let other = match which {
+            Which::Other | Which::Both => self.other.within(alloc, grammar, around)?,
+            Which::One => self.other.copy(alloc)?,
+        };
+        let Before { string, states } = before;
+        Ok(Pair {
+            one,
+            other,
+            string,
+            states,
+            pending: self.pending,
+            read: self.read,
+            taken: self.taken.saturating_add(1),
+        })
+    }
+
+    /// The pair in which readings have the body of a rule in place of the symbol that is ahead next.
+    pub(crate) fn with_rule(
+        &self,
+        alloc: Global,
+        grammar: &Grammar,
+        which: Which,
+        rule: usize,
+    ) -> Result<Pair, AllocError> {
+        let one = match which {
+            Which::One | Which::Both => self.one.with_rule(alloc, grammar, rule)?,
+            Which::Other => self.one.copy(alloc)?,
+        };
+        let other = match which {
+            Which::Other | Which::Both => self.other.with_rule(alloc, grammar, rule)?,
+            Which::One => self.other.copy(alloc)?,
+        };
+        Ok(Pair {
+            one,
+            other,
+            string: Vec::from_slice(alloc, &self.string)?,
+            states: Vec::from_slice(alloc, &self.states)?,
+            pending: self.pending,
+            read: self.read,
+            taken: self.taken.saturating_add(1),
+        })
+    }
+
+    /// Whether a reading may go on with symbols: with the terminal of the conflict where that is to come, and else with
+    /// the terminal that is ahead in the other reading, if one is.
+    pub(crate) fn may_meet(
+        &self,
+        lr0: &Lr0<'_>,
+        terminal: Sym,
+        which: Which,
+        symbols: &[Symbol],
+    ) -> bool {
+        let wanted = if self.pending {
+            Some(terminal)
+        } else {
+            match which {
+                Which::One => terminal_of(self.other.next()),
+                Which::Other => terminal_of(self.one.next()),
+                Which::Both => None,
+            }
+        };
+        match wanted {
+            Some(terminal) => {
+                let (begins, nullable) = begin(lr0.reduced(), symbols, terminal);
+                begins || nullable
+            }
+            None => true,
+        }
+    }
+
+    /// How dear it is: the tokens that it has or needs at least, and the rules that were taken; none where that isn't
+    /// known.
+    pub(crate) fn price(&self, yields: &Yields) -> Option<u64> {
+        let before = yields.length(&self.string)?;
+        let ahead = yields
+            .length(&self.one.ahead)?
+            .max(yields.length(&self.other.ahead)?);
+        Some(
+            before
+                .saturating_add(ahead)
+                .saturating_add(self.read)
+                .saturating_add(self.taken),
+        )
+    }
+
+    /// Numbers that are the same of two pairs that go on alike.
+    pub(crate) fn key(&self, alloc: Global, grammar: &Grammar) -> Result<Vec<u32>, AllocError> {
+        let mut key = Vec::new(alloc);
+        key.push(self.pending as u32)?;
+        push_reading(&mut key, grammar, &self.one)?;
+        push_reading(&mut key, grammar, &self.other)?;
+        let shared = self.one.passed.min(self.other.passed);
+        push_symbols(&mut key, self.string.get(shared..).unwrap_or_default())?;
+        for state in &self.states {
+            key.push(state.0)?;
+        }
+        Ok(key)
+    }
+}
+
+/// Those of states in which a rule begins.
+pub(crate) fn beginning(
+    alloc: Global,
+    lr0: &Lr0<'_>,
+    states: &[StateNo],
+    rule: usize,
+) -> Result<Vec<StateNo>, AllocError> {
+    let mut found = Vec::new(alloc);
+    let Some(left) = lr0
+        .reduced()
+        .grammar()
+        .rules()
+        .get(rule)
+        .map(|rule| rule.left())
+    else {
+        return Ok(found);
+    };
+    for state in states {
+        let begins = if rule == 0 {
+            state.0 == 0
+        } else {
+            (state.0 as usize) < lr0.states()
+                && lr0.goto(*state, Symbol::Nonterminal(left)).is_some()
+        };
+        if begins {
+            found.push(*state)?;
+        }
+    }
+    Ok(found)
+}
+
+/// The terminal that a symbol is, if it is one.
+fn terminal_of(symbol: Option<Symbol>) -> Option<Sym> {
+    match symbol {
+        Some(Symbol::Terminal(terminal)) => Some(terminal),
+        _ => None,
+    }
+}
+
+/// Adds numbers that are the same of two readings that go on alike.
+fn push_reading(
+    key: &mut Vec<u32>,
+    grammar: &Grammar,
+    reading: &Reading,
+) -> Result<(), AllocError> {
+    if let Some(left) = reading.left(grammar) {
+        key.push(left.0)?;
+    }
+    key.push(u32::try_from(reading.passed).unwrap_or(u32::MAX))?;
+    push_symbols(key, &reading.ahead)
+}
+
+/// Adds symbols as numbers, and how many there are.
+fn push_symbols(key: &mut Vec<u32>, symbols: &[Symbol]) -> Result<(), AllocError> {
+    key.push(u32::try_from(symbols.len()).unwrap_or(u32::MAX))?;
+    for symbol in symbols {
+        match symbol {
+            Symbol::Terminal(number) => {
+                key.push(0)?;
+                key.push(number.0)?;
+            }
+            Symbol::Nonterminal(number) => {
+                key.push(1)?;
+                key.push(number.0)?;
+            }
+        }
+    }
+    Ok(())
+}

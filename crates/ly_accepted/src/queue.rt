@@ -1,0 +1,66 @@
+//! Pairs of readings that are to be looked at, the cheapest first.
+use crate::pair::Pair;
+use crate::yields::Yields;
+use std::alloc::{AllocError, Global};
+
+/// How many pairs are kept for a conflict, at most.
+const KEPT: usize = 60_000;
+
+/// How dear a pair may be.
+const DEAREST: usize = 200;
+
+/// Pairs that are to be looked at, by how dear they are.
+#[derive(Drop)]
+pub(crate) struct Queue {
+    /// For each price the pairs.
+    pairs: Vec<Vec<Pair>>,
+    /// How many were put in.
+    count: usize,
+    /// No pair is cheaper than this.
+    cheapest: usize,
+}
+
+impl Queue {
+    /// No pairs.
+    pub(crate) fn new(alloc: Global) -> Result<Queue, AllocError> {
+        let mut pairs = Vec::with_capacity(alloc, DEAREST)?;
+        for _ in 0..DEAREST {
+            pairs.push(Vec::new(alloc))?;
+        }
+        Ok(Queue {
+            pairs,
+            count: 0,
+            cheapest: 0,
+        })
+    }
+
+    /// Adds a pair, but none that is too dear, and none behind so many.
+    pub(crate) fn push(&mut self, yields: &Yields, pair: Pair) -> Result<(), AllocError> {
+        let Some(price) = pair.price(yields) else {
+            return Ok(());
+        };
+        let price = usize::try_from(price).unwrap_or(usize::MAX);
+        if self.count >= KEPT || pair.one.is_long() || pair.other.is_long() {
+            return Ok(());
+        }
+        if let Some(pairs) = self.pairs.get_mut(price) {
+            pairs.push(pair)?;
+            self.count = self.count.saturating_add(1);
+            self.cheapest = self.cheapest.min(price);
+        }
+        Ok(())
+    }
+
+    /// Takes one of the cheapest pairs.
+    pub(crate) fn pop(&mut self) -> Option<Pair> {
+        for price in self.cheapest..DEAREST {
+            if let Some(pairs) = self.pairs.get_mut(price)
+                && let Some(pair) = pairs.pop()
+            {
+                self.cheapest = price;
+                return Some(pair);
+            }
+        }
+        None
+    }
+}

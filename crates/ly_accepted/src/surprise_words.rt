@@ -1,0 +1,50 @@
+//! What is said of what may not be meant in a pattern.
+use crate::patterns::Surprise;
+use ly_page::Page;
+
+/// Says what is surprising, and what to write.
+pub(crate) fn say_surprise(page: &mut Page, surprise: Surprise) {
+    page.say(match surprise {
+        Surprise::Letter(letter) => return say_letter(page, letter),
+        Surprise::Backspace => b"\\b is a backspace; nothing stands for the edge of a word\n",
+        Surprise::Braces => {
+            b"\\x is the letter x, and the braces are an interval; write two hexadecimal digits, as \\x41\n"
+        }
+        Surprise::Unicode => {
+            b"\\u is the letter u; write the character itself, or its bytes, as \\xc3\\xa9\n"
+        }
+        Surprise::Reluctant => {
+            b"this ? makes what stands before it optional: a match is the longest one always\n"
+        }
+        Surprise::ManyBytes => {
+            b"brackets hold single bytes, and this character has several; write it outside of them, with |\n"
+        }
+        Surprise::Interval => {
+            b"the interval repeats all that stands before it, not its last piece alone, as POSIX has it; \
+            for that write parentheses around the piece and the interval, as in a(b{2})\n"
+        }
+        Surprise::LineEnd => {
+            b"$ asks for a newline behind the match: at the end of a text without one the rule doesn't match\n"
+        }
+        Surprise::EndOfFile => {
+            b"<<EOF>> is these seven bytes: no rule matches the end of a text\n"
+        }
+    });
+}
+
+/// Says that a letter behind a backslash stands for itself, and what to write for the class that it may be meant for.
+fn say_letter(page: &mut Page, letter: u8) {
+    page.say(b"\\");
+    page.say(&[letter]);
+    page.say(b" is the letter ");
+    page.say(&[letter]);
+    page.say(b" in a pattern; a class of bytes is written as ");
+    page.say(match letter {
+        b'd' => b"[[:digit:]] or [0-9]\n".as_slice(),
+        b'D' => b"[^[:digit:]] or [^0-9]\n",
+        b'w' => b"[[:alnum:]_]\n",
+        b'W' => b"[^[:alnum:]_]\n",
+        b's' => b"[[:space:]]\n",
+        _ => b"[^[:space:]]\n",
+    });
+}
