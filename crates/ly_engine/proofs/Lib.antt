@@ -1,1 +1,2 @@
 pub mod AnswerFaultLemmas
+pub mod GivenTokenLemmas

@@ -1,1 +1,2 @@
 pub mod AnswerFault
+pub mod GivenTokens

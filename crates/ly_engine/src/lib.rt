@@ -13,6 +13,7 @@
 mod answer_fault;
 mod answering;
 mod generating;
+mod laws;
 mod placing;
 mod reporting;
 mod reporting_fault;
@@ -20,6 +21,7 @@ mod reporting_fault;
 pub use answer_fault::AnswerFault;
 pub use answering::answer;
 pub use generating::{Built, build, generate};
+pub use laws::given_tokens_are_answered;
 pub use ly_base::{Limits, Version};
 pub use ly_drive::{
     DriveFault, Feed, FeedFault, LinesOutcome, Need, Outcome, TextFault, drive, drive_lines,

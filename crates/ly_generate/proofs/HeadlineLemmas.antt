@@ -5,6 +5,7 @@ use Rattle.std.specs.List.{AllZip}
 use Rattle.std.proofs.lemmas.List.{length-map}
 use Rattle.std.proofs.lemmas.List.Elements.{All-cons, All-head, All-tail}
 use Rattle.ly_base.specs.Lexed.{Token, start_of, tokens_from}
+use Rattle.ly_base.specs.Trees.{Tree}
 use Rattle.ly_base.specs.declared.lexeme.End.{End}
 use Rattle.ly_base.specs.declared.lexeme.End.TheVariants.{BadCut, Clean, Stuck}
 use Rattle.ly_base.specs.declared.version.Version.{Version}
@@ -13,7 +14,7 @@ use Rattle.ly_feed.specs.TableAnswer.{AreTokens, Comes, IsVerdict, begun, end_of
 use Rattle.ly_feed.specs.Verdict.{Verdict, accepted, faulty, refused, unmatched}
 use Rattle.ly_emit.specs.Following.{bottom}
 use Rattle.ly_emit.specs.Laws.{AreOf}
-use Rattle.ly_emit.specs.Tables.{IsMachineOf}
+use Rattle.ly_emit.specs.Tables.{IsMachineOf, shape_in}
 use Rattle.ly_emit.proofs.ExpectedLemmas.{expected_follow}
 use Rattle.ly_emit.proofs.FollowLemmas.{tables_follow}
 use Rattle.ly_emit.proofs.RunLemmas.{accepted_follow, reads_follow, refused_follow}
@@ -35,14 +36,15 @@ use Rattle.ly_lr0.specs.Automaton.{Lr0Automaton}
 use Rattle.ly_pack.specs.Machine.{Machine}
 use Rattle.ly_pack.specs.SteadyLaws.{IsStack, bottom as alone}
 use Rattle.ly_parse.specs.Expected.{AreExpected}
-use Rattle.ly_parse.specs.Feeding.{Level, states_on}
+use Rattle.ly_parse.specs.Feeding.{Feeds, Level, states_on}
 use Rattle.ly_parse.specs.Feeding as fed
 use Rattle.ly_parse.specs.Reading.{ReadsTokens, at_end, onward}
 use Rattle.ly_parse.proofs.SettlingLemmas.{stack_kept}
-use Rattle.ly_resolve.specs.Machine.{Leads, begin}
+use Rattle.ly_resolve.specs.Machine.{AcceptsWith, Leads, RefusesAfter, begin}
 use Rattle.ly_resolve.specs.Precedence.{judge_of}
 use Rattle.ly_scan.specs.Lexer.{Scanner}
 use Rattle.ly_tables.specs.TableSet.{TableSet, machine_of}
+use Rattle.ly_tree.specs.Term.{Term, build}
 use Rattle.ly_yaccread.specs.File.{Written}
 
 -- what holds of all members holds of those up to one
@@ -115,6 +117,7 @@ module _ (version : Version) (file : LexFile) (w : Written) (s : Spec) (set : Ta
         g.is_set.literals (condition_in (scan_part_of set)) (start_of text) a.lexemes e a.lexed);
   }
 
+  -- the specification's terminals are the grammar's
   terminals_are : length s.terminals ≡ g.automaton.grammar.terminals
   terminals_are =
       let of : IsMachineOf s g.automaton (machine_of set) = g.is_set.machine in
@@ -130,12 +133,23 @@ module _ (version : Version) (file : LexFile) (w : Written) (s : Spec) (set : Ta
       (all_below s.terminals (tokens_from (naming file.actions.items) 0 text a.lexemes) tokens two
       (tokens_of tokens e a).numbered)
 
+  -- tokens whose terminals the set has are the grammar's
+  pub known_are : (tokens : List (Token ℕ)) → All (λ t. t.terminal < length set.terminals) tokens
+      → AreOf g.automaton tokens
+  known_are tokens all = subst (λ n. All (λ t. t.terminal < n) tokens)
+      ((ap length g.is_set.terminals ∙ length-map s.terminals _) ∙ terminals_are) all
+
   end_below : 0 < g.automaton.grammar.terminals
   end_below = omega (arith, two, terminals_are)
 
+  -- so are they with the end behind them
+  pub with_end : (tokens : List (Token ℕ)) → AreOf g.automaton tokens
+      → AreOf g.automaton (tokens ++ end_of text ∷ [])
+  with_end tokens all = one_more g.automaton tokens (end_of text) all end_below
+
   fed_all : (tokens : List (Token ℕ)) (e : End) → AreTokens (scan_part_of set) (start_of text) tokens e
       → AreOf g.automaton (fed_with (end_of text) tokens e)
-  fed_all tokens Clean a = one_more g.automaton tokens (end_of text) (all_of tokens Clean a) end_below
+  fed_all tokens Clean a = with_end tokens (all_of tokens Clean a)
   fed_all tokens (Stuck b) a = all_of tokens (Stuck b) a
   fed_all tokens (BadCut b) a = all_of tokens (BadCut b) a
 
@@ -161,28 +175,48 @@ module _ (version : Version) (file : LexFile) (w : Written) (s : Spec) (set : Ta
             last run.2 edges ts expected;
       }
 
+  -- tokens that the tables read, and accept with the end behind them, the reference machine accepts
+  pub accepts_too : (tokens : List (Token ℕ)) (last : List Level) (d : Term) → AreOf g.automaton tokens
+      → ReadsTokens (machine_of set) [] tokens last → Feeds (machine_of set) (end_of text) last (fed.done d)
+      → (tree : Tree) × AcceptsWith g.automaton.grammar (judge_of s) (tokens ++ end_of text ∷ []) tree
+      × (d ≡ build (shape_in s) tree)
+  accepts_too tokens last d all reads feeds = accepted_follow s g.automaton (machine_of set) g.is_automaton g.useful
+      g.is_set.machine tokens (end_of text) last d (with_end tokens all) reads feeds
+
+  -- what they refuse behind others it refuses there, and would read next what they expect
+  pub refuses_too : (before behind : List (Token ℕ)) (t : Token ℕ) (last : List Level) (ts : List ℕ)
+      → AreOf g.automaton (before ++ t ∷ behind) → ReadsTokens (machine_of set) [] before last
+      → Feeds (machine_of set) t last fed.refused → AreExpected (machine_of set) (states_on last) ts
+      → RefusesAfter g.automaton.grammar (judge_of s) (before ++ t ∷ behind) before
+      × AreNext g.automaton.grammar (judge_of s) before ts
+  refuses_too before behind t last ts all reads feeds expected = (
+    refused_follow s g.automaton (machine_of set) g.is_automaton g.useful g.is_set.machine before behind t last
+        (up_to g.automaton before behind t all) reads feeds,
+    next_of before last ts (before_it g.automaton before behind t all) reads expected,
+  )
+
+  -- and they are at fault on none
+  pub never_at_fault : (before behind : List (Token ℕ)) (t : Token ℕ) (last : List Level)
+      → AreOf g.automaton (before ++ t ∷ behind) → ReadsTokens (machine_of set) [] before last
+      → Feeds (machine_of set) t last fed.faulty → ⊥
+  never_at_fault before behind t last all reads feeds =
+      let run = reads_follow s g.automaton (machine_of set) g.is_automaton g.useful g.is_set.machine reads []
+      (t ∷ behind) (before_it g.automaton before behind t all) bottom in
+      tables_follow s g.automaton (machine_of set) g.is_automaton g.useful g.is_set.machine run.0 last t behind
+          fed.faulty (it_self g.automaton before behind t all) run.2 feeds
+
   -- the verdict is the specification's
   pub verdict_follows : (v : Verdict) → IsVerdict set text v → IsSpecVerdict file s g.automaton.grammar text v
   verdict_follows (accepted d) (r, fed) =
-      let run = accepted_follow s g.automaton (machine_of set) g.is_automaton g.useful g.is_set.machine r.tokens
-      (end_of text) r.last d
-      (one_more g.automaton r.tokens (end_of text) (all_of r.tokens Clean r.are_tokens) end_below) r.reads fed in
+      let run = accepts_too r.tokens r.last d (all_of r.tokens Clean r.are_tokens) r.reads fed in
       (r.tokens, Clean, tokens_of r.tokens Clean r.are_tokens, (refl, run.0, run.1, run.2))
-  verdict_follows (refused k t ts) (before, c, count, expected) = (
-    c.tokens,
-    c.e,
-    tokens_of c.tokens c.e c.are_tokens,
-    (
-      before,
-      c.behind,
-      c.split,
-      refused_follow s g.automaton (machine_of set) g.is_automaton g.useful g.is_set.machine before c.behind t c.last
-          (up_to g.automaton before c.behind t (come_all before t fed.refused c)) c.reads c.feeds,
-      omega (arith, count),
-      next_of before c.last ts (before_it g.automaton before c.behind t (come_all before t fed.refused c)) c.reads
-          expected,
-    ),
-  )
+  verdict_follows (refused k t ts) (before, c, count, expected) =
+      let both = refuses_too before c.behind t c.last ts (come_all before t fed.refused c) c.reads c.feeds expected in (
+        c.tokens,
+        c.e,
+        tokens_of c.tokens c.e c.are_tokens,
+        (before, c.behind, c.split, both.0, omega (arith, count), both.1),
+      )
   verdict_follows (unmatched byte) r =
       let all : AreOf g.automaton r.tokens = all_of r.tokens (Stuck byte) r.are_tokens in
       let run = reads_follow s g.automaton (machine_of set) g.is_automaton g.useful g.is_set.machine r.reads [] [] all
@@ -197,12 +231,8 @@ module _ (version : Version) (file : LexFile) (w : Written) (s : Spec) (set : Ta
               (append-nil r.tokens) run.1,
         ),
       )
-  verdict_follows faulty (inl (before, t, c)) =
-      let all : AreOf g.automaton (before ++ t ∷ c.behind) = come_all before t fed.faulty c in
-      let run = reads_follow s g.automaton (machine_of set) g.is_automaton g.useful g.is_set.machine c.reads []
-      (t ∷ c.behind) (before_it g.automaton before c.behind t all) bottom in
-      absurd (tables_follow s g.automaton (machine_of set) g.is_automaton g.useful g.is_set.machine run.0 c.last t
-      c.behind fed.faulty (it_self g.automaton before c.behind t all) run.2 c.feeds)
+  verdict_follows faulty (inl (before, t, c)) = absurd (never_at_fault before c.behind t c.last
+      (come_all before t fed.faulty c) c.reads c.feeds)
   verdict_follows faulty (inr (byte, r)) = absurd (leaves_tokens (defined file.names) file.rules.items
       (condition_set file.actions.items) (start_of text)
       (tokens_of r.tokens (BadCut byte) r.are_tokens).lexemes (BadCut byte)

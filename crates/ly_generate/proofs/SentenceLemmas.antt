@@ -72,7 +72,7 @@ same_front (u ∷ a) (v ∷ b) x y e =
     cc
 
 -- what is accepted, also with conflicts, is a derivation of all tokens before the end
-derived : (G : Grammar) (judge : Judge) → IsAugmented G → (text : List ℕ) (tokens : List (Token ℕ))
+pub derived : (G : Grammar) (judge : Judge) → IsAugmented G → (text : List ℕ) (tokens : List (Token ℕ))
     → All (λ t. t.terminal ≢ 0) tokens → (d : Tree) → AcceptsWith G judge (tokens ++ end_of text ∷ []) d
     → IsDerivation G tokens d
 derived G judge augmented text tokens ends d run =
