@@ -18,3 +18,4 @@ pub mod SettledLemmas
 pub mod SomeVerdictLemmas
 pub mod StopLemmas
 pub mod TakingLemmas
+pub mod ToldLemmas

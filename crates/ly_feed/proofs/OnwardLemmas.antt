@@ -39,7 +39,7 @@ after_behind next q t more within = λ i. record {
 }
 
 -- what stands whatever comes stands where the text has ended too
-fast_of : (ended : Bool) (s : Scanner) (q : Place) (t : Lexeme) → StandsFast false s q t → StandsFast ended s q t
+pub fast_of : (ended : Bool) (s : Scanner) (q : Place) (t : Lexeme) → StandsFast false s q t → StandsFast ended s q t
 fast_of ended s q t fast = record {
   is = λ more can. fast.is more (λ e. absurd (let off : false ≡ true → ⊥ = λ z. cc in off e));
   some = fast.some;

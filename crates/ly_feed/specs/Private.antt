@@ -2,4 +2,5 @@ pub mod Feeding
 pub mod Labels
 pub mod Running
 pub mod ScannerOf
+pub mod Told
 pub mod Window

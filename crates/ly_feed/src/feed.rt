@@ -14,6 +14,7 @@ use crate::need::Need;
 use crate::outcome::Outcome;
 use crate::running::{Halt, TableParser, run_on, run_to_end};
 use crate::text_fault::TextFault;
+use crate::told::facts_of;
 use crate::window::Window;
 use ly_base::OutOfMemory;
 use ly_parse::Parser;
@@ -37,6 +38,8 @@ pub struct Feed<'a> {
     form: AnswerForm,
     /// The set's scanner.
     lexer: Lexer,
+    /// The facts of its states: what is told of the lexemes whose walks end there.
+    facts: Vec<u32>,
     /// The set's parser, with what it has read.
     parser: TableParser<'a>,
     /// The bytes that are held, which are those of the match that isn't decided, and where it begins.
@@ -68,6 +71,7 @@ impl<'a> Feed<'a> {
         ensures { IfOk result (λ f. f ≡ nothing_read form set.now) }
     {
         let lexer = lexer_of(alloc, set)?;
+        let facts = facts_of(alloc, set, &lexer)?;
         let window = Window::new(alloc);
         let matcher = lexer.matcher_at(&window.place());
         Ok(Feed {
@@ -75,6 +79,7 @@ impl<'a> Feed<'a> {
             set,
             form,
             lexer,
+            facts,
             parser: Parser::new(alloc, set.machine()),
             window,
             matcher,
@@ -111,6 +116,7 @@ impl<'a> Feed<'a> {
             self.alloc,
             self.set,
             &self.lexer,
+            Some(&self.facts),
             &mut self.parser,
             start,
             false,

@@ -26,7 +26,9 @@ mod names;
 mod need;
 mod outcome;
 mod running;
+mod running_told;
 mod text_fault;
+mod told;
 mod window;
 
 pub use feed::Feed;

@@ -1,14 +1,16 @@
-ghost use Rattle.std.specs.Prelude.{◌≡◌, ◌<◌, ◌≤◌, ℕ, List, [], Bool, IfOk, length, false};
+ghost use Rattle.std.specs.Prelude.{◌≡◌, ◌<◌, ◌≤◌, ℕ, List, [], Bool, IfOk, IfSome, length, false};
 ghost use Rattle.ly_feed.specs.LexerOf.{IsLexerOf};
 ghost use Rattle.ly_feed.specs.Closed.{progress_of, CanRun, IsClosed};
 ghost use Rattle.ly_feed.specs.Private.Running.{HasToken, IsLast, IsRefusalAt};
 ghost use Rattle.ly_feed.specs.Private.Running.{IsRunOn, IsTaken};
+ghost use Rattle.ly_feed.specs.Private.Told.{AreFactsOf};
 ghost use Rattle.ly_feed.specs.ScanPart.{scan_part_of, scanner_in, terminal_by, terminal_in};
 ghost use Rattle.ly_parse.specs.Parse.{IsTellable};
 ghost use Rattle.ly_scan.specs.Pieces.{StandsFast};
 
 use crate::flaw::Flaw;
 use crate::meaning::{action, terminal};
+use crate::running_told::run_told_by;
 use crate::text_fault::TextFault;
 use ly_base::{Emitted, End, Lexeme, OutOfMemory, Place, ScanAction, StateNo, Sym};
 use ly_pack::{Comb, TableAction};
@@ -33,16 +35,19 @@ pub(crate) enum Halt<'t> {
 
 /// Runs scanner and parser on from a place over the bytes that are left there, lexeme by lexeme, as long as it is
 /// decided which one comes next, whatever comes behind these bytes; where the text has ended behind them, to its end.
-/// Answers what is wrong with the text as soon as that is known. The place is a value, so that it has registers.
+/// Answers what is wrong with the text as soon as that is known. Where there are facts of states, the loop takes those
+/// lexemes alone that aren't told by them. The place is a value, so that it has registers.
 pub(crate) fn run_on<'t>(
     alloc: Global,
     set: &TableSet,
     lexer: &Lexer,
+    facts: Option<&[u32]>,
     parser: &mut TableParser<'_>,
     mut place: Place<'t>,
     ended: bool,
 ) -> Result<Halt<'t>, TextFault>
     requires lexer { IsLexerOf (scan_part_of set.now) lexer.now }
+    requires facts { IfSome facts (λ f. AreFactsOf (scan_part_of set.now) lexer.now.scanner f.now) }
     requires runs { CanRun (scan_part_of set.now) parser.old.machine }
     requires goes_on { parser.old.over ≡ false }
     ensures runs { IsRunOn ended (scan_part_of set.now) parser.old.machine (progress_of place.entry parser.old)
@@ -51,18 +56,25 @@ pub(crate) fn run_on<'t>(
 {
     let mut known = KnownWalks::new(alloc);
     loop {
-        let lexeme = match lexer.next(&mut place, &mut known, ended) {
+        let mut here = match run_told_by(set, lexer, facts, parser, place, &known)? {
+            Halt::At(here) => here,
+            Halt::Flawed(flaw) => return Ok(Halt::Flawed(flaw)),
+        };
+        let lexeme = match lexer.next(&mut here, &mut known, ended) {
             Ok(Some(lexeme)) => lexeme,
-            Ok(None) => return Ok(Halt::At(place)),
+            Ok(None) => return Ok(Halt::At(here)),
             // the text has ended
-            Err(End::Clean) => return Ok(Halt::At(place)),
+            Err(End::Clean) => return Ok(Halt::At(here)),
             Err(End::Stuck { byte }) => return Ok(Halt::Flawed(Flaw::NoRule { byte: byte as u64 })),
             Err(End::BadCut { .. }) => return Err(TextFault::FaultyTables),
         };
         let ScanAction { begin, emits } = action(set, lexeme.rule);
-        match take(set, parser, &place, lexeme, emits) {
-            Answer::Reads => place.advance(lexeme.taken, begin),
-            Answer::Refuses => return Ok(Halt::Flawed(refusal(set, parser, place, lexeme)?)),
+        match take(set, parser, &here, lexeme, emits) {
+            Answer::Reads => {
+                here.advance(lexeme.taken, begin);
+                place = here;
+            }
+            Answer::Refuses => return Ok(Halt::Flawed(refusal(set, parser, here, lexeme)?)),
             Answer::FaultyTables => return Err(TextFault::FaultyTables),
             Answer::OutOfMemory => return Err(TextFault::OutOfMemory),
             // the end alone is accepted
@@ -157,7 +169,7 @@ pub fn run_to_end<'t>(
         parser.new.forest result }
     ensures machine { parser.new.machine ≡ parser.old.machine }
 {
-    match run_on(alloc, set, lexer, parser, place, true)? {
+    match run_on(alloc, set, lexer, None, parser, place, true)? {
         Halt::At(place) => close(parser, &place),
         Halt::Flawed(flaw) => Ok(Ended::Refused(flaw)),
     }

@@ -196,6 +196,7 @@ impl<'a, A: Rows<TableAction> + Drop, G: Rows<StateNo> + Drop> Running<'a, A, G>
     }
 
     /// Puts a token that is read onto the stack.
+    #[inline(always)] // likewise
     fn read(&mut self, state: StateNo, token: &Token<'_>) -> Result<(), OutOfMemory>
         requires { action_of self.old.machine (top_of self.old.stack) token.now.terminal.0 ≡ shift state.0 }
         ensures stack { OnOk result (self.new.stack ≡ record {

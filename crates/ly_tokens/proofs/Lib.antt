@@ -4,6 +4,7 @@ pub mod AnswerLemmas
 pub mod LabelLemmas
 pub mod LineLemmas
 pub mod ListingLemmas
+pub mod MarkLemmas
 pub mod PrintingLemmas
 pub mod RowAgreementLemmas
 pub mod RowTableLemmas

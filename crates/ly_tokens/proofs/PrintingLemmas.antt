@@ -30,11 +30,11 @@ use Rattle.ly_tokens.specs.Private.TokenLines.{AreLines, LeadsOn, SoFar, is_no_e
 use Rattle.ly_tokens.specs.Printing.{condition_set, end_line, line_if, naming, printed, terminal_for}
 
 -- the line of one token
-printed_one : (o : Option Terminal) (at : ℕ) (bytes : List ℕ) → printed (token_if o at bytes) ≡ line_if o bytes
+pub printed_one : (o : Option Terminal) (at : ℕ) (bytes : List ℕ) → printed (token_if o at bytes) ≡ line_if o bytes
 printed_one None at bytes = refl
 printed_one (Some n) at bytes = append-nil (leaf_line n bytes)
 
-printed_append : (xs ys : List (Token Terminal)) → printed (xs ++ ys) ≡ printed xs ++ printed ys
+pub printed_append : (xs ys : List (Token Terminal)) → printed (xs ++ ys) ≡ printed xs ++ printed ys
 printed_append [] ys = refl
 printed_append (x ∷ xs) ys = ap (λ z. leaf_line x.terminal x.bytes ++ z) (printed_append xs ys)
     ∙ sym (append_assoc (leaf_line x.terminal x.bytes) (printed xs) (printed ys))

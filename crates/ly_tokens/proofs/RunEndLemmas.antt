@@ -15,7 +15,7 @@ use Rattle.ly_scan.proofs.OneLexingLemmas.{one_lexing}
 use Rattle.ly_scan.specs.Lexer.{IsLexemeAt, ScanEndsAt, Scanner}
 use Rattle.ly_listing.specs.Listings.{LeavesTokens}
 use Rattle.ly_tokens.specs.Printing.{condition_set}
-use Rattle.ly_tokens.specs.Private.RunEnd.{AreSetBelow, BeginsEverywhere, EndsSo, HasRule}
+use Rattle.ly_tokens.specs.Private.RunEnd.{AreSetBelow, BeginsEverywhere, EndsFrom, EndsSo, HasRule}
 use Rattle.ly_tokens.specs.Private.TokenLines.{SoFar}
 
 -- no run is stuck where a byte alone has a rule
@@ -88,12 +88,25 @@ set_below actions n all i c e = by_action (slice_get actions i) refl e
     by_action None at is = absurd cc
     by_action (Some a) at is = all i a c at is
 
--- where a run so far ends, the text's does
+-- where a run so far ends, that from its start does
+pub ends_from : (actions : List LexAction) (s : Scanner) (p : Place) (told : List ℕ) (q : Place) (e : End)
+    → ScanEndsAt s q e → SoFar actions s p q told → EndsFrom s actions p e
+ends_from actions s p told q e ends f = (
+  f.0 ++ [],
+  leads_on (IsLexemeAt s) (ScanEndsAt s) (condition_set actions) p q f.0 [] e f.1 ends,
+)
+
+-- so does the text's
 pub ends_there : (actions : List LexAction) (s : Scanner) (text told : List ℕ) (q : Place) (e : End) → ScanEndsAt s q e
     → SoFar actions s (start_of text) q told → EndsSo s actions text e
-ends_there actions s text told q e ends f = (
-  f.0 ++ [],
-  leads_on (IsLexemeAt s) (ScanEndsAt s) (condition_set actions) (start_of text) q f.0 [] e f.1 ends,
+ends_there actions s text told q e ends f = ends_from actions s (start_of text) told q e ends f
+
+-- and where it ends from the place where the run so far has come
+pub ends_on : (actions : List LexAction) (s : Scanner) (text told : List ℕ) (q : Place) (e : End)
+    → EndsFrom s actions q e → SoFar actions s (start_of text) q told → EndsSo s actions text e
+ends_on actions s text told q e ends f = (
+  f.0 ++ ends.0,
+  leads_on (IsLexemeAt s) (ScanEndsAt s) (condition_set actions) (start_of text) q f.0 ends.0 e f.1 ends.1,
 )
 
 -- a run ends in one way

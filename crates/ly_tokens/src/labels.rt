@@ -1,9 +1,10 @@
-ghost use Rattle.std.specs.Prelude.{◌≡◌, ◌<◌, ◌≤◌, ◌++◌, ℕ, List, length, IfOk, OnOk, option_map, slice_index};
+ghost use Rattle.std.specs.Prelude.{◌≡◌, ◌<◌, ◌≤◌, ◌++◌, ℕ, List, length, IfOk, OnOk, option_and_then, option_map, slice_get};
+ghost use Rattle.std.specs.Prelude.{slice_index};
 ghost use Rattle.std.proofs.Props.{props};
 ghost use Rattle.ly_print.specs.Text.{before_leaf, named};
 ghost use Rattle.ly_tokens.specs.Answering.{names_by};
 ghost use Rattle.ly_tokens.specs.Printing.{condition_set, naming};
-ghost use Rattle.ly_tokens.specs.Private.Labels.{fact_for, label_at, AreFacts, AreLabels, AreLiteralLabels};
+ghost use Rattle.ly_tokens.specs.Private.Labels.{fact_for, label_at, place_at, AreFacts, AreLabels, AreLiteralLabels};
 ghost use Rattle.ly_tokens.specs.Private.Labels.{IsLabelOf, IsOwn};
 
 use crate::file_lexer::count_of;
@@ -68,21 +69,37 @@ impl<'a> RuleLabels<'a> {
         self.numbered(*self.numbers.get(rule.0 as usize)?, token[0])
     }
 
+    /// The place of the label of a rule's token among all labels, if it has a line.
+    pub(crate) fn place(&self, rule: RuleNo, token: &[u8]) -> Option<usize>
+        requires { 0 < length token.now }
+        ensures { option_map before_leaf (naming self.now.actions.now rule.0 token.now)
+            ≡ option_and_then (slice_get self.now.labels.items) result }
+    {
+        place_of(*self.numbers.get(rule.0 as usize)?, token[0])
+    }
+
     /// The label of a number, of a token that begins with this byte.
     #[inline(always)]
     pub(crate) fn numbered(&self, number: u32, first: u8) -> Option<&Label>
         ensures { option_map (λ l. l.now) result ≡ label_at self.now.labels.items number first }
     {
-        if number <= NOTHING {
-            return None;
-        }
-        let place = if number == FIRST_BYTE {
-            usize::from(first)
-        } else {
-            number as usize
-        };
-        self.labels.get(place)
+        self.labels.get(place_of(number, first)?)
     }
+}
+
+/// The place of the label of a number among all labels, of a token that begins with this byte, if it has a line.
+#[inline(always)]
+pub(crate) fn place_of(number: u32, first: u8) -> Option<usize>
+    ensures { result ≡ place_at number first }
+{
+    if number <= NOTHING {
+        return None;
+    }
+    Some(if number == FIRST_BYTE {
+        usize::from(first)
+    } else {
+        number as usize
+    })
 }
 
 impl TokenNames for RuleLabels<'_> {

@@ -10,6 +10,7 @@ mod fault;
 mod file_lexer;
 mod labels;
 mod laws;
+mod marks;
 mod run_end;
 mod scanner;
 mod scanner_fault;

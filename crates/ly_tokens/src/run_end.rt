@@ -1,40 +1,50 @@
 //! How the run over a text ends, which is known before a line of it is written.
-ghost use Rattle.std.specs.Prelude.{◌≡◌, ◌<◌, ℕ, List, map};
+ghost use Rattle.std.specs.Prelude.{◌≡◌, ◌<◌, ◌≤◌, ◌+◌, ◌^◌, ℕ, List, length, map, true};
 ghost use Rattle.std.specs.Bool.{OnTrue};
 ghost use Rattle.ly_base.specs.declared.lexeme.End.{End};
 ghost use Rattle.ly_scan.specs.Facts.{facts_by};
+ghost use Rattle.ly_scan.specs.KnownWalks.{AreKnown};
 ghost use Rattle.ly_scan.specs.Lexer.{Scanner};
 ghost use Rattle.ly_scan.specs.Lexers.{scanner_of};
+ghost use Rattle.ly_scan.specs.StateTable.{ahead_in};
 ghost use Rattle.ly_listing.specs.Listings.{LeavesTokens};
-ghost use Rattle.ly_tokens.specs.Private.RunEnd.{AreSetBelow, BeginsEverywhere, EndsSo, HasRule};
+ghost use Rattle.ly_tokens.specs.Private.Marks.{AreMarked, IsMarkedTo};
+ghost use Rattle.ly_tokens.specs.Private.RunEnd.{AreSetBelow, BeginsEverywhere, EndsFrom, EndsSo, HasRule};
 ghost use Rattle.ly_tokens.specs.Private.TokenLines.{is_passed, LeadsOn};
 
-use crate::labels::RuleLabels;
-use crate::token_lines::condition_set;
+use crate::labels::{RuleLabels, place_of};
+use crate::marks::{Marks, Walked};
+use crate::token_lines::{condition_set, first_of};
 use ly_base::{End, Place};
 use ly_scan::{KnownWalks, Lexer, Steps};
 use std::alloc::Global;
 
 /// How the run over a text ends, under so many conditions. Where each byte alone has a rule in each of them it is
-/// clean, whatever the text is; else the text is walked over once.
-pub(crate) fn run_end(
+/// clean, whatever the text is; else the text is walked over once, and what is found is marked.
+pub(crate) fn run_end<'t>(
     alloc: Global,
     lexer: &Lexer,
-    text: &[u8],
+    text: &'t [u8],
     labels: &RuleLabels<'_>,
     facts: &[u32],
     conditions: u32,
-) -> End
+) -> Walked<'t>
     requires passed { lexer.now.passed ≡ map is_passed labels.now.actions.now }
     requires facts { facts.now ≡ facts_by lexer.now.scanner labels.now.facts.items }
     requires below { AreSetBelow labels.now.actions.now conditions }
     requires some { 0 < conditions }
     requires leaves { (e : End) → EndsSo (scanner_of lexer.now.scanner) labels.now.actions.now text.now e
         → LeavesTokens e }
-    ensures { EndsSo (scanner_of lexer.now.scanner) labels.now.actions.now text.now result }
+    ensures ends { EndsSo (scanner_of lexer.now.scanner) labels.now.actions.now text.now result.end }
+    ensures marked { IsMarkedTo labels.now.actions.now (scanner_of lexer.now.scanner) labels.now.labels.items text.now
+        result.place result.marks.items }
 {
     if begins_everywhere(lexer.scanner(), conditions) {
-        return End::Clean;
+        return Walked {
+            end: End::Clean,
+            marks: Vec::new(alloc),
+            place: Place::start(text),
+        };
     }
     walked_end(alloc, lexer, text, labels, facts)
 }
@@ -84,20 +94,128 @@ fn has_rule<S: Steps>(steps: &S, condition: u32, line: bool, byte: u8) -> bool
     }
 }
 
-/// How the run over a text ends, by a walk over the text.
-fn walked_end(
+/// How the run over a text ends, by a walk over the text, with marks of its tokens as far as there is room for them.
+fn walked_end<'t>(
     alloc: Global,
     lexer: &Lexer,
-    text: &[u8],
+    text: &'t [u8],
     labels: &RuleLabels<'_>,
     facts: &[u32],
-) -> End
+) -> Walked<'t>
     requires passed { lexer.now.passed ≡ map is_passed labels.now.actions.now }
     requires facts { facts.now ≡ facts_by lexer.now.scanner labels.now.facts.items }
-    ensures { EndsSo (scanner_of lexer.now.scanner) labels.now.actions.now text.now result }
+    ensures ends { EndsSo (scanner_of lexer.now.scanner) labels.now.actions.now text.now result.end }
+    ensures marked { IsMarkedTo labels.now.actions.now (scanner_of lexer.now.scanner) labels.now.labels.items text.now
+        result.place result.marks.items }
 {
     let mut place = Place::start(text);
     let mut known = KnownWalks::new(alloc);
+    let mut marks = Marks::new(alloc, text.len());
+    loop {
+        place = mark_told(lexer, labels, facts, place, &known, &mut marks);
+        match lexer.next(&mut place, &mut known, true) {
+            Ok(Some(lexeme)) => {
+                let rest = place.rest();
+                let label = labels.place(lexeme.rule, &rest[..lexeme.taken]);
+                if !marks.note_if(rest.len(), label, lexeme.taken) {
+                    return without_marks(lexer, labels, facts, place, known, marks);
+                }
+                place.advance(lexeme.taken, condition_set(labels.actions, lexeme.rule))
+            }
+            Err(end) => {
+                return Walked {
+                    end,
+                    marks: marks.marks,
+                    place,
+                };
+            }
+            // the end decides
+            Ok(None) => unreachable!(),
+        }
+    }
+}
+
+/// Marks lexemes from a place on, as long as they are told by the facts of states and there is room, and answers where
+/// the next one stands.
+#[inline(never)] // so that it has the registers
+fn mark_told<'t>(
+    lexer: &Lexer,
+    labels: &RuleLabels<'_>,
+    facts: &[u32],
+    start: Place<'t>,
+    known: &KnownWalks,
+    marks: &mut Marks,
+) -> Place<'t>
+    requires passed { lexer.now.passed ≡ map is_passed labels.now.actions.now }
+    requires facts { facts.now ≡ facts_by lexer.now.scanner labels.now.facts.items }
+    requires behind { length start.rest ≤ marks.old.left }
+    ensures leads { (told : List ℕ)
+        × LeadsOn labels.now.actions.now (scanner_of lexer.now.scanner) start.entry result told }
+    ensures marked { (text : List ℕ) → AreMarked labels.now.actions.now (scanner_of lexer.now.scanner)
+        labels.now.labels.items text start.entry marks.old.marks.items marks.old.left
+        → AreMarked labels.now.actions.now (scanner_of lexer.now.scanner) labels.now.labels.items text result
+        marks.new.marks.items marks.new.left }
+    ensures behind { length result.rest ≤ marks.new.left }
+{
+    let mut place = start;
+    loop {
+        let Some(told) = lexer.tell(facts, &mut place, known) else {
+            return place;
+        };
+        let rest = place.rest();
+        let label = place_of(told.fact, first_of(rest));
+        if !marks.note_if(rest.len(), label, told.taken) {
+            return place;
+        }
+        place.advance(told.taken, None);
+    }
+}
+
+/// How the run ends from a place on, up to which its tokens are marked.
+fn without_marks<'t>(
+    lexer: &Lexer,
+    labels: &RuleLabels<'_>,
+    facts: &[u32],
+    place: Place<'t>,
+    known: KnownWalks,
+    marks: Marks,
+) -> Walked<'t>
+    requires passed { lexer.now.passed ≡ map is_passed labels.now.actions.now }
+    requires facts { facts.now ≡ facts_by lexer.now.scanner labels.now.facts.items }
+    requires known { AreKnown (ahead_in lexer.now.scanner) true place.rest known }
+    requires countable { place.at + length place.rest < 2 ^ 64 }
+    ensures end { EndsFrom (scanner_of lexer.now.scanner) labels.now.actions.now place.entry result.end }
+    ensures marks { result.marks.items ≡ marks.marks.items }
+    ensures place { result.place ≡ place.entry }
+{
+    let marked = Place::behind(
+        place.rest(),
+        place.at(),
+        place.at_line_start(),
+        place.condition(),
+    );
+    Walked {
+        end: end_from(lexer, labels, facts, place, known),
+        marks: marks.marks,
+        place: marked,
+    }
+}
+
+/// How the run ends from a place on.
+fn end_from(
+    lexer: &Lexer,
+    labels: &RuleLabels<'_>,
+    facts: &[u32],
+    start: Place<'_>,
+    walks: KnownWalks,
+) -> End
+    requires passed { lexer.now.passed ≡ map is_passed labels.now.actions.now }
+    requires facts { facts.now ≡ facts_by lexer.now.scanner labels.now.facts.items }
+    requires known { AreKnown (ahead_in lexer.now.scanner) true start.rest walks }
+    ensures { EndsFrom (scanner_of lexer.now.scanner) labels.now.actions.now start.entry result }
+{
+    let mut place = start;
+    let mut known = walks;
     loop {
         place = pass_told(lexer, labels, facts, place, &known);
         match lexer.next(&mut place, &mut known, true) {

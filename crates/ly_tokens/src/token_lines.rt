@@ -12,19 +12,22 @@ ghost use Rattle.ly_scan.specs.Facts.{facts_by};
 ghost use Rattle.ly_scan.specs.Lexers.{scanner_of};
 ghost use Rattle.ly_tokens.specs.Printing.{condition_set, end_line, line_if, naming};
 ghost use Rattle.ly_tokens.specs.Private.Labels.{label_at};
+ghost use Rattle.ly_tokens.specs.Private.Marks.{IsMarkedTo};
 ghost use Rattle.ly_tokens.specs.Private.RunEnd.{EndsSo};
 ghost use Rattle.ly_tokens.specs.Private.TokenLines.{bytes_each, is_passed, line_by, name_len, AreCountable, AreLines};
 ghost use Rattle.ly_tokens.specs.Private.TokenLines.{LeadsOn, SoFar};
 
 use crate::labels::RuleLabels;
+use crate::marks::{Walked, write_marked};
 use ly_base::{End, Place, RuleNo};
 use ly_lexread::{LexAction, Returned};
 use ly_print::{Front, Sink, TextWriter, WriteFault};
 use ly_scan::{KnownWalks, Lexer};
 use std::alloc::Global;
 
-/// Writes the lines of the tokens that a lexer finds in a text, with a last one where no rule matches. How the run over
-/// the text ends is known by then. The loop takes those lexemes alone that aren't told by the facts of states.
+/// Writes the lines of the tokens that a lexer finds in a text, with a last one where no rule matches: first those that
+/// were marked while it was found how the run over the text ends. The loop takes those lexemes alone that aren't told
+/// by the facts of states.
 #[inline(always)] // by a call what the loop reads of the lexer is read anew for each lexeme
 pub(crate) fn write_token_lines<W: Sink>(
     alloc: Global,
@@ -32,26 +35,30 @@ pub(crate) fn write_token_lines<W: Sink>(
     text: &[u8],
     labels: &RuleLabels<'_>,
     facts: &[u32],
-    end: End,
+    walked: Walked<'_>,
     empty: TextWriter,
     writer: &mut W,
 ) -> Result<(), WriteFault>
     requires none { empty ≡ record { sent = 0; held = [] } }
     requires passed { lexer.now.passed ≡ map is_passed labels.now.actions.now }
     requires facts { facts.now ≡ facts_by lexer.now.scanner labels.now.facts.items }
-    requires ends { EndsSo (scanner_of lexer.now.scanner) labels.now.actions.now text.now end }
+    requires ends { EndsSo (scanner_of lexer.now.scanner) labels.now.actions.now text.now walked.end }
+    requires marked { IsMarkedTo labels.now.actions.now (scanner_of lexer.now.scanner) labels.now.labels.items text.now
+        walked.place walked.marks.items }
     requires countable { AreCountable labels.now.actions.now (length text.now) }
     ensures told { OnOk result ((lines : List ℕ)
-        × AreLines (scanner_of lexer.now.scanner) labels.now.actions.now (start_of text.now) end lines
+        × AreLines (scanner_of lexer.now.scanner) labels.now.actions.now (start_of text.now) walked.entry.end lines
         × Appends (W.contents writer.old) (W.contents writer.new) lines) }
     ensures cut_short { IfErr result (λ fault. (lines : List ℕ)
-        × AreLines (scanner_of lexer.now.scanner) labels.now.actions.now (start_of text.now) end lines
+        × AreLines (scanner_of lexer.now.scanner) labels.now.actions.now (start_of text.now) walked.entry.end lines
         × IsCutShort (W.contents writer.old) (W.contents writer.new) fault.written lines) }
     ensures no_failure { OnOk result (W.failures writer.new ≡ W.failures writer.old) }
     ensures failed { OnErr result (W.failures writer.new ≡ next_count (W.failures writer.old)) }
 {
+    let Walked { end, marks, place } = walked;
     let mut lines = empty;
-    let mut place = Place::start(text);
+    write_marked(&marks, text, labels, &mut lines, writer)?;
+    let mut place = place;
     let mut known = KnownWalks::new(alloc);
     loop {
         let mut here = write_told(lexer, labels, facts, place, &known, &mut lines, writer)?;
@@ -117,7 +124,7 @@ fn write_told<'t, W: Sink>(
 }
 
 /// The first byte.
-fn first_of(bytes: &[u8]) -> u8
+pub(crate) fn first_of(bytes: &[u8]) -> u8
     requires { 0 < length bytes.now }
     ensures { result ≡ slice_index bytes.now 0 }
 {

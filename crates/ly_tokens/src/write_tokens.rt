@@ -172,8 +172,9 @@ fn write_lines<W: Sink>(
     let labels = RuleLabels::new(alloc, &file.actions)?;
     let facts = lexer.facts(alloc, &labels.facts)?;
     let lines = TextWriter::new(alloc)?;
-    let end = run_end(alloc, lexer, text, &labels, &facts, file.conditions);
-    write_token_lines(alloc, lexer, text, &labels, &facts, end, lines, writer)?;
+    let walked = run_end(alloc, lexer, text, &labels, &facts, file.conditions);
+    let end = walked.end;
+    write_token_lines(alloc, lexer, text, &labels, &facts, walked, lines, writer)?;
     Ok(token_end(end))
 }
 

@@ -111,6 +111,7 @@ impl Forest {
     }
 
     /// Adds a leaf, and answers it. After the fault the forest is as it was.
+    #[inline(always)] // by a call a token takes a sixth more instructions
     pub fn leaf(&mut self, terminal: Sym, text: &Front<'_>) -> Result<TermRef, OutOfMemory>
         ensures stands { IfOk result (λ r. StandsFor self.new r (leaf terminal.0 text.now)) }
         ensures keeps { OnOk result (Keeps self.old self.new) }

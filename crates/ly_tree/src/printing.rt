@@ -11,11 +11,10 @@ use crate::notation::TermNotation;
 use ly_base::{RuleNo, Sym};
 use ly_print::{Front, Sink, TextWriter, WriteFault};
 
-/// A term that is being printed, with a stack in place of recursion.
+/// What is left of a term that is being printed, with a stack in place of recursion. The text stands apart, since that
+/// is handed to others by reference, and then has no registers.
 #[derive(Drop)]
 pub(crate) struct Printing<'f> {
-    /// The text.
-    pub(crate) out: TextWriter,
     /// Of the node that was begun last and isn't ended, the children behind the one that is printed.
     pub(crate) others: &'f [TermRef],
     /// Of each node around that one, the outermost first, the children that aren't begun; before them all, no children.
@@ -28,6 +27,7 @@ impl<'f> Printing<'f> {
     #[inline(always)] // so that the loop over terms has the registers
     pub(crate) fn print<N: TermNotation, S: Sink>(
         &mut self,
+        out: &mut TextWriter,
         writer: &mut S,
         forest: &'f Forest,
         notation: &N,
@@ -35,9 +35,9 @@ impl<'f> Printing<'f> {
     ) -> Result<Option<TermRef>, WriteFault>
         requires stands { IsOpen forest.now self.old.waiting.items self.old.others (Some term)
             (vec_capacity self.old.waiting) }
-        requires countable { bytes_of self.old.out + length (term_text (N.form notation.now) forest.now term
+        requires countable { bytes_of out.old + length (term_text (N.form notation.now) forest.now term
             ++ left_text (N.form notation.now) forest.now self.old.waiting.items self.old.others) < 2 ^ 64 }
-        ensures printed { IsPrinted self.old.out self.new.out (S.contents writer.old) (S.contents writer.new)
+        ensures printed { IsPrinted out.old out.new (S.contents writer.old) (S.contents writer.new)
             (term_text (N.form notation.now) forest.now term
             ++ left_text (N.form notation.now) forest.now self.old.waiting.items self.old.others)
             (λ next. next_text (N.form notation.now) forest.now next
@@ -51,13 +51,13 @@ impl<'f> Printing<'f> {
         ensures no_failure { OnOk result (S.failures writer.new ≡ S.failures writer.old) }
         ensures failed { OnErr result (S.failures writer.new ≡ next_count (S.failures writer.old)) }
     {
-        let Some(children) = begin(&mut self.out, writer, forest, notation, term)? else {
-            return self.go_on(writer, notation);
+        let Some(children) = begin(out, writer, forest, notation, term)? else {
+            return self.go_on(out, writer, notation);
         };
         self.waiting.push_reserved(self.others);
         let Some((first, others)) = children.split_first() else {
             self.others = children;
-            return self.go_on(writer, notation);
+            return self.go_on(out, writer, notation);
         };
         self.others = others;
         Ok(Some(*first))
@@ -67,13 +67,14 @@ impl<'f> Printing<'f> {
     #[inline(always)] // so that the loop over terms has the registers
     fn go_on<N: TermNotation, S: Sink>(
         &mut self,
+        out: &mut TextWriter,
         writer: &mut S,
         notation: &N,
     ) -> Result<Option<TermRef>, WriteFault>
         requires alone { IsAlone self.old.waiting.items self.old.others }
-        requires countable { (f : Grown) × (bytes_of self.old.out
+        requires countable { (f : Grown) × (bytes_of out.old
             + length (left_text (N.form notation.now) f self.old.waiting.items self.old.others) < 2 ^ 64) }
-        ensures printed { (f : Grown) → IsPrinted self.old.out self.new.out (S.contents writer.old)
+        ensures printed { (f : Grown) → IsPrinted out.old out.new (S.contents writer.old)
             (S.contents writer.new) (left_text (N.form notation.now) f self.old.waiting.items self.old.others)
             (λ next. next_text (N.form notation.now) f next
             ++ left_text (N.form notation.now) f self.new.waiting.items self.new.others) result }
@@ -90,14 +91,14 @@ impl<'f> Printing<'f> {
     {
         loop {
             if let Some((next, others)) = self.others.split_first() {
-                self.out.push(writer, b',')?;
+                out.push(writer, b',')?;
                 self.others = others;
                 return Ok(Some(*next));
             }
             let Some(outer) = self.waiting.pop() else {
                 return Ok(None);
             };
-            notation.push_closes(&mut self.out, writer)?;
+            notation.push_closes(out, writer)?;
             self.others = outer;
         }
     }

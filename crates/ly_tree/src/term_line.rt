@@ -28,7 +28,9 @@ pub struct TermLine<'f, N: TermNotation> {
     forest: &'f Forest,
     /// How it is written.
     notation: &'f N,
-    /// What is printed, and room for children that wait.
+    /// The text, of which there is none yet.
+    out: TextWriter,
+    /// What is left of the term, and room for children that wait.
     printing: Printing<'f>,
 }
 
@@ -41,7 +43,7 @@ impl<'f, N: TermNotation> Model for TermLine<'f, N> {
 
     ghost view = { λ l. term_text (N.form l.notation.now) l.forest.now l.root ++ newline ∷ [] };
 
-    ghost invariant = { λ l. (l.printing.out ≡ record { sent = 0; held = [] }) × (l.printing.waiting.items ≡ [])
+    ghost invariant = { λ l. (l.out ≡ record { sent = 0; held = [] }) × (l.printing.waiting.items ≡ [])
         × IsOpen l.forest.now l.printing.waiting.items l.printing.others (Some l.root) (vec_capacity l.printing.waiting)
         × (length (term_text (N.form l.notation.now) l.forest.now l.root ++ newline ∷ []) < 2 ^ 64) };
 }
@@ -67,8 +69,8 @@ impl Forest {
             root,
             forest: self,
             notation,
+            out: TextWriter::new(alloc)?,
             printing: Printing {
-                out: TextWriter::new(alloc)?,
                 others: self.no_children(),
                 waiting: Vec::with_capacity(alloc, self.most_terms())?,
             },
@@ -105,6 +107,7 @@ impl<N: TermNotation> TermLine<'_, N> {
     /// Writes the line.
     ///
     /// It fails where the writer does.
+    #[inline(never)] // so that it has the registers
     pub fn write<S: Sink>(self, writer: &mut S) -> Result<(), WriteFault>
         ensures ok { OnOk result (Appends (S.contents writer.old) (S.contents writer.new) self.entry) }
         ensures cut_short { IfErr result (λ fault.
@@ -116,14 +119,16 @@ impl<N: TermNotation> TermLine<'_, N> {
             root,
             forest,
             notation,
+            out,
             printing,
         } = self;
+        let mut out = out;
         let mut printing = printing;
         let mut next = Some(root);
         while let Some(term) = next {
-            next = printing.print(writer, forest, notation, term)?;
+            next = printing.print(&mut out, writer, forest, notation, term)?;
         }
-        printing.out.push(writer, b'\n')?;
-        printing.out.finish(writer)
+        out.push(writer, b'\n')?;
+        out.finish(writer)
     }
 }

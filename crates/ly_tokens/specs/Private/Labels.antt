@@ -22,6 +22,10 @@ IsLabelOf labels FirstByte number = number ≡ 2
 abbrev pub AreLiteralLabels : List (List ℕ) → Type 0
 AreLiteralLabels labels = (b : ℕ) → b < 256 → slice_get labels b ≡ Some (before_leaf (literal b))
 
+-- the place of the label of a number, of a token that begins with this byte, if it has one
+abbrev pub place_at : ℕ → ℕ → Option ℕ
+place_at number first = if nat_le number 1 then None else Some (if nat_eq number 2 then first else number)
+
 -- the label of a number, of a token that begins with this byte
 abbrev pub label_at : List (List ℕ) → ℕ → ℕ → Option (List ℕ)
 label_at labels number first =

@@ -8,8 +8,8 @@ use Rattle.ly_scan.specs.KnownWalks.{AreKnown}
 use Rattle.ly_scan.specs.StateTable.{ahead_in}
 
 -- decided matches lead from where the run began to where it stands, and what is known of walks is so there
-abbrev pub invariant-loop-lexeme : goal.invariant-loop-lexeme
-invariant-loop-lexeme l = record {
+abbrev pub invariant-loop-known : goal.invariant-loop-known
+invariant-loop-known l = record {
   onward : Onward l.fn.ended (scan_part_of l.fn.set) l.initial.parser.machine (progress_of l.initial.place
       l.initial.parser) (progress_of l.place l.parser);
   machine : l.parser.machine ≡ l.initial.parser.machine;
@@ -17,5 +17,5 @@ invariant-loop-lexeme l = record {
   known : AreKnown (ahead_in l.fn.lexer.scanner) l.fn.ended l.place.rest l.known;
 }
 
-abbrev pub decreases-loop-lexeme : goal.decreases-loop-lexeme
-decreases-loop-lexeme l = length l.place.rest
+abbrev pub decreases-loop-known : goal.decreases-loop-known
+decreases-loop-known l = length l.place.rest

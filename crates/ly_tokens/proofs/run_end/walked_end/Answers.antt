@@ -1,47 +1,71 @@
-use Rattle.std.proofs.Common.{◌++◌, [], ap, arith, length, length-drop, refl, subst, sym, take}
-use Rattle.std.specs.Prelude.{true}
-use Rattle.ly_base.specs.Lexed.{start_of}
+use Rattle.std.proofs.Common.{◌≡◌, ◌∙◌, ap, arith, length, length-drop, refl, subst, sym, take}
+use Rattle.std.specs.Prelude.{option_and_then, option_map, slice_get, true}
+use Rattle.ly_print.specs.Text.{before_leaf}
 use Rattle.ly_scan.proofs.PieceLemmas.{answered, end_at, lexeme_at}
 use Rattle.ly_scan.specs.KnownWalks.{AreKnown}
 use Rattle.ly_scan.specs.Lexers.{scanner_of}
 use Rattle.ly_scan.specs.StateTable.{ahead_in}
 use Rattle.ly_tokens.specs.Printing.{line_if, naming}
-use Rattle.ly_tokens.proofs.PrintingLemmas.{one_more, passes_lines, so_far_on}
-use Rattle.ly_tokens.proofs.RunEndLemmas.{ends_there}
+use Rattle.ly_tokens.specs.Private.Marks.{IsNotedIf, marked_lines}
+use Rattle.ly_tokens.specs.Private.TokenLines.{line_by}
+use Rattle.ly_tokens.proofs.MarkLemmas.{counted_there, left_behind, marked_on, marked_over, marked_to, none_marked}
+use Rattle.ly_tokens.proofs.MarkLemmas.{placed_line, same_marks}
+use Rattle.ly_tokens.proofs.RunEndLemmas.{ends_on, ends_there}
 use Rattle.ly_tokens.proofs.run_end.walked_end.Goals as goal
 
 pub loop-lexeme-init : goal.loop-lexeme-init
-loop-lexeme-init c = record {
-  so_far = ([], ([], c.start-place.ensures, refl));
-  known = c.new-known.ensures (ahead_in c.args.lexer.now.scanner) true c.start-place.result.rest;
-}
+loop-lexeme-init c =
+    let labels = c.args.labels.now in
+    let left = c.new-marks.ensures.left in record {
+      marked = none_marked labels.actions.now (scanner_of c.args.lexer.now.scanner) labels.labels.items c.args.text.now
+          c.start-place.result c.new-marks.result.marks.items c.new-marks.result.left c.start-place.ensures
+          c.new-marks.ensures.none left;
+      behind = omega (arith, ap (λ p. length p.rest) c.start-place.ensures, left);
+      known = c.new-known.ensures (ahead_in c.args.lexer.now.scanner) true c.start-place.result.rest;
+    }
 
 pub next-requires : goal.next-requires
 next-requires c = record {
-  known = c.pass_told-place.ensures.1.known (ahead_in c.args.lexer.now.scanner) c.loop-lexeme.known
+  known = c.mark_told-place.ensures.leads.1.known (ahead_in c.args.lexer.now.scanner) c.loop-lexeme.known
       c.loop-lexeme.invariant.known;
 }
 
 pub loop-lexeme-preserved : goal.loop-lexeme-preserved
 loop-lexeme-preserved c =
-    let actions = c.args.labels.now.actions.now in
+    let labels = c.args.labels.now in
+    let actions = labels.actions.now in
     let s = scanner_of c.args.lexer.now.scanner in
-    let start = start_of c.args.text.now in
-    let before = c.loop-lexeme.invariant.so_far in
-    let on = c.pass_told-place.ensures in
-    let told = before.0 ++ on.0 in
+    let now = c.loop-lexeme in
+    let told = c.mark_told-place in
     let here = c.next.new.place in
+    let next = c.advance.new.self in
     let lexeme = c.in-Ok-Some.lexeme in
     let fast = answered true s here c.in-Ok-Some.field-0 lexeme c.in-Ok-Some.field-0-is c.in-Ok-Some.ensures.found in
     let token = take lexeme.taken here.rest in
-    let line = line_if (naming actions lexeme.rule.0 token) token in record {
-      so_far = (
-        told ++ line,
-        one_more actions s start here c.advance.new.self lexeme c.condition_set.result token told (told ++ line)
-            (lexeme_at s here true lexeme fast) c.condition_set.ensures c.advance.ensures refl refl
-            (passes_lines actions s c.args.lexer.now.passed start c.pass_told-place.result told c.requires.passed
-            (so_far_on actions s start c.loop-lexeme.place c.pass_told-place.result before.0 on.0 before.1 on.1.so_far)
-            c.next.ensures.passed),
+    let old = told.new.marks in
+    let new = c.note_if.new.self in
+    let o = c.place-label.result in
+    let left : length c.rest-rest.result.now ≡ length here.rest = ap length c.rest-rest.ensures in
+    let noted = c.note_if.ensures.noted c.if-not-note_if.false in
+    let by_label : line_by (option_and_then (slice_get labels.labels.items) o) token
+    ≡ line_if (naming actions lexeme.rule.0 token) token
+    = placed_line actions labels.labels.items lexeme.rule.0 o token
+    (subst (λ xs. option_map before_leaf (naming actions lexeme.rule.0 (take lexeme.taken xs))
+    ≡ option_and_then (slice_get labels.labels.items) o) c.rest-rest.ensures c.place-label.ensures) in record {
+      marked = marked_on actions s c.args.lexer.now.passed labels.labels.items c.args.text.now told.result here next
+          old.marks.items new.marks.items old.left new.left lexeme lexeme.taken c.condition_set.result o
+          c.requires.passed (told.ensures.marked c.args.text.now now.invariant.marked) c.next.ensures.passed
+          (omega (arith, told.ensures.behind, c.next.ensures.left)) (lexeme_at s here true lexeme fast) refl
+          fast.within c.condition_set.ensures c.advance.ensures
+          (subst (λ n. IsNotedIf old.marks.items old.left new.marks.items new.left n o lexeme.taken) left noted)
+          by_label;
+      behind = omega (
+        arith,
+        left_behind old.marks.items new.marks.items old.left new.left (length c.rest-rest.result.now) lexeme.taken o
+            (omega (arith, left, told.ensures.behind, c.next.ensures.left)) noted,
+        left,
+        ap (λ p. length p.rest) c.advance.ensures,
+        length-drop lexeme.taken here.rest,
       );
       known = subst (λ x. AreKnown (ahead_in c.args.lexer.now.scanner) true x.rest c.next.new.known)
           (sym c.advance.ensures) (c.next.ensures.known lexeme.taken fast.within);
@@ -57,22 +81,74 @@ loop-lexeme-smaller c =
       arith,
       fast.some,
       fast.within,
-      c.pass_told-place.ensures.1.fewer,
+      c.mark_told-place.ensures.leads.1.fewer,
       c.next.ensures.left,
       ap (λ p. length p.rest) c.advance.ensures,
       length-drop lexeme.taken here.rest,
     )
 
-pub returns-in-Err : goal.returns-in-Err
-returns-in-Err c =
-    let actions = c.args.labels.now.actions.now in
+pub without_marks-requires-clause-countable : goal.without_marks-requires-clause-countable
+without_marks-requires-clause-countable c =
+    let labels = c.args.labels.now in
+    let actions = labels.actions.now in
     let s = scanner_of c.args.lexer.now.scanner in
-    let start = start_of c.args.text.now in
-    let before = c.loop-lexeme.invariant.so_far in
-    let on = c.pass_told-place.ensures in
-    let told = before.0 ++ on.0 in
-    ends_there actions s c.args.text.now told c.next.new.place c.in-Err.end
-    (end_at s c.next.new.place true c.in-Err.end c.in-Err.ensures.end)
-    (passes_lines actions s c.args.lexer.now.passed start c.pass_told-place.result told c.requires.passed
-    (so_far_on actions s start c.loop-lexeme.place c.pass_told-place.result before.0 on.0 before.1 on.1.so_far)
-    c.next.ensures.passed)
+    let told = c.mark_told-place in
+    let there = marked_over actions s c.args.lexer.now.passed labels.labels.items c.args.text.now told.result
+    c.next.new.place told.new.marks.marks.items told.new.marks.left c.requires.passed
+    (told.ensures.marked c.args.text.now c.loop-lexeme.invariant.marked) c.next.ensures.passed in
+    omega (
+      arith,
+      counted_there actions s c.args.text.now c.next.new.place
+          (marked_lines labels.labels.items told.new.marks.marks.items c.args.text.now) there.so_far,
+    )
+
+pub returns-then-not-note_if-clause-ends : goal.returns-then-not-note_if-clause-ends
+returns-then-not-note_if-clause-ends c =
+    let labels = c.args.labels.now in
+    let actions = labels.actions.now in
+    let s = scanner_of c.args.lexer.now.scanner in
+    let told = c.mark_told-place in
+    let there = marked_over actions s c.args.lexer.now.passed labels.labels.items c.args.text.now told.result
+    c.next.new.place told.new.marks.marks.items told.new.marks.left c.requires.passed
+    (told.ensures.marked c.args.text.now c.loop-lexeme.invariant.marked) c.next.ensures.passed in
+    ends_on actions s c.args.text.now
+    (marked_lines labels.labels.items told.new.marks.marks.items c.args.text.now) c.next.new.place
+    c.without_marks.result.end c.without_marks.ensures.end there.so_far
+
+pub returns-then-not-note_if-clause-marked : goal.returns-then-not-note_if-clause-marked
+returns-then-not-note_if-clause-marked c =
+    let labels = c.args.labels.now in
+    let actions = labels.actions.now in
+    let s = scanner_of c.args.lexer.now.scanner in
+    let told = c.mark_told-place in
+    let there = marked_over actions s c.args.lexer.now.passed labels.labels.items c.args.text.now told.result
+    c.next.new.place told.new.marks.marks.items told.new.marks.left c.requires.passed
+    (told.ensures.marked c.args.text.now c.loop-lexeme.invariant.marked) c.next.ensures.passed in
+    marked_to actions s labels.labels.items c.args.text.now c.next.new.place c.without_marks.result.place
+    told.new.marks.marks.items c.without_marks.result.marks.items told.new.marks.left c.without_marks.ensures.place
+    (c.without_marks.ensures.marks ∙ c.note_if.ensures.same c.if-not-note_if.true) there
+
+pub returns-in-Err-clause-ends : goal.returns-in-Err-clause-ends
+returns-in-Err-clause-ends c =
+    let labels = c.args.labels.now in
+    let actions = labels.actions.now in
+    let s = scanner_of c.args.lexer.now.scanner in
+    let told = c.mark_told-place in
+    let there = marked_over actions s c.args.lexer.now.passed labels.labels.items c.args.text.now told.result
+    c.next.new.place told.new.marks.marks.items told.new.marks.left c.requires.passed
+    (told.ensures.marked c.args.text.now c.loop-lexeme.invariant.marked) c.next.ensures.passed in
+    ends_there actions s c.args.text.now
+    (marked_lines labels.labels.items told.new.marks.marks.items c.args.text.now) c.next.new.place c.in-Err.end
+    (end_at s c.next.new.place true c.in-Err.end c.in-Err.ensures.end) there.so_far
+
+pub returns-in-Err-clause-marked : goal.returns-in-Err-clause-marked
+returns-in-Err-clause-marked c =
+    let labels = c.args.labels.now in
+    let actions = labels.actions.now in
+    let s = scanner_of c.args.lexer.now.scanner in
+    let told = c.mark_told-place in
+    marked_to actions s labels.labels.items c.args.text.now c.next.new.place c.next.new.place
+    told.new.marks.marks.items told.new.marks.marks.items told.new.marks.left refl refl
+    (marked_over actions s c.args.lexer.now.passed labels.labels.items c.args.text.now told.result
+    c.next.new.place told.new.marks.marks.items told.new.marks.left c.requires.passed
+    (told.ensures.marked c.args.text.now c.loop-lexeme.invariant.marked) c.next.ensures.passed)

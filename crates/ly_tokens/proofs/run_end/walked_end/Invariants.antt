@@ -1,15 +1,16 @@
-use Rattle.std.proofs.Common.{ℕ, List, length, true}
-use Rattle.ly_base.specs.Lexed.{start_of}
+use Rattle.std.proofs.Common.{◌≤◌, length, true}
 use Rattle.ly_scan.specs.KnownWalks.{AreKnown}
 use Rattle.ly_scan.specs.Lexers.{scanner_of}
 use Rattle.ly_scan.specs.StateTable.{ahead_in}
-use Rattle.ly_tokens.specs.Private.TokenLines.{SoFar}
+use Rattle.ly_tokens.specs.Private.Marks.{AreMarked}
 use Rattle.ly_tokens.proofs.run_end.walked_end.Given as goal
 
--- the lexemes so far lead to where the run stands, and what is known of walks is so there
+-- the lexemes so far lead to where the run stands, their tokens are marked, and what is known of walks is so there
 abbrev pub invariant-loop-lexeme : goal.invariant-loop-lexeme
 invariant-loop-lexeme l = record {
-  so_far : (told : List ℕ) × SoFar l.labels.actions.now (scanner_of l.lexer.scanner) (start_of l.text) l.place told;
+  marked : AreMarked l.labels.actions.now (scanner_of l.lexer.scanner) l.labels.labels.items l.text l.place
+      l.marks.marks.items l.marks.left;
+  behind : length l.place.rest ≤ l.marks.left;
   known : AreKnown (ahead_in l.lexer.scanner) true l.place.rest l.known;
 }
 

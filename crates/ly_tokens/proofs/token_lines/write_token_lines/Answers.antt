@@ -2,7 +2,7 @@ use Rattle.std.proofs.Common.{◌∙◌, ◌*◌, ◌++◌, [], Err, Ok, ap, app
 use Rattle.std.proofs.Common.{sym, take}
 use Rattle.std.specs.Prelude.{true}
 use Rattle.std.proofs.Math.Nat.{mul-le-mul_right}
-use Rattle.ly_print.specs.TextWriter.{IsUnderway, bytes_of}
+use Rattle.ly_print.specs.TextWriter.{IsAppended, bytes_of}
 use Rattle.ly_base.specs.Lexed.{Place, moved, start_of}
 use Rattle.ly_print.proofs.TextWriterLemmas.{appended_twice, cut_from, err_is, underway_from}
 use Rattle.ly_scan.proofs.PieceLemmas.{answered, end_at, lexeme_at}
@@ -10,26 +10,69 @@ use Rattle.ly_scan.specs.KnownWalks.{AreKnown}
 use Rattle.ly_scan.specs.Lexers.{scanner_of}
 use Rattle.ly_scan.specs.StateTable.{ahead_in}
 use Rattle.ly_tokens.specs.Printing.{condition_set, end_line, line_if, naming}
+use Rattle.ly_tokens.specs.Private.Marks.{AreWithin, marked_lines}
 use Rattle.ly_tokens.specs.Private.TokenLines.{bytes_each}
 use Rattle.ly_tokens.proofs.LineLemmas.{line_left}
+use Rattle.ly_tokens.proofs.MarkLemmas.{lines_left}
 use Rattle.ly_tokens.proofs.PrintingLemmas.{all_known, fails_at, on_its_way, one_more, passes_lines, so_far_on}
 use Rattle.ly_tokens.proofs.token_lines.write_token_lines.Goals as goal
 
+pub write_marked-requires : goal.write_marked-requires
+write_marked-requires g c =
+    let labels = c.args.labels.now in
+    let marked = c.requires.marked in
+    let countable = c.requires.countable in
+    let lines = marked_lines labels.labels.items c.args.walked.marks.items c.args.text.now in
+    let is = c.deref.ensures.value in record {
+      within = subst (λ ms. AreWithin ms c.args.text.now) (sym is) marked.within;
+      countable = omega (
+        arith,
+        ap bytes_of c.requires.none,
+        ap (λ ms. length (marked_lines labels.labels.items ms c.args.text.now)) is,
+        lines_left labels.actions.now countable.0 (scanner_of c.args.lexer.now.scanner) (start_of c.args.text.now)
+            c.args.walked.place lines countable.1 marked.so_far,
+        countable.2,
+      );
+    }
+
+pub returns-in_err-write_marked-clause-cut_short : goal.returns-in_err-write_marked-clause-cut_short
+returns-in_err-write_marked-clause-cut_short g c =
+    let labels = c.args.labels.now in
+    let marked = c.requires.marked in
+    let fault = c.in_err-write_marked.field-0.0 in
+    let lines = marked_lines labels.labels.items c.args.walked.marks.items c.args.text.now in
+    err_is c.from_residual.result fault _ c.from_residual.ensures.1 (fails_at labels.actions.now
+    (scanner_of c.args.lexer.now.scanner) c.args.text.now c.args.walked.place lines c.args.walked.end c.args.empty
+    c.write_marked.new.lines _ _ fault c.requires.ends c.requires.none marked.so_far
+    (subst (λ ms. IsAppended c.args.empty c.write_marked.new.lines (g.W.Sink.contents c.args.writer.now)
+    (g.W.Sink.contents c.write_marked.new.writer)
+    (marked_lines labels.labels.items ms c.args.text.now) (Err fault)) c.deref.ensures.value
+    c.in_err-write_marked.ensures.told))
+
 pub loop-known-init : goal.loop-known-init
-loop-known-init g c = record {
-  so_far = (
-    [],
-    ([], c.start-place.ensures, refl),
-    λ before text underway. subst (IsUnderway before _ c.args.empty) (sym (append-nil text)) underway,
-  );
-  counted = λ longest named. omega (
-    arith,
-    ap bytes_of c.requires.none,
-    ap (λ (p : Place). length p.rest * bytes_each longest) c.start-place.ensures,
-  );
-  no_failure = refl;
-  known = c.new-known.ensures (ahead_in c.args.lexer.now.scanner) true c.start-place.result.rest;
-}
+loop-known-init g c =
+    let labels = c.args.labels.now in
+    let marked = c.requires.marked in
+    let is = c.deref.ensures.value in
+    let lines = marked_lines labels.labels.items c.args.walked.marks.items c.args.text.now in record {
+      so_far = (
+        lines,
+        marked.so_far,
+        subst (λ ms. IsAppended c.args.empty c.write_marked.new.lines (g.W.Sink.contents c.args.writer.now)
+            (g.W.Sink.contents c.write_marked.new.writer)
+            (marked_lines labels.labels.items ms c.args.text.now) (Ok tt)) is c.in_ok-write_marked.ensures.told,
+      );
+      counted = λ longest named. omega (
+        arith,
+        ap bytes_of c.requires.none,
+        c.in_ok-write_marked.ensures.counted,
+        ap (λ ms. length (marked_lines labels.labels.items ms c.args.text.now)) is,
+        lines_left labels.actions.now longest (scanner_of c.args.lexer.now.scanner) (start_of c.args.text.now)
+            c.args.walked.place lines named marked.so_far,
+      );
+      no_failure = c.in_ok-write_marked.ensures.no_failure;
+      known = c.new-known.ensures (ahead_in c.args.lexer.now.scanner) true c.args.walked.place.rest;
+    }
 
 pub write_told-requires-clause-countable : goal.write_told-requires-clause-countable
 write_told-requires-clause-countable g c =
@@ -47,8 +90,8 @@ returns-in_err-here-clause-cut_short g c =
     let s = scanner_of c.args.lexer.now.scanner in
     let cut = c.in_err-here.ensures.cut_short in
     let fault = c.in_err-here.field-0.0 in
-    err_is c.from_residual.result fault _ c.from_residual.ensures.1 (fails_at actions s c.args.text.now cut.0
-    (so_far.0 ++ cut.1.0) c.args.end c.args.empty c.write_told.new.lines _ _ fault c.requires.ends c.requires.none
+    err_is c.from_residual-in_err-here.result fault _ c.from_residual-in_err-here.ensures.1 (fails_at actions s c.args.text.now cut.0
+    (so_far.0 ++ cut.1.0) c.args.walked.end c.args.empty c.write_told.new.lines _ _ fault c.requires.ends c.requires.none
     (so_far_on actions s (start_of c.args.text.now) now.place cut.0 so_far.0 cut.1.0 so_far.1 cut.1.1)
     (appended_twice c.args.empty now.lines c.write_told.new.lines _ _ _ so_far.0 cut.1.0 tt (Err fault) so_far.2
     cut.1.2))
@@ -96,7 +139,7 @@ returns-in_err-push_token-in-Ok-Some-clause-cut_short g c =
     let fault = c.in_err-push_token-in-Ok-Some.field-0.0 in
     err_is c.from_residual-in_err-push_token-in-Ok-Some.result fault _
     c.from_residual-in_err-push_token-in-Ok-Some.ensures.1 (fails_at actions s c.args.text.now
-    (moved here lexeme.taken begin) (so_far.0 ++ line) c.args.end c.args.empty c.push_token.new.lines _ _ fault
+    (moved here lexeme.taken begin) (so_far.0 ++ line) c.args.walked.end c.args.empty c.push_token.new.lines _ _ fault
     c.requires.ends c.requires.none
     (one_more actions s (start_of c.args.text.now) here (moved here lexeme.taken begin) lexeme begin token so_far.0
     (so_far.0 ++ line) (lexeme_at s here true lexeme fast) refl refl
@@ -182,15 +225,15 @@ returns-in_err-push_end-in-Err-clause-cut_short g c =
     let s = scanner_of c.args.lexer.now.scanner in
     let led = passes_lines actions s c.args.lexer.now.passed (start_of c.args.text.now) there so_far.0
     c.requires.passed so_far.1 c.next.ensures.passed in
-    let lines = so_far.0 ++ end_line c.args.end in
+    let lines = so_far.0 ++ end_line c.args.walked.end in
     let fault = c.in_err-push_end-in-Err.field-0.0 in
     err_is c.from_residual-in_err-push_end-in-Err.result fault _ c.from_residual-in_err-push_end-in-Err.ensures.1 (
       lines,
-      all_known actions s c.args.text.now here c.in-Err.field-0 c.args.end so_far.0 lines c.requires.ends
+      all_known actions s c.args.text.now here c.in-Err.field-0 c.args.walked.end so_far.0 lines c.requires.ends
           (end_at s here true c.in-Err.field-0 c.in-Err.ensures.end) refl led,
       cut_from c.args.empty c.push_end.new.lines _ _ lines c.requires.none fault
           (appended_twice c.args.empty c.write_told.new.lines c.push_end.new.lines _ _ _ so_far.0
-          (end_line c.args.end) tt (Err fault) so_far.2 c.in_err-push_end-in-Err.ensures.text),
+          (end_line c.args.walked.end) tt (Err fault) so_far.2 c.in_err-push_end-in-Err.ensures.text),
     )
 
 pub finish-requires : goal.finish-requires
@@ -216,15 +259,15 @@ returns-in_err-finish-in-Err-clause-cut_short g c =
     let s = scanner_of c.args.lexer.now.scanner in
     let led = passes_lines actions s c.args.lexer.now.passed (start_of c.args.text.now) there so_far.0
     c.requires.passed so_far.1 c.next.ensures.passed in
-    let lines = so_far.0 ++ end_line c.args.end in
+    let lines = so_far.0 ++ end_line c.args.walked.end in
     let fault = c.in_err-finish-in-Err.field-0.0 in
     err_is c.from_residual-in_err-finish-in-Err.result fault _ c.from_residual-in_err-finish-in-Err.ensures.1 (
       lines,
-      all_known actions s c.args.text.now here c.in-Err.field-0 c.args.end so_far.0 lines c.requires.ends
+      all_known actions s c.args.text.now here c.in-Err.field-0 c.args.walked.end so_far.0 lines c.requires.ends
           (end_at s here true c.in-Err.field-0 c.in-Err.ensures.end) refl led,
       c.in_err-finish-in-Err.ensures.text _ lines (underway_from c.args.empty c.push_end.new.lines _ _ lines
           c.requires.none (appended_twice c.args.empty c.write_told.new.lines c.push_end.new.lines _ _ _ so_far.0
-          (end_line c.args.end) tt (Ok tt) so_far.2 c.in_ok-push_end-in-Err.ensures.text)),
+          (end_line c.args.walked.end) tt (Ok tt) so_far.2 c.in_ok-push_end-in-Err.ensures.text)),
     )
 
 pub returns-in-Err-clause-told : goal.returns-in-Err-clause-told
@@ -238,11 +281,11 @@ returns-in-Err-clause-told g c =
     let s = scanner_of c.args.lexer.now.scanner in
     let led = passes_lines actions s c.args.lexer.now.passed (start_of c.args.text.now) there so_far.0
     c.requires.passed so_far.1 c.next.ensures.passed in
-    let lines = so_far.0 ++ end_line c.args.end in (
+    let lines = so_far.0 ++ end_line c.args.walked.end in (
       lines,
-      all_known actions s c.args.text.now here c.in-Err.field-0 c.args.end so_far.0 lines c.requires.ends
+      all_known actions s c.args.text.now here c.in-Err.field-0 c.args.walked.end so_far.0 lines c.requires.ends
           (end_at s here true c.in-Err.field-0 c.in-Err.ensures.end) refl led,
       c.in_ok-finish-in-Err.ensures.text _ lines (underway_from c.args.empty c.push_end.new.lines _ _ lines
           c.requires.none (appended_twice c.args.empty c.write_told.new.lines c.push_end.new.lines _ _ _ so_far.0
-          (end_line c.args.end) tt (Ok tt) so_far.2 c.in_ok-push_end-in-Err.ensures.text)),
+          (end_line c.args.walked.end) tt (Ok tt) so_far.2 c.in_ok-push_end-in-Err.ensures.text)),
     )

@@ -14,8 +14,8 @@ use Rattle.ly_tokens.proofs.AnswerLemmas.{answer_of, run_leaves_tokens}
 use Rattle.ly_scan.specs.Lexers.{scanner_of}
 use Rattle.ly_tokens.proofs.write_tokens.write_lines.Goals as goal
 
-pub run_end-end-requires : goal.run_end-end-requires
-run_end-end-requires g c =
+pub run_end-walked-requires : goal.run_end-walked-requires
+run_end-walked-requires g c =
     let file = c.args.file.now in
     let actions = file.actions.items in
     let same : actions ≡ c.in_ok-labels.labels.actions.now
@@ -42,9 +42,9 @@ pub token_end-requires : goal.token_end-requires
 token_end-requires g c =
     let file = c.args.file.now in
     let s = scanner_of c.args.lexer.now.scanner in
-    run_leaves_tokens (defined file.names) file.rules.items file.actions.items s c.args.text.now c.run_end-end.result
-    c.requires.agrees (subst (λ a. EndsSo s a c.args.text.now c.run_end-end.result)
-    (c.in_ok-labels.ensures ∙ c.deref-2.ensures.value) c.run_end-end.ensures)
+    run_leaves_tokens (defined file.names) file.rules.items file.actions.items s c.args.text.now c.run_end-walked.result.end
+    c.requires.agrees (subst (λ a. EndsSo s a c.args.text.now c.run_end-walked.result.end)
+    (c.in_ok-labels.ensures ∙ c.deref-2.ensures.value) c.run_end-walked.ensures.ends)
 
 same_fault : {T : Type 0} (r : Result T TokensFault) (x y : TokensFault) → r ≡ Err x → r ≡ Err y → x ≡ y
 same_fault r x y a b = cc
@@ -59,11 +59,11 @@ returns-in_err-write_token_lines-clause-beginning g c = λ written is.
     let gave : Write written ≡ Write cut.written
     = same_fault given.result (Write written) fault.0 is fault.1 ∙ fault.2 in
     let same : written ≡ cut.written = cc in (
-      c.run_end-end.result,
+      c.run_end-walked.result.end,
       (
         short.0,
         answer_of (defined file.names) file.rules.items file.actions.items c.in_ok-labels.labels.actions.now
-            (scanner_of c.args.lexer.now.scanner) c.args.text.now c.run_end-end.result short.0 c.requires.agrees
+            (scanner_of c.args.lexer.now.scanner) c.args.text.now c.run_end-walked.result.end short.0 c.requires.agrees
             (c.in_ok-labels.ensures ∙ c.deref-2.ensures.value) short.1,
         subst (λ k. IsCutShort (g.W.Sink.contents c.args.writer.now)
             (g.W.Sink.contents c.write_token_lines.new.writer) k short.0) (sym same) short.2,
@@ -78,7 +78,7 @@ returns-clause-answered g c =
       subst (λ (e : End). IsAnswer Plain (defined file.names) file.rules.items file.actions.items c.args.text.now e
           told.0)
           (sym c.token_end.ensures) (answer_of (defined file.names) file.rules.items file.actions.items
-          c.in_ok-labels.labels.actions.now (scanner_of c.args.lexer.now.scanner) c.args.text.now c.run_end-end.result
+          c.in_ok-labels.labels.actions.now (scanner_of c.args.lexer.now.scanner) c.args.text.now c.run_end-walked.result.end
           told.0 c.requires.agrees (c.in_ok-labels.ensures ∙ c.deref-2.ensures.value) told.1),
       told.2,
     )

@@ -11,6 +11,7 @@ use Rattle.ly_feed.proofs.feed.Feed.finish_into.Goals as goal
 pub invariant_of-self : goal.invariant_of-self
 invariant_of-self g c = record {
   lexer = c.self.invariant.lexer;
+  facts = c.self.invariant.facts;
   machine = c.run_to_end.ensures.machine ∙ c.self.invariant.machine;
   runs = c.self.invariant.runs;
   parses = λ goes. absurd (let both : true ≡ false = goes in cc);
@@ -46,6 +47,7 @@ returns-clause-ending g c = writing_ends c.write_ended.result c.write_ended.ensu
 pub invariant_of-self-2 : goal.invariant_of-self-2
 invariant_of-self-2 g c = record {
   lexer = c.self.invariant.lexer;
+  facts = c.self.invariant.facts;
   machine = c.run_to_end.ensures.machine ∙ c.self.invariant.machine;
   runs = c.self.invariant.runs;
   parses = λ goes. absurd (let both : true ≡ false = goes in cc);

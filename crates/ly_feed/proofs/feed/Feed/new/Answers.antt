@@ -10,6 +10,7 @@ new-requires c = subst IsSteady (sym c.machine.ensures.machine) c.machine.ensure
 pub invariant_of-result : goal.invariant_of-result
 invariant_of-result c = record {
   lexer = c.in_ok-lexer.ensures;
+  facts = c.in_ok-facts.ensures;
   machine = ap (λ x. x.machine) c.new.ensures ∙ c.machine.ensures.machine;
   runs = can_run c.args.set.now c.machine.ensures.within c.machine.ensures.steady;
   parses = λ goes. ap (λ x. x.over) c.new.ensures;

@@ -106,6 +106,7 @@ invariant_of-self-2 c =
     c.run_on.new.parser c.in_ok-place.field-0 c.in-At.place
     c.self.invariant.machine c.in_ok-place.ensures.runs c.in-At.is in record {
       lexer = c.self.invariant.lexer;
+      facts = c.self.invariant.facts;
       machine = c.run_on.ensures.machine ∙ c.self.invariant.machine;
       runs = c.self.invariant.runs;
       parses = λ goes. run.2;

@@ -15,14 +15,14 @@ returns-in_err-push-clause-printed g c f =
     let s = now.invariant.so_far f in
     let fault = c.in_err-push.field-0.0 in
     let left = term_text v f c.in-Some.next.now ++ left_text v f now.self.waiting.items c.in-Some.others in
-    printed_fails c.args.self.now.out c.push.new.self c.push.new.self _ _ (s.0 ++ codes ",") left _ _
+    printed_fails c.args.out.now c.push.new.self c.push.new.self _ _ (s.0 ++ codes ",") left _ _
     c.from_residual.result fault
     (append_assoc s.0 (codes ",") left
     ∙ (ap (λ t. s.0 ++ t) (sibling_text v f now.self.waiting.items now.self.others c.in-Some.others
     c.in-Some.next.now now.invariant.alone c.in-Some.ensures.cases.0)
     ∙ s.1))
     c.from_residual.ensures.1
-    (appended_twice c.args.self.now.out now.self.out c.push.new.self _ _ _ s.0 (codes ",") tt (Err fault) s.2
+    (appended_twice c.args.out.now now.out c.push.new.self _ _ _ s.0 (codes ",") tt (Err fault) s.2
     c.in_err-push.ensures.text)
 
 pub returns-in-Some-clause-printed : goal.returns-in-Some-clause-printed
@@ -36,7 +36,7 @@ returns-in-Some-clause-printed g c f =
           ∙ (ap (λ t. s.0 ++ t) (sibling_text v f now.self.waiting.items now.self.others c.in-Some.others
           c.in-Some.next.now now.invariant.alone c.in-Some.ensures.cases.0)
           ∙ s.1),
-      appended_twice c.args.self.now.out now.self.out c.push.new.self _ _ _ s.0 (codes ",") tt (Ok tt) s.2
+      appended_twice c.args.out.now now.out c.push.new.self _ _ _ s.0 (codes ",") tt (Ok tt) s.2
           c.in_ok-push.ensures.text,
     )
 
@@ -67,7 +67,7 @@ returns-in_err-push_closes-clause-printed g c f =
     let s = now.invariant.so_far f in
     let fault = c.in_err-push_closes.field-0.0 in
     let left = left_text v f c.pop.new.self.items c.in-Some-pop.outer in
-    printed_fails c.args.self.now.out c.push_closes.new.out c.push_closes.new.out _ _ (s.0 ++ v.closes)
+    printed_fails c.args.out.now c.push_closes.new.out c.push_closes.new.out _ _ (s.0 ++ v.closes)
     left _ _ c.from_residual-in_err-push_closes.result fault
     (append_assoc s.0 v.closes left
     ∙ (ap (λ t. s.0 ++ t) (end_text v f now.self.waiting.items c.pop.new.self.items now.self.others
@@ -75,7 +75,7 @@ returns-in_err-push_closes-clause-printed g c f =
     (nil_from_length now.self.others.now c.in_default.ensures.cases))
     ∙ s.1))
     c.from_residual-in_err-push_closes.ensures.1
-    (appended_twice c.args.self.now.out now.self.out c.push_closes.new.out _ _ _ s.0 v.closes tt (Err fault)
+    (appended_twice c.args.out.now now.out c.push_closes.new.out _ _ _ s.0 v.closes tt (Err fault)
     s.2 c.in_err-push_closes.ensures.text)
 
 pub loop-next-preserved : goal.loop-next-preserved
@@ -93,7 +93,7 @@ loop-next-preserved g c =
                 ∙ (ap (λ t. s.0 ++ t) (end_text v f now.self.waiting.items c.pop.new.self.items now.self.others
                 c.in-Some-pop.outer popped none)
                 ∙ s.1),
-            appended_twice c.args.self.now.out now.self.out c.push_closes.new.out _ _ _ s.0 v.closes tt
+            appended_twice c.args.out.now now.out c.push_closes.new.out _ _ _ s.0 v.closes tt
                 (Ok tt) s.2 c.in_ok-push_closes.ensures.text,
           );
       counted = λ f. omega (

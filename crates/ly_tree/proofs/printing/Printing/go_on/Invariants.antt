@@ -11,9 +11,9 @@ invariant-loop-next g l = let sink = g.S.Sink in let v = g.N.TermNotation.form l
   so_far : (f : Grown) → (told : List ℕ)
       × (told ++ left_text v f l.self.waiting.items l.self.others
       ≡ left_text v f l.fn.self.waiting.items l.fn.self.others)
-      × IsAppended l.fn.self.out l.self.out (sink.contents l.fn.writer) (sink.contents l.writer) told (Ok tt);
-  counted : (f : Grown) → bytes_of l.self.out + length (left_text v f l.self.waiting.items l.self.others)
-      ≡ bytes_of l.fn.self.out + length (left_text v f l.fn.self.waiting.items l.fn.self.others);
+      × IsAppended l.fn.out l.out (sink.contents l.fn.writer) (sink.contents l.writer) told (Ok tt);
+  counted : (f : Grown) → bytes_of l.out + length (left_text v f l.self.waiting.items l.self.others)
+      ≡ bytes_of l.fn.out + length (left_text v f l.fn.self.waiting.items l.fn.self.others);
   fewer : (f : Grown) → terms_left f None l.self.waiting.items l.self.others
       ≤ terms_left f None l.fn.self.waiting.items l.fn.self.others;
   stands : (f : Grown) (room : ℕ) → IsOpen f l.fn.self.waiting.items l.fn.self.others None room

@@ -12,7 +12,7 @@ returns-in_err-children-clause-printed g c =
     let v = g.N.TermNotation.form c.args.notation.now in
     let more = opened_before v c.args.forest.now c.args.term
     (left_text v c.args.forest.now c.args.self.now.waiting.items c.args.self.now.others) in
-    printed_fails c.args.self.now.out c.begin.new.out c.begin.new.out _ _
+    printed_fails c.args.out.now c.begin.new.out c.begin.new.out _ _
     (opening v (term_at c.args.forest.now c.args.term)) more.0 _ _ c.from_residual.result c.in_err-children.field-0.0
     more.1 c.from_residual.ensures.1 c.in_err-children.ensures.text
 
@@ -38,7 +38,7 @@ returns-in_default-clause-printed g c =
     let v = g.N.TermNotation.form c.args.notation.now in
     let f = c.args.forest.now in
     let self = c.args.self.now in
-    printed_on self.out c.begin.new.out c.go_on.new.self.out _ _ _ (opening v (term_at f c.args.term)) _ _ _
+    printed_on c.args.out.now c.begin.new.out c.go_on.new.out _ _ _ (opening v (term_at f c.args.term)) _ _ _
     c.go_on.result
     (whole_text v f self.waiting.items self.others c.args.term
     (subst (HasChildren f c.args.term) c.in_default.is c.in_ok-children.ensures.children))
@@ -76,7 +76,7 @@ returns-in_default-split_first-clause-printed g c =
     let f = c.args.forest.now in
     let self = c.args.self.now in
     let end = c.go_on-in_default-split_first in
-    printed_on self.out c.begin.new.out end.new.self.out _ _ _ (opening v (term_at f c.args.term)) _ _ _ end.result
+    printed_on c.args.out.now c.begin.new.out end.new.out _ _ _ (opening v (term_at f c.args.term)) _ _ _ end.result
     (childless_text v f c.push_reserved.new.self.items self.waiting.items self.others c.in-Some.children c.args.term
     c.push_reserved.ensures.items
     (subst (HasChildren f c.args.term) c.in-Some.is c.in_ok-children.ensures.children)

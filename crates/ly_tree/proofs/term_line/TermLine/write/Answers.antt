@@ -15,7 +15,7 @@ returns-in_err-next-clause-cut_short g c =
     let left = left_text v f now.printing.waiting.items now.printing.others in
     let fault = c.in_err-next.field-0.0 in
     err_is c.from_residual.result fault _ c.from_residual.ensures.1
-    (line_cut c.args.self _ now.printing.out c.print.new.self.out _ _ now.invariant.so_far.0
+    (line_cut c.args.self _ now.out c.print.new.out _ _ now.invariant.so_far.0
     (term_text v f c.in-Some.term ++ left) fault
     (ap (λ n. (now.invariant.so_far.0 ++ (next_text v f n ++ left)) ++ newline ∷ []) (sym c.in-Some.is)
     ∙ now.invariant.so_far.1)
@@ -27,7 +27,7 @@ loop-next-preserved g c =
     let now = c.loop-next in
     let f = c.self.inside.forest.now in
     let left = left_text v f now.printing.waiting.items now.printing.others in record {
-      so_far = line_goes_on c.args.self _ now.printing.out c.print.new.self.out _ _ now.invariant.so_far.0
+      so_far = line_goes_on c.args.self _ now.out c.print.new.out _ _ now.invariant.so_far.0
           (term_text v f c.in-Some.term ++ left)
           (λ n. next_text v f n ++ left_text v f c.print.new.self.waiting.items c.print.new.self.others)
           c.in_ok-next.next
@@ -46,7 +46,7 @@ push-requires g c =
     let f = c.self.inside.forest.now in record {
       countable = omega (
         arith,
-        line_counted c.args.self _ now.printing.out _ now.invariant.so_far.0
+        line_counted c.args.self _ now.out _ now.invariant.so_far.0
             (next_text v f now.next ++ left_text v f now.printing.waiting.items now.printing.others)
             now.invariant.so_far.1 now.invariant.so_far.2,
         c.self.invariant.3,
@@ -63,7 +63,7 @@ returns-in_err-push-clause-cut_short g c =
     now.printing.waiting.items now.printing.others now.next told c.in_default.is
     (now.invariant.ends c.in_default.is) now.invariant.so_far.1 in
     err_is c.from_residual-in_err-push.result c.in_err-push.field-0.0 _ c.from_residual-in_err-push.ensures.1
-    (newline_cut c.args.self _ now.printing.out c.push.new.self _ _ told c.in_err-push.field-0.0 is
+    (newline_cut c.args.self _ now.out c.push.new.self _ _ told c.in_err-push.field-0.0 is
     now.invariant.so_far.2 c.in_err-push.ensures.text)
 
 pub finish-requires : goal.finish-requires
@@ -73,7 +73,7 @@ finish-requires g c =
     let f = c.self.inside.forest.now in record {
       countable = omega (
         arith,
-        line_counted c.args.self _ now.printing.out _ now.invariant.so_far.0
+        line_counted c.args.self _ now.out _ now.invariant.so_far.0
             (next_text v f now.next ++ left_text v f now.printing.waiting.items now.printing.others)
             now.invariant.so_far.1 now.invariant.so_far.2,
         c.in_ok-push.ensures.counted,
@@ -91,7 +91,7 @@ returns-clause-ok g c =
     let is = newline_left c.args.self before v c.self.inside.forest.now now.printing.waiting.items now.printing.others
     now.next told c.in_default.is (now.invariant.ends c.in_default.is) now.invariant.so_far.1 in
     where_ok c.finish.result _ _
-    (c.finish.ensures.text before c.args.self (line_underway c.args.self before now.printing.out c.push.new.self _ _
+    (c.finish.ensures.text before c.args.self (line_underway c.args.self before now.out c.push.new.self _ _
     told is now.invariant.so_far.2 c.in_ok-push.ensures.text))
 
 pub returns-clause-cut_short : goal.returns-clause-cut_short
@@ -103,7 +103,7 @@ returns-clause-cut_short g c =
     let is = newline_left c.args.self before v c.self.inside.forest.now now.printing.waiting.items now.printing.others
     now.next told c.in_default.is (now.invariant.ends c.in_default.is) now.invariant.so_far.1 in
     where_err c.finish.result _ _
-    (c.finish.ensures.text before c.args.self (line_underway c.args.self before now.printing.out c.push.new.self _ _
+    (c.finish.ensures.text before c.args.self (line_underway c.args.self before now.out c.push.new.self _ _
     told is now.invariant.so_far.2 c.in_ok-push.ensures.text))
 
 pub print-requires-clause-countable : goal.print-requires-clause-countable
@@ -114,7 +114,7 @@ print-requires-clause-countable g c =
     let left = left_text v f now.printing.waiting.items now.printing.others in
     omega (
       arith,
-      line_counted c.args.self _ now.printing.out _ now.invariant.so_far.0 (term_text v f c.in-Some.term ++ left)
+      line_counted c.args.self _ now.out _ now.invariant.so_far.0 (term_text v f c.in-Some.term ++ left)
           (ap (λ n. (now.invariant.so_far.0 ++ (next_text v f n ++ left)) ++ newline ∷ []) (sym c.in-Some.is)
           ∙ now.invariant.so_far.1)
           now.invariant.so_far.2,

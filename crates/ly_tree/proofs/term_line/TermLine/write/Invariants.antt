@@ -13,7 +13,7 @@ invariant-loop-next g l =
       so_far : (told : List ℕ)
           × ((told ++ (next_text v l.forest l.next
           ++ left_text v l.forest l.printing.waiting.items l.printing.others)) ++ newline ∷ [] ≡ l.fn.self)
-          × IsAppended (record { sent = 0; held = [] }) l.printing.out (sink.contents l.fn.writer)
+          × IsAppended (record { sent = 0; held = [] }) l.out (sink.contents l.fn.writer)
           (sink.contents l.writer) told (Ok tt);
       stands : IsOpen l.forest l.printing.waiting.items l.printing.others l.next (vec_capacity l.printing.waiting);
       ends : l.next ≡ None → l.printing.waiting.items ≡ [];

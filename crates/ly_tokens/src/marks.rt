@@ -1,0 +1,252 @@
+//! What a walk over a text has found, so that the lines of its tokens are written without another one.
+ghost use Rattle.std.specs.Prelude.{◌≡◌, ◌<◌, ◌≤◌, ◌+◌, ◌-◌, ◌*◌, ◌^◌, [], ◌∷◌, length, drop, take, true, false, OnErr, OnOk};
+ghost use Rattle.std.specs.Prelude.{option_map};
+ghost use Rattle.ly_print.specs.Device.{next_count};
+ghost use Rattle.ly_print.specs.TextWriter.{bytes_of, IsAppended};
+ghost use Rattle.ly_tokens.specs.Private.Marks.{gap_of, is_wide, label_of, marked_lines, taken_of, AreWithin};
+ghost use Rattle.ly_tokens.specs.Private.Marks.{IsNoted, IsNotedIf};
+ghost use Rattle.ly_tokens.specs.Private.TokenLines.{line_by};
+
+use crate::labels::RuleLabels;
+use ly_base::{End, Place};
+use ly_print::{Front, Label, Sink, TextWriter, WriteFault};
+use std::alloc::Global;
+
+/// Added to the place of a mark's label where both of its bytes count the token's, and no gap stands before it.
+const WIDE: u16 = 32_768;
+
+/// The place of no label: the bytes are passed over.
+const NO_LABEL: u16 = 32_767;
+
+/// The tokens that stand in a text behind one another take four bytes each, but for those that are long or stand far
+/// from the one before.
+#[derive(Clone, Copy)]
+pub(crate) struct Mark {
+    /// The place of the token's label among all labels; of a wide mark `WIDE` more.
+    label: u16,
+    /// How many bytes stand before the token; of a wide mark its length by 256.
+    gap: u8,
+    /// How many bytes it has; of a wide mark what is left of its length.
+    taken: u8,
+}
+
+impl Mark {
+    /// Whether both bytes count the token's.
+    fn is_wide(self) -> bool
+        ensures { result ≡ is_wide self }
+    {
+        WIDE <= self.label
+    }
+
+    /// How many bytes stand before the token.
+    fn gap(self) -> usize
+        ensures { result ≡ gap_of self }
+    {
+        if self.is_wide() {
+            0
+        } else {
+            usize::from(self.gap)
+        }
+    }
+
+    /// How many bytes the token has.
+    fn taken(self) -> usize
+        ensures { result ≡ taken_of self }
+    {
+        if self.is_wide() {
+            usize::from(self.gap) * 256 + usize::from(self.taken)
+        } else {
+            usize::from(self.taken)
+        }
+    }
+
+    /// The label of the token, if it has one.
+    #[inline(always)]
+    fn label(self, labels: &[Label]) -> Option<&Label>
+        ensures { option_map (λ l. l.now) result ≡ label_of labels.now self }
+    {
+        let place = if self.is_wide() {
+            self.label - WIDE
+        } else {
+            self.label
+        };
+        if place == NO_LABEL {
+            return None;
+        }
+        labels.get(usize::from(place))
+    }
+}
+
+/// The tokens with lines at the front of a text, while they are found.
+#[derive(Drop)]
+pub(crate) struct Marks {
+    /// Their marks.
+    pub(crate) marks: Vec<Mark>,
+    /// How many bytes of the text are left behind the last of them.
+    pub(crate) left: usize,
+}
+
+impl Marks {
+    /// No marks in a text of so many bytes.
+    pub(crate) fn new(alloc: Global, left: usize) -> Marks
+        ensures none { result.marks.items ≡ [] }
+        ensures left { result.left ≡ left }
+    {
+        Marks {
+            marks: Vec::new(alloc),
+            left,
+        }
+    }
+
+    /// Notes a token of so many bytes, if it has a label, where so many bytes are left, by the label's place. Answers
+    /// false where it has no mark, or there is no room for it.
+    #[inline(always)] // so that the loop that marks has the registers
+    pub(crate) fn note_if(&mut self, left: usize, label: Option<usize>, taken: usize) -> bool
+        requires left { left ≤ self.old.left }
+        requires taken { taken ≤ left }
+        ensures noted { result ≡ true → IsNotedIf self.old.marks.items self.old.left self.new.marks.items self.new.left
+            left label taken }
+        ensures same { result ≡ false → self.new.marks.items ≡ self.old.marks.items }
+        ensures left { result ≡ false → self.new.left ≡ self.old.left }
+    {
+        match label {
+            Some(place) => self.note(left, place, taken),
+            None => true,
+        }
+    }
+
+    /// Notes a token of so many bytes where so many are left.
+    #[inline(always)] // likewise
+    fn note(&mut self, left: usize, place: usize, taken: usize) -> bool
+        requires left { left ≤ self.old.left }
+        requires taken { taken ≤ left }
+        ensures noted { result ≡ true → IsNoted self.old.marks.items self.old.left self.new.marks.items self.new.left
+            left place taken }
+        ensures same { result ≡ false → self.new.marks.items ≡ self.old.marks.items }
+        ensures left { result ≡ false → self.new.left ≡ self.old.left }
+    {
+        let gap = self.left - left;
+        if NO_LABEL as usize <= place || 256 <= gap || 256 <= taken {
+            return self.note_far(left, place, taken);
+        }
+        if self.marks.reserve(1).is_err() {
+            return false;
+        }
+        self.marks.push_reserved(Mark {
+            label: place as u16,
+            gap: gap as u8,
+            taken: taken as u8,
+        });
+        self.left = left - taken;
+        true
+    }
+
+    /// Notes a token that is long or stands far from the one before, by a mark for the gap and one for the token.
+    #[inline(never)] // so that others have the registers
+    fn note_far(&mut self, left: usize, place: usize, taken: usize) -> bool
+        requires left { left ≤ self.old.left }
+        requires taken { taken ≤ left }
+        ensures noted { result ≡ true → IsNoted self.old.marks.items self.old.left self.new.marks.items self.new.left
+            left place taken }
+        ensures same { result ≡ false → self.new.marks.items ≡ self.old.marks.items }
+        ensures left { result ≡ false → self.new.left ≡ self.old.left }
+    {
+        let gap = self.left - left;
+        if NO_LABEL as usize <= place || 65_536 <= gap || 65_536 <= taken {
+            return false;
+        }
+        if self.marks.reserve(2).is_err() {
+            return false;
+        }
+        self.marks.push_reserved(wide(NO_LABEL, gap));
+        self.marks.push_reserved(wide(place as u16, taken));
+        self.left = left - taken;
+        true
+    }
+}
+
+/// The mark of so many bytes with the label at a place.
+fn wide(place: u16, bytes: usize) -> Mark
+    requires place { place ≤ 32767 }
+    requires bytes { bytes < 65536 }
+    ensures label { result.label ≡ 32768 + place }
+    ensures bytes { result.gap * 256 + result.taken ≡ bytes }
+{
+    Mark {
+        label: WIDE + place,
+        gap: (bytes / 256) as u8,
+        taken: (bytes % 256) as u8,
+    }
+}
+
+/// What a walk over a text has found.
+#[derive(Drop)]
+pub(crate) struct Walked<'t> {
+    /// How the run over the text ends.
+    pub(crate) end: End,
+    /// The tokens with lines up to a place.
+    pub(crate) marks: Vec<Mark>,
+    /// The place.
+    pub(crate) place: Place<'t>,
+}
+
+/// Writes the lines of the tokens that are marked at the front of a text.
+#[inline(never)] // so that it has the registers
+pub(crate) fn write_marked<W: Sink>(
+    marks: &[Mark],
+    text: &[u8],
+    labels: &RuleLabels<'_>,
+    lines: &mut TextWriter,
+    writer: &mut W,
+) -> Result<(), WriteFault>
+    requires within { AreWithin marks.now text.now }
+    requires countable { bytes_of lines.old + length (marked_lines labels.now.labels.items marks.now text.now) < 2 ^ 64 }
+    ensures told { IsAppended lines.old lines.new (W.contents writer.old) (W.contents writer.new)
+        (marked_lines labels.now.labels.items marks.now text.now) result }
+    ensures counted { OnOk result (bytes_of lines.new
+        ≡ bytes_of lines.old + length (marked_lines labels.now.labels.items marks.now text.now)) }
+    ensures no_failure { OnOk result (W.failures writer.new ≡ W.failures writer.old) }
+    ensures failed { OnErr result (W.failures writer.new ≡ next_count (W.failures writer.old)) }
+{
+    let mut rest = text;
+    for mark in marks {
+        let there = behind(rest, mark.gap());
+        let taken = mark.taken();
+        push_marked(lines, writer, labels, *mark, Front::new(there, taken))?;
+        rest = behind(there, taken);
+    }
+    Ok(())
+}
+
+/// What stands behind so many bytes.
+#[inline(always)]
+fn behind(bytes: &[u8], count: usize) -> &[u8]
+    requires { count ≤ length bytes.now }
+    ensures { result.now ≡ drop count bytes.now }
+{
+    &bytes[count..]
+}
+
+/// Appends the line of a mark's token, if it has one.
+#[inline(always)] // as `write_marked`
+fn push_marked<W: Sink>(
+    lines: &mut TextWriter,
+    writer: &mut W,
+    labels: &RuleLabels<'_>,
+    mark: Mark,
+    token: Front<'_>,
+) -> Result<(), WriteFault>
+    requires countable { bytes_of lines.old
+        + length (line_by (label_of labels.now.labels.items mark) token) < 2 ^ 64 }
+    ensures text { IsAppended lines.old lines.new (W.contents writer.old) (W.contents writer.new)
+        (line_by (label_of labels.now.labels.items mark) token.entry) result }
+    ensures counted { OnOk result (bytes_of lines.new ≡ bytes_of lines.old
+        + length (line_by (label_of labels.now.labels.items mark) token.entry)) }
+    ensures no_failure { OnOk result (W.failures writer.new ≡ W.failures writer.old) }
+    ensures failed { OnErr result (W.failures writer.new ≡ next_count (W.failures writer.old)) }
+{
+    match mark.label(&labels.labels) {
+        Some(label) => lines.push_quoted_line(writer, label, &token),
+        None => Ok(()),
+    }
+}
