@@ -8,6 +8,9 @@ use Rattle.std.proofs.lemmas.List.Elements.{Contains-push_cases}
 use Rattle.ly_base.specs.declared.numbers.Sym.{Sym}
 use Rattle.ly_pack.specs.Machine.{IsMachine, IsRuleWithin, IsTableRule, Machine, TableAction, TableRule, accept}
 use Rattle.ly_pack.specs.Machine.{action_of, error, goto_at, reduce, shift}
+use Rattle.ly_pack.specs.Values.{action_from}
+use Rattle.ly_pack.specs.declared.action.TableAction as code
+use Rattle.ly_pack.specs.declared.action.TableAction.TheVariants.{Shift, Reduce, Accept, Error}
 use Rattle.ly_pack.specs.Steady.{accepts, here, onward, perform, reads, refuses, run_bound}
 use Rattle.ly_pack.proofs.Runs.{reduces_above}
 use Rattle.ly_pack.proofs.WithinLemmas.{rule_known}
@@ -21,6 +24,9 @@ use Rattle.ly_loop.specs.declared.known.Lookup.{Lookup}
 use Rattle.ly_loop.specs.declared.known.Lookup.TheVariants.{Known, Unknown, Wanted}
 use Rattle.ly_loop.specs.declared.summary.Ending.TheVariants.{Over, Leaves}
 use Rattle.ly_loop.specs.declared.summary.Summary.{Summary}
+use Rattle.ly_loop.specs.declared.tokens.Tokens.{Tokens}
+use Rattle.ly_loop.specs.declared.tokens.Tokens.TheVariants.{One}
+use Rattle.ly_loop.specs.Private.Tokens.{IsOn}
 use Rattle.ly_loop.proofs.SummaryLemmas.{comes_after, comes_over, leaving_on, leaving_pops, over_on, over_so}
 use Rattle.ly_loop.proofs.SummaryLemmas.{popping_on, popping_over}
 
@@ -33,9 +39,9 @@ unreduced_over m t top rest accept is not = (accepts, λ more. ap (perform m ((t
 unreduced_over m t top rest error is not = (refuses, λ more. ap (perform m ((top ∷ rest) ++ more)) is)
 
 -- above a state that doesn't reduce
-unreduced_summary : (m : Machine) (below top : ℕ) (row : List RuleNo) (o : Summary) → AreReductions m top row → row ≡ []
-    → o.most ≡ 0 → o.ending ≡ Over → IsSummary m below top o
-unreduced_summary m below top row o are none most ending = record {
+unreduced_summary : (m : Machine) (k : Tokens) (below top : ℕ) (row : List RuleNo) (o : Summary) → AreReductions m top row → row ≡ []
+    → o.most ≡ 0 → o.ending ≡ Over → IsSummary m k below top o
+unreduced_summary m k below top row o are none most ending = record {
   allowed = record { low = omega (arith, most); left = subst (IsLeft m) (sym ending) tt };
   runs = λ t known. comes_over m t (top ∷ below ∷ []) o
       (unreduced_over m t top (below ∷ []) (action_of m top t) refl (λ p is.
@@ -44,14 +50,14 @@ unreduced_summary m below top row o are none most ending = record {
 }
 
 -- what is looked up is true
-pub kept_is : (m : Machine) (reductions : List (Vec RuleNo)) (summaries : Summaries) (edge : Edge) (found : Lookup)
-    → AreAllReductions m reductions → AreKnown m summaries → IsWithinStates m edge
-    → IsKept reductions summaries edge found → IsLookup m (IsSummary m edge.below.0 edge.top.0) found
-kept_is m reductions summaries edge (Known o) all known within (inl none) =
-    unreduced_summary m edge.below.0 edge.top.0 none.0.items o (all.each edge.top.0 none.0 none.1) none.2 none.3 none.4
-kept_is m reductions summaries edge (Known o) all known within (inr kept) = known edge.below.0 edge.top.0 o kept
-kept_is m reductions summaries edge Unknown all known within kept = tt
-kept_is m reductions summaries edge (Wanted wanted) all known within kept = subst (IsWithinStates m) (sym kept) within
+pub kept_is : (m : Machine) (k : Tokens) (reductions : List (Vec RuleNo)) (summaries : Summaries) (edge : Edge) (found : Lookup)
+    → AreAllReductions m reductions → AreKnown m k summaries → IsWithinStates m edge
+    → IsKept reductions summaries edge found → IsLookup m (IsSummary m k edge.below.0 edge.top.0) found
+kept_is m k reductions summaries edge (Known o) all known within (inl none) =
+    unreduced_summary m k edge.below.0 edge.top.0 none.0.items o (all.each edge.top.0 none.0 none.1) none.2 none.3 none.4
+kept_is m k reductions summaries edge (Known o) all known within (inr kept) = known edge.below.0 edge.top.0 o kept
+kept_is m k reductions summaries edge Unknown all known within kept = tt
+kept_is m k reductions summaries edge (Wanted wanted) all known within kept = subst (IsWithinStates m) (sym kept) within
 
 -- with reductions before
 pub longer_is : (m : Machine) (P Q : Summary → Type 0) (made : ℕ) (found longer : Lookup)
@@ -76,20 +82,20 @@ allowed_longer : (m : Machine) (o p : Summary) → p.most ≤ run_bound → p.en
 allowed_longer m o p low ending is = record { low = low; left = subst (IsLeft m) (sym ending) is.left }
 
 -- one reduction that takes all above a state away
-pub beside_is : (m : Machine) (under left next : ℕ) → Some next ≡ goto_at m under left → (o p : Summary)
-    → p.most ≡ 1 + o.most → p.most ≤ run_bound → p.ending ≡ o.ending → IsSummary m under next o
-    → IsGone m under [] left p
-beside_is m under left next goto o p most low ending is = record {
+pub beside_is : (m : Machine) (k : Tokens) (under left next : ℕ) → Some next ≡ goto_at m under left → (o p : Summary)
+    → p.most ≡ 1 + o.most → p.most ≤ run_bound → p.ending ≡ o.ending → IsSummary m k under next o
+    → IsGone m k under [] left p
+beside_is m k under left next goto o p most low ending is = record {
   allowed = allowed_longer m o p low ending is.allowed;
   runs = λ t stack known pops. comes_after m t stack (next ∷ under ∷ []) 1 1 o p
       (onward (popping_on m t stack under [] left pops next goto) here) (omega arith) most ending (is.runs t known);
 }
 
 -- one reduction of nothing
-pub above_is : (m : Machine) (below top left next : ℕ) (inner : Summary) → Some next ≡ goto_at m top left
-    → IsSummary m top next inner → (o p : Summary) → p.most ≡ 1 + o.most → p.most ≤ run_bound → p.ending ≡ o.ending
-    → IsBehind m below inner o → IsGone m top (below ∷ []) left p
-above_is m below top left next inner goto was o p most low ending is = record {
+pub above_is : (m : Machine) (k : Tokens) (below top left next : ℕ) (inner : Summary) → Some next ≡ goto_at m top left
+    → IsSummary m k top next inner → (o p : Summary) → p.most ≡ 1 + o.most → p.most ≤ run_bound → p.ending ≡ o.ending
+    → IsBehind m k below inner o → IsGone m k top (below ∷ []) left p
+above_is m k below top left next inner goto was o p most low ending is = record {
   allowed = allowed_longer m o p low ending is.allowed;
   runs = λ t stack known pops. comes_after m t stack (next ∷ top ∷ below ∷ []) 1 1 o p
       (onward (popping_on m t stack top (below ∷ []) left pops next goto) here) (omega arith) most ending
@@ -97,16 +103,16 @@ above_is m below top left next inner goto was o p most low ending is = record {
 }
 
 -- above one more state, where the reduction takes away what lies above that
-pub behind_none : (m : Machine) (below left : ℕ) (inner : Summary) (rest : ℕ) (side : Sym)
+pub behind_none : (m : Machine) (k : Tokens) (below left : ℕ) (inner : Summary) (rest : ℕ) (side : Sym)
     → inner.ending ≡ Leaves rest side → rest ≡ 0 → side.0 ≡ left → (o p : Summary) → p.most ≡ inner.most + o.most
     → p.most ≤ run_bound
-    → p.ending ≡ o.ending → IsGone m below [] left o → IsBehind m below inner p
-behind_none m below left inner rest side is_so none same o p most low ending is = record {
+    → p.ending ≡ o.ending → IsGone m k below [] left o → IsBehind m k below inner p
+behind_none m k below left inner rest side is_so none same o p most low ending is = record {
   allowed = allowed_longer m o p low ending is.allowed;
   runs = λ t stack known c. onto t stack known c (subst (EndsSo m t c.last) is_so c.ending);
 }
   where
-    onto : (t : ℕ) (stack : List ℕ) → t < m.terminals → (c : ComesTo m t stack inner)
+    onto : (t : ℕ) (stack : List ℕ) → IsOn m k t → (c : ComesTo m t stack inner)
         → EndsSo m t c.last (Leaves rest side) → ComesTo m t (stack ++ below ∷ []) p
     onto t stack known c (inl over) = record {
       count = c.count;
@@ -123,10 +129,10 @@ behind_none m below left inner rest side is_so none same o p most low ending is 
         (is.runs t (c.last ++ below ∷ []) known (leaving_pops m t c.last below left leaves'))
 
 -- where it takes away others as well
-pub behind_more : (m : Machine) (below : ℕ) (inner : Summary) (rest more : ℕ) (side : Sym)
+pub behind_more : (m : Machine) (k : Tokens) (below : ℕ) (inner : Summary) (rest more : ℕ) (side : Sym)
     → inner.ending ≡ Leaves rest side → rest ≡ more + 1 → IsAllowed m inner
-    → IsBehind m below inner (record { most = inner.most; ending = Leaves more side })
-behind_more m below inner rest more side is_so one allowed = record {
+    → IsBehind m k below inner (record { most = inner.most; ending = Leaves more side })
+behind_more m k below inner rest more side is_so one allowed = record {
   allowed = record { low = allowed.low; left = subst (IsLeft m) is_so allowed.left };
   runs = λ t stack known c. record {
     count = c.count;
@@ -143,9 +149,9 @@ behind_more m below inner rest more side is_so one allowed = record {
     onto t last (inr leaves) = inr (leaving_on m t last below rest more side.0 (omega (arith, one)) leaves)
 
 -- where a goto is missing
-pub missing_is : (m : Machine) (under : ℕ) (below : List ℕ) (left : ℕ) → None ≡ goto_at m under left
-    → IsGone m under below left (record { most = 0; ending = Over })
-missing_is m under below left none = record {
+pub missing_is : (m : Machine) (k : Tokens) (under : ℕ) (below : List ℕ) (left : ℕ) → None ≡ goto_at m under left
+    → IsGone m k under below left (record { most = 0; ending = Over })
+missing_is m k under below left none = record {
   allowed = record { low = omega arith; left = tt };
   runs = λ t stack known pops. comes_over m t stack (record { most = 0; ending = Over })
       (popping_over m t stack under below left pops none);
@@ -156,10 +162,10 @@ rule_left : (m : Machine) (p : ℕ) (r : TableRule) → IsMachine m → IsTableR
 rule_left m p r ok is = (All-at (IsRuleWithin m.nonterminals) m.rules is.0 r ok.rules is.2).left
 
 -- a reduction of two symbols or more takes the state below away
-pub leaves_by : (m : Machine) (below top p : ℕ) (r : TableRule) (rest : ℕ) (side : Sym) → IsMachine m
+pub leaves_by : (m : Machine) (k : Tokens) (below top p : ℕ) (r : TableRule) (rest : ℕ) (side : Sym) → IsMachine m
     → IsTableRule m p r → r.left ≡ side.0 → r.body_length ≡ 2 + rest
-    → IsSummaryBy m below top p (record { most = 0; ending = Leaves rest side })
-leaves_by m below top p r rest side ok is left size = record {
+    → IsSummaryBy m k below top p (record { most = 0; ending = Leaves rest side })
+leaves_by m k below top p r rest side ok is left size = record {
   allowed = record {
     low = omega arith;
     left = subst (λ n. n < m.nonterminals) left (rule_left m p r ok is);
@@ -181,10 +187,10 @@ leaves_by m below top p r rest side ok is left size = record {
 }
 
 -- one rule more
-pub more_is : (m : Machine) (below top : ℕ) (rules : List RuleNo) (r : RuleNo) (all one joined : Summary)
-    → IsSummaryByAll m below top rules all → IsSummaryBy m below top r.0 one → IsJoined m all one joined
-    → IsSummaryByAll m below top (rules ++ r ∷ []) joined
-more_is m below top rules r all one joined was is both = record {
+pub more_is : (m : Machine) (k : Tokens) (below top : ℕ) (rules : List RuleNo) (r : RuleNo) (all one joined : Summary)
+    → IsSummaryByAll m k below top rules all → IsSummaryBy m k below top r.0 one → IsJoined m all one joined
+    → IsSummaryByAll m k below top (rules ++ r ∷ []) joined
+more_is m k below top rules r all one joined was is both = record {
   allowed = both.allowed was.allowed is.allowed;
   runs = λ t q known has by. elim (Contains-push_cases rules r q has) [
     | inl old ↦ both.first t (top ∷ below ∷ []) (was.runs t q known old by)
@@ -193,14 +199,14 @@ more_is m below top rules r all one joined was is both = record {
 }
 
 -- all the rules by which a state reduces
-pub all_is : (m : Machine) (below top : ℕ) (rules : List RuleNo) (o : Summary) → AreReductions m top rules
-    → IsSummaryByAll m below top rules o → IsSummary m below top o
-all_is m below top rules o are is = record {
+pub all_is : (m : Machine) (k : Tokens) (below top : ℕ) (rules : List RuleNo) (o : Summary) → AreReductions m top rules
+    → IsSummaryByAll m k below top rules o → IsSummary m k below top o
+all_is m k below top rules o are is = record {
   allowed = is.allowed;
   runs = λ t known. by_action t known (action_of m top t) refl;
 }
   where
-    by_action : (t : ℕ) → t < m.terminals → (a : TableAction) → action_of m top t ≡ a
+    by_action : (t : ℕ) → IsOn m k t → (a : TableAction) → action_of m top t ≡ a
         → ComesTo m t (top ∷ below ∷ []) o
     by_action t known (shift s) a =
         comes_over m t (top ∷ below ∷ []) o (unreduced_over m t top (below ∷ []) (shift s) a (λ p e. absurd (cc)))
@@ -211,6 +217,31 @@ all_is m below top rules o are is = record {
         comes_over m t (top ∷ below ∷ []) o (unreduced_over m t top (below ∷ []) accept a (λ p e. absurd (cc)))
     by_action t known error a =
         comes_over m t (top ∷ below ∷ []) o (unreduced_over m t top (below ∷ []) error a (λ p e. absurd (cc)))
+
+-- what isn't a reduction
+pub unreduced : (a : code.TableAction) → ((r : RuleNo) → a ≡ Reduce r → ⊥) → (p : ℕ) → action_from a ≡ reduce p → ⊥
+unreduced (Shift s) not p e = cc
+unreduced (Reduce r) not p e = not r refl
+unreduced Accept not p e = cc
+unreduced Error not p e = cc
+
+-- one terminal, on which the state on top reduces
+pub one_is : (m : Machine) (token : Sym) (below top p : ℕ) (o : Summary) → action_of m top token.0 ≡ reduce p
+    → IsSummaryBy m (One token) below top p o → IsSummary m (One token) below top o
+one_is m token below top p o by is = record {
+  allowed = is.allowed;
+  runs = λ t on. is.runs t on (ap (action_of m top) on ∙ by);
+}
+
+-- and one on which it doesn't
+pub one_over : (m : Machine) (token : Sym) (below top : ℕ) (a : TableAction) (o : Summary) → o.most ≡ 0
+    → o.ending ≡ Over → action_of m top token.0 ≡ a → ((p : ℕ) → a ≡ reduce p → ⊥)
+    → IsSummary m (One token) below top o
+one_over m token below top a o most ending is not = record {
+  allowed = record { low = omega (arith, most); left = subst (IsLeft m) (sym ending) tt };
+  runs = λ t on. comes_over m t (top ∷ below ∷ []) o
+      (unreduced_over m t top (below ∷ []) a (ap (action_of m top) on ∙ is) not);
+}
 
 -- what indexing gives past the end
 abbrev pub no_rule : RuleNo

@@ -14,7 +14,9 @@ use Rattle.ly_loop.specs.Private.Known.{AreKnown, ArePending, IsLookup, IsSummar
 use Rattle.ly_loop.specs.Private.Known.{Summaries, edge_cmp, kept_at}
 use Rattle.ly_loop.specs.declared.known.Pending.{Pending}
 use Rattle.ly_loop.specs.Private.Summary.{IsSummary}
-use Rattle.ly_loop.specs.Private.Path.{AllEnd}
+use Rattle.ly_loop.specs.Endless.{EdgeEnds}
+use Rattle.ly_loop.specs.Private.Tokens.{IsOn}
+use Rattle.ly_loop.specs.declared.tokens.Tokens.{Tokens}
 use Rattle.ly_loop.specs.declared.known.Edge.{Edge}
 use Rattle.ly_loop.specs.declared.known.Lookup.{Lookup}
 use Rattle.ly_loop.specs.declared.known.Lookup.TheVariants.{Known, Unknown, Wanted}
@@ -31,19 +33,19 @@ same_edge : (x y : ℕ × ℕ) → is_eq (edge_cmp x y) ≡ true → x ≡ y
 same_edge x y is = exact_pairs nat_cmp nat_cmp exact_unsigned exact_unsigned x y (equal_from (edge_cmp x y) is)
 
 -- an edge of which something is kept that is true
-pub put_is : (m : Machine) (old new : Summaries) (below top : ℕ) (w : Option Summary)
+pub put_is : (m : Machine) (k : Tokens) (old new : Summaries) (below top : ℕ) (w : Option Summary)
     → ((q : ℕ × ℕ) → kept_at new q ≡ cond (is_at (edge_cmp (below, top)) q) (Some w) (kept_at old q))
-    → IfSome w (IsSummary m below top) → AreKnown m old → AreKnown m new
-put_is m old new below top w put is known b t o kept =
+    → IfSome w (IsSummary m k below top) → AreKnown m k old → AreKnown m k new
+put_is m k old new below top w put is known b t o kept =
     by_test (is_at (edge_cmp (below, top)) (b, t)) refl (sym (put (b, t)) ∙ kept)
   where
     by_test : (r : Bool) → is_at (edge_cmp (below, top)) (b, t) ≡ r
-        → cond r (Some w) (kept_at old (b, t)) ≡ Some (Some o) → IsSummary m b t o
+        → cond r (Some w) (kept_at old (b, t)) ≡ Some (Some o) → IsSummary m k b t o
     by_test true at same =
         let pair = same_edge (below, top) (b, t) at in
         let that : w ≡ Some o = cc in
-        let so : IsSummary m below top o = subst (λ x. IfSome x (IsSummary m below top)) that is in
-        subst (λ (x : ℕ × ℕ). IsSummary m x.0 x.1 o) pair so
+        let so : IsSummary m k below top o = subst (λ x. IfSome x (IsSummary m k below top)) that is in
+        subst (λ (x : ℕ × ℕ). IsSummary m k x.0 x.1 o) pair so
     by_test false at same = known b t o same
 
 -- the first edge that is sought
@@ -67,11 +69,11 @@ pending_two m old popped pushed last p passed wanted all e0 e1 e2 within =
     (All-push P popped (record { edge = p.edge; passed = passed }) rest here) in
     subst (ArePending m) (sym e2) (All-push P pushed (record { edge = wanted; passed = 0 }) again within)
 
--- where a summary can be said, all runs end
-pub some_ends : (m : Machine) (below top : ℕ) (found : Option Summary) → IfSome found (IsSummary m below top)
-    → is_some found ≡ true → AllEnd m below top
-some_ends m below top None is some = absurd (cc)
-some_ends m below top (Some o) is some = summary_ends m below top o is
+-- where a summary can be said, the runs end
+pub some_ends : (m : Machine) (k : Tokens) (below top : ℕ) (found : Option Summary)
+    → IfSome found (IsSummary m k below top) → is_some found ≡ true → (t : ℕ) → IsOn m k t → EdgeEnds m below top t
+some_ends m k below top None is some = absurd (cc)
+some_ends m k below top (Some o) is some = summary_ends m k below top o is
 
 -- a summary that is known is true
 pub summary_is : (m : Machine) (P : Summary → Type 0) (found : Lookup) (o : Option Summary) → IsLookup m P found

@@ -2,7 +2,6 @@ pub mod ByRuleLemmas
 pub mod EdgeLemmas
 pub mod EntryLemmas
 pub mod KnownLemmas
-pub mod PathLemmas
 pub mod ReductionLemmas
 pub mod RunLemmas
 pub mod SummaryLemmas

@@ -11,7 +11,8 @@ use Rattle.ly_base.specs.declared.numbers.StateNo.{StateNo}
 use Rattle.ly_base.specs.declared.numbers.RuleNo.{RuleNo}
 use Rattle.ly_pack.specs.Machine.{IsTableRule, Machine, TableAction, TableRule}
 use Rattle.ly_pack.specs.Machine.{action_of, goto_at, reduce, states_of}
-use Rattle.ly_pack.specs.Steady.{EndsWithin, ReducesTo, RunEnd, accepts, action_on, ends, go_to, move, perform, push}
+use Rattle.ly_pack.specs.Steady.{EndsWithin, ReducesTo, RunEnd, accepts, action_on, ends, go_to, here, move, onward}
+use Rattle.ly_pack.specs.Steady.{perform, push}
 use Rattle.ly_pack.specs.Steady.{reads, reduce_by, refuses}
 use Rattle.ly_pack.specs.Values.{action_from}
 use Rattle.ly_pack.specs.declared.action.TableAction as code
@@ -121,3 +122,11 @@ pub edge_states : (m : Machine) (below top : StateNo) → below.0 < states_of m 
 edge_states m below top b t zero d lt = b
 edge_states m below top b t (suc zero) d lt = t
 edge_states m below top b t (suc (suc k)) d lt = absurd (omega arith)
+
+-- runs one behind the other
+pub reduces_on : {m : Machine} {t n k : ℕ} {start stack last : List ℕ} → ReducesTo m t start n stack
+    → ReducesTo m t stack k last → ReducesTo m t start (n + k) last
+reduces_on {m} {t} {k = k} {start = start} {last = last} here r =
+    subst (λ i. ReducesTo m t start i last) (omega arith) r
+reduces_on {m} {t} {k = k} {start = start} {last = last} (onward {n = n} step l) r =
+    subst (λ i. ReducesTo m t start i last) (omega arith) (onward step (reduces_on l r))

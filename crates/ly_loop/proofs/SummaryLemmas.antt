@@ -10,12 +10,13 @@ use Rattle.ly_pack.specs.Steady.{leaves_bottom, move, perform, push, reduce_by, 
 use Rattle.ly_pack.proofs.Runs.{makes, reduces_above}
 use Rattle.ly_loop.specs.Private.Summary.{ComesTo, EndsSo, IsAllowed, IsLeaving, IsLeft, IsSummary, IsOver, IsPopping}
 use Rattle.ly_loop.specs.Private.Summary.{IsWider}
-use Rattle.ly_loop.specs.Private.Path.{AllEnd}
+use Rattle.ly_loop.specs.Endless.{EdgeEnds}
+use Rattle.ly_loop.specs.Private.Tokens.{IsOn}
+use Rattle.ly_loop.specs.declared.tokens.Tokens.{Tokens}
 use Rattle.ly_loop.specs.declared.summary.Ending.{Ending}
 use Rattle.ly_loop.specs.declared.summary.Ending.TheVariants.{Over, Leaves, Mixed}
 use Rattle.ly_loop.specs.declared.summary.Summary.{Summary}
-use Rattle.ly_loop.proofs.PathLemmas.{reduces_on}
-use Rattle.ly_loop.proofs.RunLemmas.{ended}
+use Rattle.ly_loop.proofs.RunLemmas.{ended, reduces_on}
 
 -- what ends whatever lies below, ends in each way
 pub over_so : (m : Machine) (t : ℕ) (last : List ℕ) (e : Ending) → IsOver m t last → EndsSo m t last e
@@ -53,8 +54,9 @@ comes_wider m t stack o p more wider c = record {
   ending = wider m t c.last c.ending;
 }
 
-pub summary_ends : (m : Machine) (below top : ℕ) (o : Summary) → IsSummary m below top o → AllEnd m below top
-summary_ends m below top o is t known =
+pub summary_ends : (m : Machine) (k : Tokens) (below top : ℕ) (o : Summary) → IsSummary m k below top o
+    → (t : ℕ) → IsOn m k t → EdgeEnds m below top t
+summary_ends m k below top o is t known =
     let c = is.runs t known in
     ended m t (top ∷ below ∷ []) c.last c.count run_bound c.leads (omega (arith, c.within, is.allowed.low))
     (so_ends m t c.last o.ending c.ending)

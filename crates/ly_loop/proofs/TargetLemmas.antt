@@ -1,10 +1,11 @@
 -- The targets of a state, as they are listed.
 use Rattle.std.proofs.Common.{◌≡◌, ◌∙◌, inl, inr, ℕ, List, [], ◌∷◌, ◌++◌, Contains, Option, None, Some}
-use Rattle.std.proofs.Common.{◌<◌, ap, arith, get_or, length, refl, slice_get, subst, sym}
+use Rattle.std.proofs.Common.{◌<◌, ap, arith, eqb-true, true, get_or, length, refl, slice_get, subst, sym}
 use Rattle.std.specs.Global.{Vec}
 use Rattle.std.proofs.lemmas.Option.{slice_get_read}
 use Rattle.std.proofs.lemmas.List.Elements.{Contains-append_left, Contains-push, Contains-push_cases}
 use Rattle.ly_base.proofs.MemberLemmas.{Contains-none}
+use Rattle.ly_base.specs.contracts.numbers.StateNoPartialEq.TheImpl as partial
 use Rattle.ly_base.specs.declared.numbers.StateNo.{StateNo}
 use Rattle.ly_pack.specs.Machine.{Machine, TableAction, action_of, entry_at, or_default, shift, states_of}
 use Rattle.ly_pack.specs.Steady.{IsTableEdge, by_goto, by_shift}
@@ -75,6 +76,20 @@ module _ (entries : List (Cell code.TableAction)) (gotos : List (Cell StateNo)) 
           (Contains-push targets e.entry)
     ];
   }
+
+-- the same targets in another list
+pub targets_same : (entries : List (Cell code.TableAction)) (gotos : List (Cell StateNo)) (old new : List StateNo)
+    → ((s : StateNo) → Contains new s → Contains old s) → ((s : StateNo) → Contains old s → Contains new s)
+    → AreTargetsOf entries gotos old → AreTargetsOf entries gotos new
+targets_same entries gotos old new from onto was = record {
+  sound = λ s has. was.sound s (from s has);
+  shifts = λ e s has is. onto s (was.shifts e s has is);
+  others = λ e has. onto e.entry (was.others e has);
+}
+
+-- states that pass the test are one
+pub state_eq : (x y : StateNo) → partial.ghosts.eq x y ≡ true → x ≡ y
+state_eq x y e = ap (λ n. record { 0 = n }) (eqb-true x.0 y.0 e)
 
 -- what is listed first shifts to its target
 pub shift_edge : (m : Machine) (below : ℕ) (entries : List (Cell code.TableAction))

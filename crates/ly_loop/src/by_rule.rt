@@ -5,11 +5,13 @@ ghost use Rattle.ly_pack.specs.Steady.{run_bound};
 ghost use Rattle.ly_loop.specs.Private.Known.{AreKnown, IsKept, IsLonger, IsLookup, IsLow, IsWithinStates};
 ghost use Rattle.ly_loop.specs.Private.Summary.{IsAllowed, IsBehind, IsGone, IsSummary, IsSummaryBy};
 ghost use Rattle.ly_loop.specs.Private.Reductions.{AreReductions};
+ghost use Rattle.ly_loop.specs.Private.Tokens.{AreThere};
 
 use crate::known::{Edge, Lookup};
 use crate::listed::Listed;
 use crate::run::RUN_BOUND;
 use crate::summary::{Ending, Summary};
+use crate::tokens::Tokens;
 use ly_base::{RuleNo, StateNo, Sym};
 use ly_pack::{Rows, TableAction};
 use std::collections::BTreeMap;
@@ -24,16 +26,41 @@ const ENDED: Summary = Summary {
 };
 
 impl<A: Rows<TableAction> + Drop, G: Rows<StateNo> + Drop> Listed<'_, A, G> {
+    /// What the runs of an edge come to, on all terminals or on one.
+    pub(crate) fn runs_of(&self, tokens: Tokens, edge: Edge, summaries: &Summaries) -> Lookup
+        requires tokens { AreThere self.now tokens }
+        requires edge { IsWithinStates self.now edge }
+        requires known { AreKnown self.now tokens summaries.now }
+        ensures { IsLookup self.now (IsSummary self.now tokens edge.below.0 edge.top.0) result }
+    {
+        match tokens {
+            Tokens::All => {
+                let rules = &self.reductions[edge.top.0 as usize];
+                self.all_by_rules(tokens, rules, edge, summaries)
+            }
+            Tokens::One(token) => match self.machine.action(edge.top, token) {
+                TableAction::Reduce(rule) => self.by_rule(tokens, rule, edge, summaries),
+                _ => Lookup::Known(ENDED),
+            },
+        }
+    }
+
     /// What the runs of an edge come to whose state on top reduces by these rules.
-    pub(crate) fn all_by_rules(&self, rules: &[RuleNo], edge: Edge, summaries: &Summaries) -> Lookup
+    fn all_by_rules(
+        &self,
+        tokens: Tokens,
+        rules: &[RuleNo],
+        edge: Edge,
+        summaries: &Summaries,
+    ) -> Lookup
         requires edge { IsWithinStates self.now edge }
         requires rules { AreReductions self.now edge.top.0 rules.now }
-        requires known { AreKnown self.now summaries.now }
-        ensures { IsLookup self.now (IsSummary self.now edge.below.0 edge.top.0) result }
+        requires known { AreKnown self.now tokens summaries.now }
+        ensures { IsLookup self.now (IsSummary self.now tokens edge.below.0 edge.top.0) result }
     {
         let mut all = ENDED;
         for rule in rules {
-            match self.by_rule(*rule, edge, summaries) {
+            match self.by_rule(tokens, *rule, edge, summaries) {
                 Lookup::Known(summary) => all = all.joined(summary),
                 other => return other,
             }
@@ -42,18 +69,24 @@ impl<A: Rows<TableAction> + Drop, G: Rows<StateNo> + Drop> Listed<'_, A, G> {
     }
 
     /// What the runs of an edge come to that begin with a reduction by a rule.
-    pub(crate) fn by_rule(&self, rule: RuleNo, edge: Edge, summaries: &Summaries) -> Lookup
+    pub(crate) fn by_rule(
+        &self,
+        tokens: Tokens,
+        rule: RuleNo,
+        edge: Edge,
+        summaries: &Summaries,
+    ) -> Lookup
         requires rule { IsRuleNumber self.now rule.0 }
         requires edge { IsWithinStates self.now edge }
-        requires known { AreKnown self.now summaries.now }
-        ensures { IsLookup self.now (IsSummaryBy self.now edge.below.0 edge.top.0 rule.0) result }
+        requires known { AreKnown self.now tokens summaries.now }
+        ensures { IsLookup self.now (IsSummaryBy self.now tokens edge.below.0 edge.top.0 rule.0) result }
     {
         let rule = self.machine.rule(rule);
         if rule.body_length == 0 {
-            return self.above(edge, rule.left, summaries);
+            return self.above(tokens, edge, rule.left, summaries);
         }
         if rule.body_length == 1 {
-            return self.beside(edge.below, rule.left, summaries);
+            return self.beside(tokens, edge.below, rule.left, summaries);
         }
         Lookup::Known(Summary {
             most: 0,
@@ -65,11 +98,11 @@ impl<A: Rows<TableAction> + Drop, G: Rows<StateNo> + Drop> Listed<'_, A, G> {
     }
 
     /// What the runs of an edge come to that begin with a reduction of nothing: they go on above both its states.
-    fn above(&self, edge: Edge, left: Sym, summaries: &Summaries) -> Lookup
+    fn above(&self, tokens: Tokens, edge: Edge, left: Sym, summaries: &Summaries) -> Lookup
         requires edge { IsWithinStates self.now edge }
         requires left { left.0 < self.now.nonterminals }
-        requires known { AreKnown self.now summaries.now }
-        ensures { IsLookup self.now (IsGone self.now edge.top.0 (edge.below.0 ∷ []) left.0) result }
+        requires known { AreKnown self.now tokens summaries.now }
+        ensures { IsLookup self.now (IsGone self.now tokens edge.top.0 (edge.below.0 ∷ []) left.0) result }
     {
         let Some(next) = self.machine.goto(edge.top, left) else {
             return Lookup::Known(ENDED);
@@ -79,24 +112,30 @@ impl<A: Rows<TableAction> + Drop, G: Rows<StateNo> + Drop> Listed<'_, A, G> {
             top: next,
         };
         let found = match look_up(self.reductions, summaries, upper) {
-            Lookup::Known(inner) => self.above_one_more(edge.below, inner, summaries),
+            Lookup::Known(inner) => self.above_one_more(tokens, edge.below, inner, summaries),
             found => found,
         };
         longer(1, found)
     }
 
     /// What runs come to above one more state, by what they come to without it.
-    fn above_one_more(&self, below: StateNo, inner: Summary, summaries: &Summaries) -> Lookup
+    fn above_one_more(
+        &self,
+        tokens: Tokens,
+        below: StateNo,
+        inner: Summary,
+        summaries: &Summaries,
+    ) -> Lookup
         requires below { below.0 < states_of self.now }
         requires inner { IsAllowed self.now inner }
-        requires known { AreKnown self.now summaries.now }
-        ensures { IsLookup self.now (IsBehind self.now below.0 inner) result }
+        requires known { AreKnown self.now tokens summaries.now }
+        ensures { IsLookup self.now (IsBehind self.now tokens below.0 inner) result }
     {
         match inner.ending {
             Ending::Over => Lookup::Known(inner),
             Ending::Leaves { rest, left } => {
                 if rest == 0 {
-                    longer(inner.most, self.beside(below, left, summaries))
+                    longer(inner.most, self.beside(tokens, below, left, summaries))
                 } else {
                     Lookup::Known(Summary {
                         most: inner.most,
@@ -112,11 +151,11 @@ impl<A: Rows<TableAction> + Drop, G: Rows<StateNo> + Drop> Listed<'_, A, G> {
     }
 
     /// What runs come to from a reduction on that takes all above a state away and has this left side.
-    fn beside(&self, below: StateNo, left: Sym, summaries: &Summaries) -> Lookup
+    fn beside(&self, tokens: Tokens, below: StateNo, left: Sym, summaries: &Summaries) -> Lookup
         requires below { below.0 < states_of self.now }
         requires left { left.0 < self.now.nonterminals }
-        requires known { AreKnown self.now summaries.now }
-        ensures { IsLookup self.now (IsGone self.now below.0 [] left.0) result }
+        requires known { AreKnown self.now tokens summaries.now }
+        ensures { IsLookup self.now (IsGone self.now tokens below.0 [] left.0) result }
     {
         match self.machine.goto(below, left) {
             Some(top) => longer(1, look_up(self.reductions, summaries, Edge { below, top })),

@@ -1,16 +1,15 @@
-ghost use Rattle.std.specs.Prelude.{◌≡◌, ◌<◌, IfErr, IfOk, IsTrue, OnOk};
+ghost use Rattle.std.specs.Prelude.{◌≡◌, IfErr, IfOk, IsTrue, OnOk};
 ghost use Rattle.ly_pack.specs.Machine.{states_of};
 ghost use Rattle.ly_pack.specs.Steady.{IsSteady};
 ghost use Rattle.ly_loop.specs.Endless.{AreTablesRefused};
-ghost use Rattle.ly_loop.specs.Private.Edges.{IsFirstFrom, IsWork};
+ghost use Rattle.ly_loop.specs.Private.Edges.{AreDoubtful};
 ghost use Rattle.ly_loop.specs.Private.Run.{IsCountable};
 
-use crate::edges::{Passing, Work, targets};
+use crate::edges::targets;
 use crate::entries::{all_entries, all_gotos};
 use crate::fault::LoopFault;
-use crate::known::Known;
+use crate::known::{Edge, Known};
 use crate::listed::Listed;
-use crate::path::Path;
 use crate::reductions::all_reductions;
 use ly_base::{OutOfMemory, StateNo};
 use ly_pack::{MachineView, Rows, TableAction};
@@ -41,45 +40,38 @@ pub fn steady<A: Rows<TableAction> + Drop, G: Rows<StateNo> + Drop>(
 }
 
 impl<A: Rows<TableAction> + Drop, G: Rows<StateNo> + Drop> Listed<'_, A, G> {
-    /// Whether all states are steady.
+    /// Whether all states are steady. Runs are followed on each terminal alone only above edges of which nothing can be
+    /// said of all terminals together.
     fn all_steady(&self, alloc: Global) -> Result<(), LoopFault>
         ensures ok { OnOk result (IsSteady self.now) }
         ensures fault { IfErr result (AreTablesRefused self.now) }
     {
-        let mut work = Work {
-            known: Known::new(alloc),
-            path: Path::new(alloc, self.machine.terminals())?,
-        };
-        let mut tops = Vec::new(alloc);
-        for number in 0..self.machine.states() {
-            let below = StateNo(number as u32);
-            if let Some(passing) = self.first_from(below, &mut tops, &mut work)? {
-                return Err(LoopFault::Endless {
-                    below,
-                    top: passing.top,
-                    token: passing.token,
-                });
-            }
+        // the type's invariant says that edges lead to states
+        let _machine = self.machine;
+        let doubtful = self.doubtful_edges(alloc)?;
+        match self.first_passing(alloc, &doubtful)? {
+            Some(passing) => Err(LoopFault::Endless {
+                below: passing.edge.below,
+                top: passing.edge.top,
+                token: passing.token,
+            }),
+            None => Ok(()),
         }
-        Ok(())
     }
 
-    /// The first run above a state that makes too many reductions: by the least state on top, and then by the least
-    /// terminal. The states on top are listed in passing.
-    fn first_from(
-        &self,
-        below: StateNo,
-        tops: &mut Vec<StateNo>,
-        work: &mut Work,
-    ) -> Result<Option<Passing>, OutOfMemory>
-        requires below { below.0 < states_of self.now }
-        requires work { IsWork self.now work.old }
-        ensures work { OnOk result (IsWork self.now work.new) }
-        ensures first { IfOk result (IsFirstFrom self.now below.0) }
+    /// The edges of whose runs nothing can be said on all terminals together.
+    fn doubtful_edges(&self, alloc: Global) -> Result<Vec<Edge>, OutOfMemory>
+        ensures { IfOk result (λ edges. AreDoubtful self.now (states_of self.now) edges.items) }
     {
-        let number = below.0 as usize;
-        targets(&self.entries[number], &self.gotos[number], tops)?;
-        self.first_above(below, tops, work)
+        let mut known = Known::new(alloc);
+        let mut tops = Vec::new(alloc);
+        let mut doubtful = Vec::new(alloc);
+        for number in 0..self.machine.states() {
+            let below = StateNo(number as u32);
+            targets(&self.entries[number], &self.gotos[number], &mut tops)?;
+            self.push_doubtful(below, &tops, &mut known, &mut doubtful)?;
+        }
+        Ok(doubtful)
     }
 }
 

@@ -1,35 +1,30 @@
-ghost use Rattle.std.specs.Prelude.{◌<◌, ◌≡◌, [], ◌∷◌, length, IfOk, OnOk};
+ghost use Rattle.std.specs.Prelude.{◌<◌, [], ◌∷◌, suc, IfOk, OnOk};
 ghost use Rattle.ly_pack.specs.Machine.{states_of};
 ghost use Rattle.ly_pack.specs.Steady.{run_bound};
-ghost use Rattle.ly_loop.specs.Private.Edges.{AreTargets, AreTargetsOf, IsFirstAbove, IsFirstToken, IsLower, IsWork};
+ghost use Rattle.ly_loop.specs.Private.Edges.{AreMoreDoubtful, AreTargets, AreTargetsOf, AreWithinStates, IsAbove};
+ghost use Rattle.ly_loop.specs.Private.Edges.{IsBefore, IsFirstOf};
+ghost use Rattle.ly_loop.specs.Private.Known.{AreKnown, IsWithinStates};
 ghost use Rattle.ly_loop.specs.Private.Run.{EndsAs, IsCountable};
+ghost use Rattle.ly_loop.specs.declared.tokens.Tokens.TheVariants.{All, One};
 
 use crate::known::{Edge, Known};
 use crate::listed::Listed;
-use crate::path::{Path, all_end};
 use crate::run::{RUN_BOUND, ends_within};
+use crate::tokens::Tokens;
 use ly_base::{OutOfMemory, StateNo, Sym};
 use ly_pack::{Cell, MachineView, Rows, TableAction};
+use std::alloc::Global;
 
-/// A run that makes too many reductions, above a state that is known.
+/// A run that makes too many reductions.
 #[derive(Clone, Copy)]
 pub(crate) struct Passing {
-    /// The state on top of its edge.
-    pub(crate) top: StateNo,
+    /// Its edge.
+    pub(crate) edge: Edge,
     /// Its terminal.
     pub(crate) token: Sym,
 }
 
-/// What is known of edges, and room for the path of one.
-#[derive(Drop)]
-pub(crate) struct Work {
-    /// What is known of edges.
-    pub(crate) known: Known,
-    /// Room for the path of an edge.
-    pub(crate) path: Path,
-}
-
-/// Lists the states to which a state leads, by its entries and gotos. A default shifts nothing.
+/// Lists the states to which a state leads, by its entries and gotos, each once. A default shifts nothing.
 pub(crate) fn targets(
     entries: &[Cell<TableAction>],
     gotos: &[Cell<StateNo>],
@@ -46,76 +41,124 @@ pub(crate) fn targets(
     for led in gotos {
         targets.push(led.entry)?;
     }
+    targets.sort_unstable();
+    targets.dedup();
     Ok(())
 }
 
 impl<A: Rows<TableAction> + Drop, G: Rows<StateNo> + Drop> Listed<'_, A, G> {
-    /// The first run above a state that makes too many reductions: by the least target, and then by the least terminal.
-    pub(crate) fn first_above(
+    /// Adds the edges above a state of whose runs nothing can be said on all terminals together.
+    pub(crate) fn push_doubtful(
         &self,
         below: StateNo,
         targets: &[StateNo],
-        work: &mut Work,
-    ) -> Result<Option<Passing>, OutOfMemory>
+        known: &mut Known,
+        doubtful: &mut Vec<Edge>,
+    ) -> Result<(), OutOfMemory>
         requires below { below.0 < states_of self.now }
         requires targets { AreTargets self.now below.0 targets.now }
-        requires work { IsWork self.now work.old }
-        ensures work { OnOk result (IsWork self.now work.new) }
-        ensures first { IfOk result (IsFirstAbove self.now below.0 targets.now) }
+        requires known { AreKnown self.now All known.old.summaries }
+        ensures known { OnOk result (AreKnown self.now All known.new.summaries) }
+        ensures doubtful { OnOk result
+            (AreMoreDoubtful self.now below targets.now doubtful.old.items doubtful.new.items) }
     {
         // the type's invariant says that the targets are states
         let _machine = self.machine;
-        let mut first: Option<Passing> = None;
         for top in targets {
-            if is_lower(*top, first) {
-                if let Some(token) = self.first_token(below, *top, work)? {
-                    first = Some(Passing { top: *top, token });
+            let edge = Edge { below, top: *top };
+            let found = self.summary_of(Tokens::All, edge, known)?;
+            match found {
+                Some(_) => {}
+                None => doubtful.push(edge)?,
+            }
+        }
+        Ok(())
+    }
+
+    /// The first of these edges, and the first terminal on it, whose run makes too many reductions.
+    pub(crate) fn first_passing(
+        &self,
+        alloc: Global,
+        edges: &[Edge],
+    ) -> Result<Option<Passing>, OutOfMemory>
+        requires { AreWithinStates self.now edges.now }
+        ensures { IfOk result (IsFirstOf self.now (IsAbove edges.now self.now.terminals)) }
+    {
+        let mut first = None;
+        if edges.is_empty() {
+            return Ok(first);
+        }
+        for number in 0..self.machine.terminals() {
+            first = self.first_on(alloc, Sym(number as u32), edges, first)?;
+        }
+        Ok(first)
+    }
+
+    /// The first run that makes too many reductions, by the first one on lower terminals: what is known of runs on this
+    /// terminal is kept from edge to edge.
+    fn first_on(
+        &self,
+        alloc: Global,
+        token: Sym,
+        edges: &[Edge],
+        lower: Option<Passing>,
+    ) -> Result<Option<Passing>, OutOfMemory>
+        requires token { token.0 < self.now.terminals }
+        requires edges { AreWithinStates self.now edges.now }
+        requires lower { IsFirstOf self.now (IsAbove edges.now token.0) lower }
+        ensures { IfOk result (IsFirstOf self.now (IsAbove edges.now (suc token.0))) }
+    {
+        let mut known = Known::new(alloc);
+        let mut stack = Vec::new(alloc);
+        let mut first = lower;
+        for edge in edges {
+            let passing = Passing { edge: *edge, token };
+            if comes_before(passing, first) {
+                if !self.ends_on(passing, &mut known, &mut stack)? {
+                    first = Some(passing);
                 }
             }
         }
         Ok(first)
     }
 
-    /// The first terminal on which the run of an edge makes too many reductions, if there is one.
-    fn first_token(
+    /// Whether the run of an edge on a terminal makes at most as many reductions as are allowed. It is followed where
+    /// what is known doesn't say so.
+    fn ends_on(
         &self,
-        below: StateNo,
-        top: StateNo,
-        work: &mut Work,
-    ) -> Result<Option<Sym>, OutOfMemory>
-        requires below { below.0 < states_of self.now }
-        requires top { top.0 < states_of self.now }
-        requires work { IsWork self.now work.old }
-        ensures work { OnOk result (IsWork self.now work.new) }
-        ensures first { IfOk result (IsFirstToken self.now below.0 top.0) }
+        run: Passing,
+        known: &mut Known,
+        stack: &mut Vec<StateNo>,
+    ) -> Result<bool, OutOfMemory>
+        requires token { run.token.0 < self.now.terminals }
+        requires edge { IsWithinStates self.now run.edge }
+        requires known { AreKnown self.now (One run.token) known.old.summaries }
+        ensures known { OnOk result (AreKnown self.now (One run.token) known.new.summaries) }
+        ensures ends { IfOk result (EndsAs self.now run.token.0 (run.edge.top.0 ∷ run.edge.below.0 ∷ []) run_bound) }
     {
-        if self
-            .summary_of(Edge { below, top }, &mut work.known)?
-            .is_some()
-        {
-            return Ok(None);
+        let summary = self.summary_of(Tokens::One(run.token), run.edge, known)?;
+        if summary.is_some() {
+            return Ok(true);
         }
-        if all_end(self.machine, self.entries, below, top, &mut work.path)? {
-            return Ok(None);
-        }
-        for number in 0..self.machine.terminals() {
-            let token = Sym(number as u32);
-            if !edge_ends(self.machine, below, top, token, &mut work.path.alone)? {
-                return Ok(Some(token));
-            }
-        }
-        Ok(None)
+        edge_ends(self.machine, run.edge.below, run.edge.top, run.token, stack)
     }
 }
 
-/// Whether a target comes before that of a run that was found, if there is one.
-fn is_lower(top: StateNo, found: Option<Passing>) -> bool
-    ensures { IsLower top.0 found result }
+/// Whether a run comes before another one, if there is one: by the state below, the state on top, and the terminal.
+fn comes_before(run: Passing, other: Option<Passing>) -> bool
+    ensures { IsBefore run other result }
 {
-    match found {
-        Some(passing) => top.0 < passing.top.0,
-        None => true,
+    let Some(other) = other else {
+        return true;
+    };
+    let (edge, later) = (run.edge, other.edge);
+    if edge.below.0 != later.below.0 {
+        return edge.below.0 < later.below.0;
     }
+    if edge.top.0 != later.top.0 {
+        return edge.top.0 < later.top.0;
+    }
+    run.token.0 < other.token.0
 }
 
 /// Whether the run of an edge on a terminal makes at most as many reductions as are allowed.

@@ -4,10 +4,12 @@ ghost use Rattle.std.specs.BTreeMap.{IsEmpty};
 ghost use Rattle.ly_loop.specs.Private.Known.{AreKnown, ArePending, IsNoMore, IsSummaryOf, IsWithinStates};
 ghost use Rattle.ly_loop.specs.Private.Summary.{IsSummary};
 ghost use Rattle.ly_loop.specs.Private.Reductions.{AreReductions};
+ghost use Rattle.ly_loop.specs.Private.Tokens.{AreThere};
 
 use crate::by_rule::look_up;
 use crate::listed::Listed;
 use crate::summary::Summary;
+use crate::tokens::Tokens;
 use ly_base::{OutOfMemory, RuleNo, StateNo};
 use ly_pack::{Rows, TableAction};
 use std::alloc::Global;
@@ -54,7 +56,7 @@ pub(crate) struct Pending {
     pub(crate) passed: usize,
 }
 
-/// What is known of edges.
+/// What is known of edges, on all terminals or on one.
 #[derive(Drop)]
 pub(crate) struct Known {
     /// What the runs of an edge come to, by the numbers of its states. Nothing where it is sought, or can't be said.
@@ -76,39 +78,41 @@ impl Known {
 }
 
 impl<A: Rows<TableAction> + Drop, G: Rows<StateNo> + Drop> Listed<'_, A, G> {
-    /// What the runs of an edge come to, if it can be said. The edges that this takes are worked out before.
+    /// What the runs of an edge come to, on all terminals or on one, if it can be said. The edges that this takes are
+    /// worked out before.
     pub(crate) fn summary_of(
         &self,
+        tokens: Tokens,
         edge: Edge,
         known: &mut Known,
     ) -> Result<Option<Summary>, OutOfMemory>
+        requires tokens { AreThere self.now tokens }
         requires edge { IsWithinStates self.now edge }
-        requires known { AreKnown self.now known.old.summaries }
-        ensures known { OnOk result (AreKnown self.now known.new.summaries) }
-        ensures summary { IfOk result (λ found. IfSome found (IsSummary self.now edge.below.0 edge.top.0)) }
+        requires known { AreKnown self.now tokens known.old.summaries }
+        ensures known { OnOk result (AreKnown self.now tokens known.new.summaries) }
+        ensures summary { IfOk result (λ found. IfSome found (IsSummary self.now tokens edge.below.0 edge.top.0)) }
     {
-        let rules = &self.reductions[edge.top.0 as usize];
-        let found = self.all_by_rules(rules, edge, &known.summaries);
-        match found {
+        match self.runs_of(tokens, edge, &known.summaries) {
             Lookup::Known(summary) => Ok(Some(summary)),
             Lookup::Unknown => Ok(None),
             Lookup::Wanted(_) => {
-                self.seek(edge, known)?;
+                self.seek(tokens, edge, known)?;
                 Ok(look_up(self.reductions, &known.summaries, edge).summary())
             }
         }
     }
 
     /// Works out an edge, and before it those that this takes.
-    fn seek(&self, edge: Edge, known: &mut Known) -> Result<(), OutOfMemory>
+    fn seek(&self, tokens: Tokens, edge: Edge, known: &mut Known) -> Result<(), OutOfMemory>
+        requires tokens { AreThere self.now tokens }
         requires edge { IsWithinStates self.now edge }
-        requires known { AreKnown self.now known.old.summaries }
-        ensures { OnOk result (AreKnown self.now known.new.summaries) }
+        requires known { AreKnown self.now tokens known.old.summaries }
+        ensures { OnOk result (AreKnown self.now tokens known.new.summaries) }
     {
         known.agenda.clear();
         begin(edge, known)?;
         for _turn in 0..u64::MAX {
-            if !self.work(known)? {
+            if !self.work(tokens, known)? {
                 break;
             }
         }
@@ -116,22 +120,22 @@ impl<A: Rows<TableAction> + Drop, G: Rows<StateNo> + Drop> Listed<'_, A, G> {
     }
 
     /// Works out the last edge on the agenda, or puts one on it that has to be known first. False where none is left.
-    fn work(&self, known: &mut Known) -> Result<bool, OutOfMemory>
-        requires known { AreKnown self.now known.old.summaries }
+    fn work(&self, tokens: Tokens, known: &mut Known) -> Result<bool, OutOfMemory>
+        requires tokens { AreThere self.now tokens }
+        requires known { AreKnown self.now tokens known.old.summaries }
         requires agenda { ArePending self.now known.old.agenda.items }
-        ensures known { OnOk result (AreKnown self.now known.new.summaries) }
+        ensures known { OnOk result (AreKnown self.now tokens known.new.summaries) }
         ensures agenda { OnOk result (ArePending self.now known.new.agenda.items) }
     {
         let Some(pending) = known.agenda.pop() else {
             return Ok(false);
         };
         let edge = pending.edge;
-        let rules = &self.reductions[edge.top.0 as usize];
-        if let Some((passed, wanted)) = self.first_wanted(rules, pending, &known.summaries) {
+        if let Some((passed, wanted)) = self.wanted_for(tokens, pending, &known.summaries) {
             known.agenda.push(Pending { edge, passed })?;
             begin(wanted, known)?;
         } else {
-            let found = self.all_by_rules(rules, edge, &known.summaries);
+            let found = self.runs_of(tokens, edge, &known.summaries);
             known
                 .summaries
                 .insert((edge.below.0, edge.top.0), found.summary())?;
@@ -139,21 +143,51 @@ impl<A: Rows<TableAction> + Drop, G: Rows<StateNo> + Drop> Listed<'_, A, G> {
         Ok(true)
     }
 
+    /// The edge that has to be known before one that is sought, if there is one, and how many rules want none.
+    fn wanted_for(
+        &self,
+        tokens: Tokens,
+        pending: Pending,
+        summaries: &BTreeMap<(u32, u32), Option<Summary>>,
+    ) -> Option<(usize, Edge)>
+        requires tokens { AreThere self.now tokens }
+        requires edge { IsWithinStates self.now pending.edge }
+        requires known { AreKnown self.now tokens summaries.now }
+        ensures { IfSome result (λ found. IsWithinStates self.now found.1) }
+    {
+        match tokens {
+            Tokens::All => {
+                let rules = &self.reductions[pending.edge.top.0 as usize];
+                self.first_wanted(tokens, rules, pending, summaries)
+            }
+            Tokens::One(_) => match self.runs_of(tokens, pending.edge, summaries) {
+                Lookup::Wanted(edge) => Some((0, edge)),
+                _ => None,
+            },
+        }
+    }
+
     /// The first rule, behind those that are passed, by which the runs of an edge come to one that has to be known
     /// first.
     fn first_wanted(
         &self,
+        tokens: Tokens,
         rules: &[RuleNo],
         pending: Pending,
         summaries: &BTreeMap<(u32, u32), Option<Summary>>,
     ) -> Option<(usize, Edge)>
         requires rules { AreReductions self.now pending.edge.top.0 rules.now }
         requires edge { IsWithinStates self.now pending.edge }
-        requires known { AreKnown self.now summaries.now }
+        requires known { AreKnown self.now tokens summaries.now }
         ensures { IfSome result (λ found. IsWithinStates self.now found.1) }
     {
         for place in pending.passed..rules.len() {
-            if let Lookup::Wanted(edge) = self.by_rule(rules[place], pending.edge, summaries) {
+            if let Lookup::Wanted(edge) = self.by_rule(
+                tokens,
+                rules[place],
+                pending.edge,
+                summaries,
+            ) {
                 return Some((place, edge));
             }
         }

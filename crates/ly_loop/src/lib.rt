@@ -9,9 +9,9 @@
 //! kept for each edge that such a rule leads to (summaries of procedures: Sharir and Pnueli 1981).
 //!
 //! A summary says nothing where runs go on in more than one way behind the same edge, or might make too many
-//! reductions. Such an edge is checked along its path, the reductions that the states on top make by default: a
-//! terminal leaves the path where it has an entry of its own, and is followed alone from there. Only where a path or a
-//! run passes the bound are the terminals run one by one, from the edge on.
+//! reductions. The runs of such an edge are followed on each terminal alone, in the same way: then a summary says what
+//! is left of one run, and is kept for the terminal, so that no run is followed twice from one edge on. Only a run that
+//! makes too many reductions is followed step by step, to be sure of it.
 //!
 //! Left out: runs that pass the bound and would still end. They are refused as well.
 #![tactic(auto)]
@@ -23,10 +23,10 @@ mod entries;
 mod fault;
 mod known;
 mod listed;
-mod path;
 mod reductions;
 mod run;
 mod summary;
+mod tokens;
 
 pub use check::steady;
 pub use fault::LoopFault;

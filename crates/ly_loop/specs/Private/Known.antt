@@ -15,6 +15,7 @@ use Rattle.ly_loop.specs.declared.known.Lookup.TheVariants.{Known, Unknown, Want
 use Rattle.ly_loop.specs.declared.known.Pending.{Pending}
 use Rattle.ly_loop.specs.declared.summary.Ending.TheVariants.{Over}
 use Rattle.ly_loop.specs.declared.summary.Summary.{Summary}
+use Rattle.ly_loop.specs.declared.tokens.Tokens.{Tokens}
 
 -- summaries, by the states of their edges
 abbrev pub Summaries : Type 0
@@ -28,14 +29,14 @@ edge_cmp x y = ordering_then (nat_cmp x.0 y.0) (nat_cmp x.1 y.1)
 abbrev pub kept_at : Summaries → ℕ × ℕ → Option (Option Summary)
 kept_at summaries edge = tree.get edge_cmp summaries edge
 
--- the summaries that are kept are true
-abbrev pub AreKnown : Machine → Summaries → Type 0
-AreKnown m summaries = (below top : ℕ) (o : Summary) → kept_at summaries (below, top) ≡ Some (Some o)
-    → IsSummary m below top o
+-- the summaries that are kept are true, on these terminals
+abbrev pub AreKnown : Machine → Tokens → Summaries → Type 0
+AreKnown m k summaries = (below top : ℕ) (o : Summary) → kept_at summaries (below, top) ≡ Some (Some o)
+    → IsSummary m k below top o
 
 -- summaries that were true are so with those that are kept now
 abbrev pub IsNoMore : Summaries → Summaries → Type 0
-IsNoMore old new = (m : Machine) → AreKnown m old → AreKnown m new
+IsNoMore old new = (m : Machine) (k : Tokens) → AreKnown m k old → AreKnown m k new
 
 -- the states of an edge are there
 abbrev pub IsWithinStates : Machine → Edge → Type 0

@@ -6,6 +6,8 @@ use Rattle.ly_pack.specs.Steady.{ReducesTo, RunEnd, action_on, ends, move, rule_
 use Rattle.ly_loop.specs.declared.summary.Ending.{Ending}
 use Rattle.ly_loop.specs.declared.summary.Ending.TheVariants.{Over, Leaves, Mixed}
 use Rattle.ly_loop.specs.declared.summary.Summary.{Summary}
+use Rattle.ly_loop.specs.declared.tokens.Tokens.{Tokens}
+use Rattle.ly_loop.specs.Private.Tokens.{IsOn}
 
 -- the run ends on this stack, whatever lies below it
 abbrev pub IsOver : Machine → ℕ → List ℕ → Type 0
@@ -53,31 +55,31 @@ pub record IsAllowed (m : Machine) (o : Summary) : Type 0 where
   pub low : o.most ≤ run_bound
   pub left : IsLeft m o.ending
 
--- The runs of an edge come to this, on all terminals.
-pub record IsSummary (m : Machine) (below top : ℕ) (o : Summary) : Type 0 where
+-- The runs of an edge come to this, on these terminals.
+pub record IsSummary (m : Machine) (k : Tokens) (below top : ℕ) (o : Summary) : Type 0 where
   pub allowed : IsAllowed m o
-  pub runs : (t : ℕ) → t < m.terminals → ComesTo m t (top ∷ below ∷ []) o
+  pub runs : (t : ℕ) → IsOn m k t → ComesTo m t (top ∷ below ∷ []) o
 
 -- The runs of an edge that begin with a reduction by a rule come to this.
-pub record IsSummaryBy (m : Machine) (below top rule : ℕ) (o : Summary) : Type 0 where
+pub record IsSummaryBy (m : Machine) (k : Tokens) (below top rule : ℕ) (o : Summary) : Type 0 where
   pub allowed : IsAllowed m o
-  pub runs : (t : ℕ) → t < m.terminals → action_of m top t ≡ reduce rule → ComesTo m t (top ∷ below ∷ []) o
+  pub runs : (t : ℕ) → IsOn m k t → action_of m top t ≡ reduce rule → ComesTo m t (top ∷ below ∷ []) o
 
 -- The runs of an edge that begin with a reduction by one of some rules come to this.
-pub record IsSummaryByAll (m : Machine) (below top : ℕ) (rules : List RuleNo) (o : Summary) : Type 0 where
+pub record IsSummaryByAll (m : Machine) (k : Tokens) (below top : ℕ) (rules : List RuleNo) (o : Summary) : Type 0 where
   pub allowed : IsAllowed m o
-  pub runs : (t : ℕ) (r : RuleNo) → t < m.terminals → Contains rules r → action_of m top t ≡ reduce r.0
+  pub runs : (t : ℕ) (r : RuleNo) → IsOn m k t → Contains rules r → action_of m top t ≡ reduce r.0
       → ComesTo m t (top ∷ below ∷ []) o
 
 -- The runs come to this from where a reduction takes away all that lies above a state, with others below it.
-pub record IsGone (m : Machine) (under : ℕ) (below : List ℕ) (left : ℕ) (o : Summary) : Type 0 where
+pub record IsGone (m : Machine) (k : Tokens) (under : ℕ) (below : List ℕ) (left : ℕ) (o : Summary) : Type 0 where
   pub allowed : IsAllowed m o
-  pub runs : (t : ℕ) (stack : List ℕ) → t < m.terminals → IsPopping m t stack under below left → ComesTo m t stack o
+  pub runs : (t : ℕ) (stack : List ℕ) → IsOn m k t → IsPopping m t stack under below left → ComesTo m t stack o
 
 -- Above one state more, what comes to a summary comes to this.
-pub record IsBehind (m : Machine) (below : ℕ) (inner o : Summary) : Type 0 where
+pub record IsBehind (m : Machine) (k : Tokens) (below : ℕ) (inner o : Summary) : Type 0 where
   pub allowed : IsAllowed m o
-  pub runs : (t : ℕ) (stack : List ℕ) → t < m.terminals → ComesTo m t stack inner
+  pub runs : (t : ℕ) (stack : List ℕ) → IsOn m k t → ComesTo m t stack inner
       → ComesTo m t (stack ++ below ∷ []) o
 
 -- what ends in one of both ways, ends in the other as well

@@ -1,8 +1,13 @@
 use Rattle.std.proofs.Common.{[], ap, get_or, subst, sym, take, ◌∙◌}
 use Rattle.std.proofs.lemmas.List.{take_all, take_more}
+use Rattle.std.proofs.lemmas.List.Filters.{dedup_is}
+use Rattle.std.proofs.lemmas.List.Kept.{Contains-dedup, Contains-from_dedup}
+use Rattle.std.proofs.lemmas.List.Sorted.{Contains-permutation, IsPermutation-sym}
+use Rattle.ly_base.specs.contracts.numbers.StateNoEq.TheImpl.Laws as eq
 use Rattle.ly_loop.specs.Private.Edges.{AreTargetsOf}
 use Rattle.ly_loop.proofs.EntryLemmas.{no_entry, no_goto}
-use Rattle.ly_loop.proofs.TargetLemmas.{targets_goto, targets_none, targets_other, targets_shift}
+use Rattle.ly_loop.proofs.TargetLemmas.{state_eq, targets_goto, targets_none, targets_other, targets_same}
+use Rattle.ly_loop.proofs.TargetLemmas.{targets_shift}
 use Rattle.ly_loop.proofs.edges.targets.Goals as goal
 use Rattle.ly_loop.proofs.edges.targets.Goals.{in-Shift+in_ok-push, in_default}
 
@@ -42,5 +47,11 @@ loop-led-preserved c =
     (targets_goto c.args.entries.now (take k gotos) targets c.loop-led.invariant e))
 
 pub returns : goal.returns
-returns c = subst (λ gs. AreTargetsOf c.args.entries.now gs c.loop-led.targets.items)
-    (take_all c.loop-led.led-index c.args.gotos.now c.loop-led-test.false) c.loop-led.invariant
+returns c =
+    let is = dedup_is _ _ _ c.dedup.ensures.filtered in
+    let moved = c.sort_unstable.ensures.permutation in
+    targets_same c.args.entries.now c.args.gotos.now c.loop-led.targets.items _
+    (λ s h. Contains-permutation _ _ s (IsPermutation-sym _ _ moved) (Contains-from_dedup _ _ s (rw is at h)))
+    (λ s h. rw is (Contains-dedup (eq.laws-law) state_eq _ s (Contains-permutation _ _ s moved h)))
+    (subst (λ gs. AreTargetsOf c.args.entries.now gs c.loop-led.targets.items)
+    (take_all c.loop-led.led-index c.args.gotos.now c.loop-led-test.false) c.loop-led.invariant)

@@ -15,11 +15,11 @@ returns-then-rest-eq0 g c =
     let m = c.args.self.now in
     let below = c.args.below.0 in
     let left = c.in-Leaves.left in
-    longer_is m (IsGone m below [] left.0) (IsBehind m below c.args.inner) c.args.inner.most c.beside.result
+    longer_is m (IsGone m c.args.tokens below [] left.0) (IsBehind m c.args.tokens below c.args.inner) c.args.inner.most c.beside.result
     c.longer.result
-    (behind_none m below left.0 c.args.inner c.in-Leaves.rest left c.in-Leaves.is c.if-rest-eq0.true refl)
+    (behind_none m c.args.tokens below left.0 c.args.inner c.in-Leaves.rest left c.in-Leaves.is c.if-rest-eq0.true refl)
     c.beside.ensures c.longer.ensures
 
 pub returns-else-rest-eq0 : goal.returns-else-rest-eq0
-returns-else-rest-eq0 g c = behind_more c.args.self.now c.args.below.0 c.args.inner c.in-Leaves.rest
+returns-else-rest-eq0 g c = behind_more c.args.self.now c.args.tokens c.args.below.0 c.args.inner c.in-Leaves.rest
     (c.in-Leaves.rest - 1) c.in-Leaves.left c.in-Leaves.is (omega arith) c.requires.inner

@@ -14,9 +14,9 @@ loop-rule-preserved g c =
     let m = c.args.self.now in
     let rules = c.args.rules.now in
     let k = c.loop-rule.rule-index in
-    subst (λ rs. IsSummaryByAll m c.args.edge.below.0 c.args.edge.top.0 rs c.joined-all.result)
+    subst (λ rs. IsSummaryByAll m c.args.tokens c.args.edge.below.0 c.args.edge.top.0 rs c.joined-all.result)
     (sym (take_more rules k no_rule c.loop-rule-test.true))
-    (more_is m c.args.edge.below.0 c.args.edge.top.0 (take k rules) _ c.loop-rule.all c.in-Known.summary
+    (more_is m c.args.tokens c.args.edge.below.0 c.args.edge.top.0 (take k rules) _ c.loop-rule.all c.in-Known.summary
     c.joined-all.result c.loop-rule.invariant c.in-Known.ensures (c.joined-all.ensures m))
 
 pub returns : goal.returns
@@ -24,6 +24,6 @@ returns g c =
     let m = c.args.self.now in
     let below = c.args.edge.below.0 in
     let top = c.args.edge.top.0 in
-    all_is m below top c.args.rules.now c.loop-rule.all c.requires.rules
-    (subst (λ rs. IsSummaryByAll m below top rs c.loop-rule.all)
+    all_is m c.args.tokens below top c.args.rules.now c.loop-rule.all c.requires.rules
+    (subst (λ rs. IsSummaryByAll m c.args.tokens below top rs c.loop-rule.all)
     (take_all c.loop-rule.rule-index c.args.rules.now c.loop-rule-test.false) c.loop-rule.invariant)
