@@ -1,10 +1,12 @@
 -- Lexemes that are told by facts of states.
-use Rattle.std.proofs.Common.{◌≡◌, ◌≢◌, ◌∙◌, ◌≤◌, ◌+◌, ◌-◌, ℕ, zero, suc, List, [], ◌∷◌, Bool, Option, Some, None, Ok, Err}
-use Rattle.std.proofs.Common.{Result, ap, arith, drop, false, get_or, length, length-drop, map, refl, slice_get, subst, sym, take}
+use Rattle.std.proofs.Common.{◌≡◌, ◌≢◌, ◌∙◌, ◌≤◌, ◌+◌, ◌-◌, ℕ, zero, suc, List, [], ◌∷◌, Bool, Option, Some, None, Ok}
+use Rattle.std.proofs.Common.{Err, Result, ap, arith, drop, false, get_or, length, length-drop, map, refl, slice_get}
+use Rattle.std.proofs.Common.{subst, sym, take}
 use Rattle.std.proofs.Common.{true}
 use Rattle.std.proofs.lemmas.Bool.Decides.{nat_tests}
 use Rattle.std.proofs.lemmas.Option.{slice_get-map}
-use Rattle.std.specs.Prelude.{IsErrAnd, if◌then◌else◌, nat_eq, nat_lt, option_and_then, option_map, slice_index, unwrap_or}
+use Rattle.std.specs.Prelude.{IsErrAnd, if◌then◌else◌, nat_eq, nat_lt, option_and_then, option_map}
+use Rattle.std.specs.Prelude.{slice_index, unwrap_or}
 use Rattle.ly_base.specs.Lexed.{Place, moved, place_after}
 use Rattle.ly_base.specs.declared.numbers.Sym.{Sym}
 use Rattle.ly_base.specs.declared.scan_action.Emitted.{Emitted}

@@ -1,6 +1,6 @@
 -- The marks of a text's tokens.
-use Rattle.std.proofs.Common.{◌≡◌, ◌∙◌, ◌<◌, ◌≤◌, ◌+◌, ◌-◌, ◌*◌, ℕ, List, [], ◌∷◌, ◌++◌, All, Bool, Option, None, Some, ap}
-use Rattle.std.proofs.Common.{append-nil, append_assoc, arith, drop, drop-drop, false, get_or, inl, inr, length}
+use Rattle.std.proofs.Common.{◌≡◌, ◌∙◌, ◌<◌, ◌≤◌, ◌+◌, ◌-◌, ◌*◌, ℕ, List, [], ◌∷◌, ◌++◌, All, Bool, Option, None, Some}
+use Rattle.std.proofs.Common.{ap, append-nil, append_assoc, arith, drop, drop-drop, false, get_or, inl, inr, length}
 use Rattle.std.proofs.Common.{length-append, length-drop, refl, subst, sym, take, true}
 use Rattle.std.proofs.lemmas.Bool.{cases_lt}
 use Rattle.std.proofs.lemmas.Bool.Decides.{nat_tests}
@@ -345,12 +345,14 @@ marked_to actions s labels text p q old new left at same are =
     (subst (IsMarkedTo actions s labels text p) (sym same) (record { so_far = are.so_far; within = are.are.within }))
 
 -- What is written of the next mark, and what is left then.
-pub record Step (labels : List (List ℕ)) (marks : List Mark) (i : ℕ) (m : Mark) (rest next token : List ℕ) : Type 0 where
-  pub line : (told : List ℕ) → (told ++ line_by (label_of labels m) token) ++ marked_lines labels (drop (i + 1) marks) next
-      ≡ told ++ marked_lines labels (drop i marks) rest
-  pub grows : (told : List ℕ) → length (told ++ line_by (label_of labels m) token)
-      ≡ length told + length (line_by (label_of labels m) token)
-  pub within : AreWithin (drop (i + 1) marks) next
+pub record Step (labels : List (List ℕ)) (marks : List Mark) (i : ℕ) (m : Mark) (rest next token : List ℕ) : Type 0
+  where
+    pub line : (told : List ℕ)
+        → (told ++ line_by (label_of labels m) token) ++ marked_lines labels (drop (i + 1) marks) next
+        ≡ told ++ marked_lines labels (drop i marks) rest
+    pub grows : (told : List ℕ) → length (told ++ line_by (label_of labels m) token)
+        ≡ length told + length (line_by (label_of labels m) token)
+    pub within : AreWithin (drop (i + 1) marks) next
 
 pub step : (labels : List (List ℕ)) (marks : List Mark) (i : ℕ) (d : Mark) (rest there next token : List ℕ)
     (gap taken : ℕ) → i < length marks → gap ≡ gap_of (get_or marks i d) → there ≡ drop gap rest

@@ -1,5 +1,5 @@
-ghost use Rattle.std.specs.Prelude.{◌≡◌, ◌<◌, ◌≤◌, ◌++◌, ℕ, List, length, IfOk, OnOk, option_and_then, option_map, slice_get};
-ghost use Rattle.std.specs.Prelude.{slice_index};
+ghost use Rattle.std.specs.Prelude.{◌≡◌, ◌<◌, ◌≤◌, ◌++◌, ℕ, List, length, IfOk, OnOk, option_map};
+ghost use Rattle.std.specs.Prelude.{option_and_then, slice_get, slice_index};
 ghost use Rattle.std.proofs.Props.{props};
 ghost use Rattle.ly_print.specs.Text.{before_leaf, named};
 ghost use Rattle.ly_tokens.specs.Answering.{names_by};

@@ -1,6 +1,6 @@
 //! What a walk over a text has found, so that the lines of its tokens are written without another one.
-ghost use Rattle.std.specs.Prelude.{◌≡◌, ◌<◌, ◌≤◌, ◌+◌, ◌-◌, ◌*◌, ◌^◌, [], ◌∷◌, length, drop, take, true, false, OnErr, OnOk};
-ghost use Rattle.std.specs.Prelude.{option_map};
+ghost use Rattle.std.specs.Prelude.{◌≡◌, ◌<◌, ◌≤◌, ◌+◌, ◌-◌, ◌*◌, ◌^◌, [], length, drop, true, false};
+ghost use Rattle.std.specs.Prelude.{option_map, OnErr, OnOk};
 ghost use Rattle.ly_print.specs.Device.{next_count};
 ghost use Rattle.ly_print.specs.TextWriter.{bytes_of, IsAppended};
 ghost use Rattle.ly_tokens.specs.Private.Marks.{gap_of, is_wide, label_of, marked_lines, taken_of, AreWithin};
@@ -200,7 +200,8 @@ pub(crate) fn write_marked<W: Sink>(
     writer: &mut W,
 ) -> Result<(), WriteFault>
     requires within { AreWithin marks.now text.now }
-    requires countable { bytes_of lines.old + length (marked_lines labels.now.labels.items marks.now text.now) < 2 ^ 64 }
+    requires countable { bytes_of lines.old
+        + length (marked_lines labels.now.labels.items marks.now text.now) < 2 ^ 64 }
     ensures told { IsAppended lines.old lines.new (W.contents writer.old) (W.contents writer.new)
         (marked_lines labels.now.labels.items marks.now text.now) result }
     ensures counted { OnOk result (bytes_of lines.new

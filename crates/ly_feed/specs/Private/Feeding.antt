@@ -17,8 +17,8 @@ abbrev pub held_from : TableSet → AnswerForm → Place → Parse → Bool → 
 held_from set form place parse over =
     record { set = set; form = form; progress = progress_of place parse; over = over }
 
--- A feed's scanner with its facts and its parser are those of its set, and as long as it isn't over its parse isn't, and the walk over the
--- bytes that are held goes on.
+-- A feed's scanner with its facts and its parser are those of its set, and as long as it isn't over its parse isn't,
+-- and the walk over the bytes that are held goes on.
 pub record IsFeed (f : Inside) : Type 0 where
   pub lexer : IsLexerOf (scan_part_of f.set.now) f.lexer
   pub facts : AreFactsOf (scan_part_of f.set.now) f.lexer.scanner f.facts.items

@@ -25,8 +25,8 @@ use Rattle.ly_scan.specs.Walk.{Walk}
 use Rattle.ly_scan.specs.declared.told.Told.{Told}
 use Rattle.ly_tables.specs.declared.scan_rule.ScanRule as scan
 
--- The number of what a rule does: 0 says nothing, as where it sets a condition, 1 that it returns no terminal, 2 that it
--- returns the first byte's literal, and a greater number names its terminal, where there is one.
+-- The number of what a rule does: 0 says nothing, as where it sets a condition, 1 that it returns no terminal, 2 that
+-- it returns the first byte's literal, and a greater number names its terminal, where there is one.
 abbrev pub number_by : Option ℕ → Emitted → ℕ
 number_by (Some condition) emits = 0
 number_by None Nothing = 1
@@ -75,8 +75,8 @@ HaltsAhead p (Ok (At q)) = IsAhead p q
 HaltsAhead p (Ok (Flawed flaw)) = Unit {0}
 HaltsAhead p (Err fault) = Unit {0}
 
--- How far a run over lexemes that are told comes: to where the next one isn't, the parse not being over; or something is
--- wrong, or the tables are at fault, whatever comes. Want of memory says nothing.
+-- How far a run over lexemes that are told comes: to where the next one isn't, the parse not being over; or something
+-- is wrong, or the tables are at fault, whatever comes. Want of memory says nothing.
 abbrev pub IsRunOverTold : Bool → ScanPart → Machine → Progress → Parse → Result Halt TextFault → Type 0
 IsRunOverTold ended p m w r (Ok (At q)) = Onward ended p m w (progress_of q r) × (r.over ≡ false)
 IsRunOverTold ended p m w r (Ok (Flawed flaw)) = IsSettled ended p m w (verdict_of flaw)

@@ -1,6 +1,6 @@
 -- The marks of a text's tokens, and what they say of it.
-use Rattle.std.specs.Prelude.{◌≡◌, ◌≤◌, ◌+◌, ◌-◌, ◌*◌, ℕ, List, [], ◌∷◌, ◌++◌, Bool, Option, None, Some, drop, length, take}
-use Rattle.std.specs.Prelude.{if◌then◌else◌, nat_eq, nat_le, option_and_then, slice_get}
+use Rattle.std.specs.Prelude.{◌≡◌, ◌≤◌, ◌+◌, ◌-◌, ◌*◌, ℕ, List, [], ◌∷◌, ◌++◌, Bool, Option, None, Some}
+use Rattle.std.specs.Prelude.{drop, length, take, if◌then◌else◌, nat_eq, nat_le, option_and_then, slice_get}
 use Rattle.ly_base.specs.Lexed.{Place, start_of}
 use Rattle.ly_lexread.specs.declared.action.LexAction.{LexAction}
 use Rattle.ly_scan.specs.Lexer.{Scanner}

@@ -103,7 +103,8 @@ refusal-requires-clause-token c =
 
 pub take-requires-clause-runs : goal.take-requires-clause-runs
 take-requires-clause-runs c =
-    subst (CanRun (scan_part_of c.args.set.now)) (sym (c.run_told_by.ensures.machine ∙ c.loop-known.invariant.machine)) c.requires.runs
+    subst (CanRun (scan_part_of c.args.set.now))
+    (sym (c.run_told_by.ensures.machine ∙ c.loop-known.invariant.machine)) c.requires.runs
 
 pub refusal-requires-clause-tellable : goal.refusal-requires-clause-tellable
 refusal-requires-clause-tellable c = (c.in-Refuses.ensures.taken c.args.ended
@@ -131,7 +132,8 @@ returns-in-Refuses-clause-runs c =
     c.next.ensures.passed)
     (refused_there c.args.ended p m (progress_of q s) t c.take.new.parser flaw
     (c.take.ensures.machine ∙ c.run_told_by.ensures.machine ∙ c.loop-known.invariant.machine) fast
-    (subst (λ k. IsTaken c.args.ended p k (progress_of q s) t c.take.new.parser Refuses) (c.run_told_by.ensures.machine ∙ c.loop-known.invariant.machine)
+    (subst (λ k. IsTaken c.args.ended p k (progress_of q s) t c.take.new.parser Refuses)
+    (c.run_told_by.ensures.machine ∙ c.loop-known.invariant.machine)
     (c.in-Refuses.ensures.taken c.args.ended fast))
     c.in_ok-refusal-in-Refuses.ensures)
 
@@ -152,7 +154,8 @@ returns-in-FaultyTables-clause-runs c =
     settled_there c.args.ended p m w q s faulty
     (over c.args.ended p m w l c.in-At.here q s c.requires.lexer told.0
     c.next.ensures.passed)
-    (subst (λ k. IsSettled c.args.ended p k (progress_of q s) faulty) (c.run_told_by.ensures.machine ∙ c.loop-known.invariant.machine)
+    (subst (λ k. IsSettled c.args.ended p k (progress_of q s) faulty)
+    (c.run_told_by.ensures.machine ∙ c.loop-known.invariant.machine)
     (c.in-FaultyTables.ensures.taken c.args.ended fast))
 
 pub loop-known-preserved : goal.loop-known-preserved
@@ -172,7 +175,8 @@ loop-known-preserved c =
     c.in-Ok-Some.field-0-is in
     let there = c.advance.ensures ∙ ap (moved q t.taken) c.action-begin.ensures.begin in
     let taken = subst (λ k. IsTaken c.args.ended p k (progress_of q s) t c.take.new.parser Reads)
-    (c.run_told_by.ensures.machine ∙ c.loop-known.invariant.machine) (c.in-Reads.ensures.taken c.args.ended fast) in record {
+    (c.run_told_by.ensures.machine ∙ c.loop-known.invariant.machine)
+    (c.in-Reads.ensures.taken c.args.ended fast) in record {
       onward = subst (λ x. Onward c.args.ended p m w (progress_of x c.take.new.parser)) (sym there)
           (onward_on c.args.ended p m
           (over c.args.ended p m w l c.in-At.here q s c.requires.lexer told.0

@@ -79,7 +79,8 @@ loop-told-preserved c =
       behind = omega (
         arith,
         left_behind now.marks.marks.items c.note_if.new.self.marks.items now.marks.left c.note_if.new.self.left
-            (length c.rest-rest.result.now) told.taken o (omega (arith, left, now.invariant.behind, c.tell.ensures.left)) noted,
+            (length c.rest-rest.result.now) told.taken o
+            (omega (arith, left, now.invariant.behind, c.tell.ensures.left)) noted,
         left,
         ap (λ p. length p.rest) c.advance.ensures,
         length-drop told.taken here.rest,
@@ -138,7 +139,8 @@ returns-then-not-note_if-clause-marked c text before =
     let labels = c.args.labels.now.labels.items in
     let here = c.tell.new.place in
     same_marks actions s labels text here now.marks.marks.items c.note_if.new.self.marks.items now.marks.left
-    c.note_if.new.self.left (c.note_if.ensures.same c.if-not-note_if.true) (c.note_if.ensures.left c.if-not-note_if.true)
+    c.note_if.new.self.left (c.note_if.ensures.same c.if-not-note_if.true)
+    (c.note_if.ensures.left c.if-not-note_if.true)
     (marked_over actions s c.args.lexer.now.passed labels text now.place here now.marks.marks.items now.marks.left
     c.requires.passed (now.invariant.marked text before) c.tell.ensures.passed)
 

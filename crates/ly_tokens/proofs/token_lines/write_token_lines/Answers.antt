@@ -90,8 +90,9 @@ returns-in_err-here-clause-cut_short g c =
     let s = scanner_of c.args.lexer.now.scanner in
     let cut = c.in_err-here.ensures.cut_short in
     let fault = c.in_err-here.field-0.0 in
-    err_is c.from_residual-in_err-here.result fault _ c.from_residual-in_err-here.ensures.1 (fails_at actions s c.args.text.now cut.0
-    (so_far.0 ++ cut.1.0) c.args.walked.end c.args.empty c.write_told.new.lines _ _ fault c.requires.ends c.requires.none
+    err_is c.from_residual-in_err-here.result fault _ c.from_residual-in_err-here.ensures.1 (fails_at actions s
+    c.args.text.now cut.0 (so_far.0 ++ cut.1.0) c.args.walked.end c.args.empty c.write_told.new.lines _ _ fault
+    c.requires.ends c.requires.none
     (so_far_on actions s (start_of c.args.text.now) now.place cut.0 so_far.0 cut.1.0 so_far.1 cut.1.1)
     (appended_twice c.args.empty now.lines c.write_told.new.lines _ _ _ so_far.0 cut.1.0 tt (Err fault) so_far.2
     cut.1.2))

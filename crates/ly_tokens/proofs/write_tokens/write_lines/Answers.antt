@@ -42,7 +42,8 @@ pub token_end-requires : goal.token_end-requires
 token_end-requires g c =
     let file = c.args.file.now in
     let s = scanner_of c.args.lexer.now.scanner in
-    run_leaves_tokens (defined file.names) file.rules.items file.actions.items s c.args.text.now c.run_end-walked.result.end
+    run_leaves_tokens (defined file.names) file.rules.items file.actions.items s c.args.text.now
+    c.run_end-walked.result.end
     c.requires.agrees (subst (λ a. EndsSo s a c.args.text.now c.run_end-walked.result.end)
     (c.in_ok-labels.ensures ∙ c.deref-2.ensures.value) c.run_end-walked.ensures.ends)
 
@@ -78,7 +79,8 @@ returns-clause-answered g c =
       subst (λ (e : End). IsAnswer Plain (defined file.names) file.rules.items file.actions.items c.args.text.now e
           told.0)
           (sym c.token_end.ensures) (answer_of (defined file.names) file.rules.items file.actions.items
-          c.in_ok-labels.labels.actions.now (scanner_of c.args.lexer.now.scanner) c.args.text.now c.run_end-walked.result.end
+          c.in_ok-labels.labels.actions.now (scanner_of c.args.lexer.now.scanner) c.args.text.now
+          c.run_end-walked.result.end
           told.0 c.requires.agrees (c.in_ok-labels.ensures ∙ c.deref-2.ensures.value) told.1),
       told.2,
     )
