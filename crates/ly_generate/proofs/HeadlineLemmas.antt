@@ -203,7 +203,7 @@ module _ (version : Version) (file : LexFile) (w : Written) (s : Spec) (set : Ta
       let run = reads_follow s g.automaton (machine_of set) g.is_automaton g.useful g.is_set.machine reads []
       (t ∷ behind) (before_it g.automaton before behind t all) bottom in
       tables_follow s g.automaton (machine_of set) g.is_automaton g.useful g.is_set.machine run.0 last t behind
-          fed.faulty (it_self g.automaton before behind t all) run.2 feeds
+      fed.faulty (it_self g.automaton before behind t all) run.2 feeds
 
   -- the verdict is the specification's
   pub verdict_follows : (v : Verdict) → IsVerdict set text v → IsSpecVerdict file s g.automaton.grammar text v

@@ -134,7 +134,7 @@ impl<'a, A: Rows<TableAction> + Drop, G: Rows<StateNo> + Drop> Running<'a, A, G>
 
     /// What a token comes to: reductions are made before it, and then it is read or refused. Where it is refused, what
     /// the stack was is noted.
-    #[inline(always)] // likewise
+    #[inline(always)] // so that the loop over tokens has the registers
     fn come(&mut self, token: &Token<'_>, before: &mut Before) -> Answer
         requires not_end { token.now.terminal.0 ≢ 0 }
         requires terminal { token.now.terminal.0 < self.old.machine.terminals }
@@ -196,7 +196,7 @@ impl<'a, A: Rows<TableAction> + Drop, G: Rows<StateNo> + Drop> Running<'a, A, G>
     }
 
     /// Puts a token that is read onto the stack.
-    #[inline(always)] // likewise
+    #[inline(always)] // so that the loop over tokens has the registers
     fn read(&mut self, state: StateNo, token: &Token<'_>) -> Result<(), OutOfMemory>
         requires { action_of self.old.machine (top_of self.old.stack) token.now.terminal.0 ≡ shift state.0 }
         ensures stack { OnOk result (self.new.stack ≡ record {

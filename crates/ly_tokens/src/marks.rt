@@ -116,7 +116,7 @@ impl Marks {
     }
 
     /// Notes a token of so many bytes where so many are left.
-    #[inline(always)] // likewise
+    #[inline(always)] // so that the loop that marks has the registers
     fn note(&mut self, left: usize, place: usize, taken: usize) -> bool
         requires left { left ≤ self.old.left }
         requires taken { taken ≤ left }
