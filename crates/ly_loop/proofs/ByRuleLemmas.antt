@@ -39,8 +39,8 @@ unreduced_over m t top rest accept is not = (accepts, λ more. ap (perform m ((t
 unreduced_over m t top rest error is not = (refuses, λ more. ap (perform m ((top ∷ rest) ++ more)) is)
 
 -- above a state that doesn't reduce
-unreduced_summary : (m : Machine) (k : Tokens) (below top : ℕ) (row : List RuleNo) (o : Summary) → AreReductions m top row → row ≡ []
-    → o.most ≡ 0 → o.ending ≡ Over → IsSummary m k below top o
+unreduced_summary : (m : Machine) (k : Tokens) (below top : ℕ) (row : List RuleNo) (o : Summary)
+    → AreReductions m top row → row ≡ [] → o.most ≡ 0 → o.ending ≡ Over → IsSummary m k below top o
 unreduced_summary m k below top row o are none most ending = record {
   allowed = record { low = omega (arith, most); left = subst (IsLeft m) (sym ending) tt };
   runs = λ t known. comes_over m t (top ∷ below ∷ []) o
@@ -50,11 +50,12 @@ unreduced_summary m k below top row o are none most ending = record {
 }
 
 -- what is looked up is true
-pub kept_is : (m : Machine) (k : Tokens) (reductions : List (Vec RuleNo)) (summaries : Summaries) (edge : Edge) (found : Lookup)
-    → AreAllReductions m reductions → AreKnown m k summaries → IsWithinStates m edge
+pub kept_is : (m : Machine) (k : Tokens) (reductions : List (Vec RuleNo)) (summaries : Summaries)
+    (edge : Edge) (found : Lookup) → AreAllReductions m reductions → AreKnown m k summaries → IsWithinStates m edge
     → IsKept reductions summaries edge found → IsLookup m (IsSummary m k edge.below.0 edge.top.0) found
 kept_is m k reductions summaries edge (Known o) all known within (inl none) =
-    unreduced_summary m k edge.below.0 edge.top.0 none.0.items o (all.each edge.top.0 none.0 none.1) none.2 none.3 none.4
+    unreduced_summary m k edge.below.0 edge.top.0 none.0.items o (all.each edge.top.0 none.0 none.1) none.2 none.3
+    none.4
 kept_is m k reductions summaries edge (Known o) all known within (inr kept) = known edge.below.0 edge.top.0 o kept
 kept_is m k reductions summaries edge Unknown all known within kept = tt
 kept_is m k reductions summaries edge (Wanted wanted) all known within kept = subst (IsWithinStates m) (sym kept) within

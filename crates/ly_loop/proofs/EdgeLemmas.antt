@@ -1,6 +1,6 @@
 -- Edges of whose runs nothing is known, and the first run above them that makes too many reductions.
-use Rattle.std.proofs.Common.{◌≡◌, ◌⊎◌, ℕ, suc, ◌+◌, ◌<◌, List, [], ◌∷◌, ◌++◌, Contains, Option, None, Some, length, take}
-use Rattle.std.proofs.Common.{arith, inl, inr, refl, subst, sym, true, false}
+use Rattle.std.proofs.Common.{◌≡◌, ◌⊎◌, ℕ, suc, ◌+◌, ◌<◌, List, [], ◌∷◌, ◌++◌, Contains, Option, None, Some}
+use Rattle.std.proofs.Common.{length, take, arith, inl, inr, refl, subst, sym, true, false}
 use Rattle.std.proofs.lemmas.Bool.{cases_lt}
 use Rattle.std.proofs.lemmas.List.Elements.{Contains-append_left, Contains-push, Contains-push_cases}
 use Rattle.ly_base.proofs.MemberLemmas.{Contains-none}

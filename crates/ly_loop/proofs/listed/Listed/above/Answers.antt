@@ -27,15 +27,16 @@ returns g c =
     let led = subst (λ n. Some next ≡ goto_at n top left) c.self.view_is c.in-Some.ensures in
     let goes = listed.countable.machine.gotos top left next (sym led) in
     let within : IsWithinStates m upper = (c.requires.edge.1, goes) in
-    let is = kept_is m c.args.tokens c.self.inside.reductions.now c.args.summaries.now upper c.look_up.result listed.reductions_are
-    c.requires.known within c.look_up.ensures in
+    let is = kept_is m c.args.tokens c.self.inside.reductions.now c.args.summaries.now upper c.look_up.result
+    listed.reductions_are c.requires.known within c.look_up.ensures in
     elim c.match-look_up.branch [
       | in-Known w ↦
           let inner = w.in-Known.inner in
           let was = subst (IsLookup m (IsSummary m c.args.tokens top next)) w.in-Known.is is in
           longer_is m (IsBehind m c.args.tokens below inner) Q 1 c.match-look_up.found c.longer.result
           (above_is m c.args.tokens below top left next inner led was)
-          (subst (IsLookup m (IsBehind m c.args.tokens below inner)) (sym w.found-is) w.above_one_more-found.ensures) c.longer.ensures
+          (subst (IsLookup m (IsBehind m c.args.tokens below inner)) (sym w.found-is) w.above_one_more-found.ensures)
+          c.longer.ensures
       | in_default-look_up w ↦
           longer_other m (IsSummary m c.args.tokens top next) Q 1 c.match-look_up.found c.longer.result
           (subst (IsLookup m (IsSummary m c.args.tokens top next)) (sym w.found-is) is)

@@ -15,8 +15,8 @@ returns-then-rest-eq0 g c =
     let m = c.args.self.now in
     let below = c.args.below.0 in
     let left = c.in-Leaves.left in
-    longer_is m (IsGone m c.args.tokens below [] left.0) (IsBehind m c.args.tokens below c.args.inner) c.args.inner.most c.beside.result
-    c.longer.result
+    longer_is m (IsGone m c.args.tokens below [] left.0) (IsBehind m c.args.tokens below c.args.inner) c.args.inner.most
+    c.beside.result c.longer.result
     (behind_none m c.args.tokens below left.0 c.args.inner c.in-Leaves.rest left c.in-Leaves.is c.if-rest-eq0.true refl)
     c.beside.ensures c.longer.ensures
 

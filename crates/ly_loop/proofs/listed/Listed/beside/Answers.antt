@@ -18,10 +18,10 @@ returns-in-Some g c =
     let led = subst (λ n. Some next ≡ goto_at n under c.args.left.0) c.self.view_is c.in-Some.ensures in
     let goes = listed.countable.machine.gotos under c.args.left.0 next (sym led) in
     let within : IsWithinStates m edge = (c.requires.below, goes) in
-    longer_is m (IsSummary m c.args.tokens under next) (IsGone m c.args.tokens under [] c.args.left.0) 1 c.look_up.result c.longer.result
-    (beside_is m c.args.tokens under c.args.left.0 next led)
-    (kept_is m c.args.tokens c.self.inside.reductions.now c.args.summaries.now edge c.look_up.result listed.reductions_are
-    c.requires.known within c.look_up.ensures) c.longer.ensures
+    longer_is m (IsSummary m c.args.tokens under next) (IsGone m c.args.tokens under [] c.args.left.0) 1
+    c.look_up.result c.longer.result (beside_is m c.args.tokens under c.args.left.0 next led)
+    (kept_is m c.args.tokens c.self.inside.reductions.now c.args.summaries.now edge c.look_up.result
+    listed.reductions_are c.requires.known within c.look_up.ensures) c.longer.ensures
 
 pub returns-in-None : goal.returns-in-None
 returns-in-None g c = missing_is c.args.self.now c.args.tokens c.args.below.0 [] c.args.left.0

@@ -8,11 +8,12 @@ use Rattle.ly_loop.specs.Private.Run.{EndsAs}
 use Rattle.ly_loop.specs.declared.edges.Passing.{Passing}
 use Rattle.ly_loop.specs.declared.known.Edge.{Edge}
 use Rattle.ly_loop.specs.declared.tokens.Tokens.TheVariants.{One}
-use Rattle.ly_loop.proofs.EdgeLemmas.{AreSoFar, first_ended, first_new, first_past, so_far_all, so_far_back, so_far_none}
-use Rattle.ly_loop.proofs.EdgeLemmas.{so_far_onto, so_far_there}
+use Rattle.ly_loop.proofs.EdgeLemmas.{AreSoFar, first_ended, first_new, first_past, so_far_all, so_far_back}
+use Rattle.ly_loop.proofs.EdgeLemmas.{so_far_none, so_far_onto, so_far_there}
 use Rattle.ly_loop.proofs.listed.Listed.first_on.Goals as goal
 use Rattle.ly_loop.proofs.listed.Listed.first_on.Goals.{then-comes_before+in_ok-ends_on+then-not-branch}
-use Rattle.ly_loop.proofs.listed.Listed.first_on.Goals.{then-comes_before+in_ok-ends_on+else-not-branch, else-comes_before}
+use Rattle.ly_loop.proofs.listed.Listed.first_on.Goals.{then-comes_before+in_ok-ends_on+else-not-branch}
+use Rattle.ly_loop.proofs.listed.Listed.first_on.Goals.{else-comes_before}
 
 pub loop-edge-init : goal.loop-edge-init
 loop-edge-init g c = record {

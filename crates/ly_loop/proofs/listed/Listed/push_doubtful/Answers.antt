@@ -45,13 +45,16 @@ loop-top-preserved g c =
       known = c.in_ok-found.ensures.known;
       doubtful = subst (λ ts. AreMoreDoubtful m c.args.below ts before c.match-found.doubtful.items) more
           (elim c.match-found.branch [
-            | in-Some w ↦ subst (λ (v : _). AreMoreDoubtful m c.args.below (take k targets ++ top ∷ []) before v.items) (sym w.doubtful-is)
-                (more_ended m c.args.below (take k targets) before c.loop-top.doubtful.items top was.doubtful
-                (summary_ends m All c.args.below.0 top.0 _ (subst
+            | in-Some w ↦
+                subst (λ (v : _). AreMoreDoubtful m c.args.below (take k targets ++ top ∷ []) before v.items)
+                (sym w.doubtful-is) (more_ended m c.args.below (take k targets) before c.loop-top.doubtful.items top
+                was.doubtful (summary_ends m All c.args.below.0 top.0 _ (subst
                 (λ (x : Option Summary). IfSome x (IsSummary m All c.args.below.0 top.0)) w.in-Some.is
                 c.in_ok-found.ensures.summary)))
-            | in-None+in_ok-push-in-None w ↦ subst (λ (v : _). AreMoreDoubtful m c.args.below (take k targets ++ top ∷ []) before v.items)
-                (sym w.doubtful-is) (subst (AreMoreDoubtful m c.args.below (take k targets ++ top ∷ []) before) (sym w.in_ok-push-in-None.ensures.items)
+            | in-None+in_ok-push-in-None w ↦
+                subst (λ (v : _). AreMoreDoubtful m c.args.below (take k targets ++ top ∷ []) before v.items)
+                (sym w.doubtful-is) (subst (AreMoreDoubtful m c.args.below (take k targets ++ top ∷ []) before)
+                (sym w.in_ok-push-in-None.ensures.items)
                 (more_added m c.args.below (take k targets) before c.loop-top.doubtful.items top was.doubtful))
           ]);
     }
