@@ -41,6 +41,12 @@ pairs_push n (x ∷ xs) pairs below = AllPairs-cons (λ a b. a < b) x (xs ++ n �
         subst (λ y. x < y) (sym (ap (λ j. get_or (xs ++ n ∷ []) j d) last
         ∙ get_or-append_seam xs n [] d)) (below x (Contains-first x xs))
 
+pub none_below : (m : Machine) (stack ts : List ℕ) → ts ≡ [] → AreBelow m stack 0 ts
+none_below m stack ts none = subst (AreBelow m stack 0) (sym none) record {
+  ordered = λ i j d lt low. absurd (omega (arith, low));
+  are = λ t. (λ has. absurd (Contains-none t has), λ w. absurd (omega (arith, w.0)));
+}
+
 module _ (m : Machine) (stack : List ℕ) (n : ℕ) (ts : List ℕ) (was : AreBelow m stack n ts) where
   pub with_it : IsExpected m n stack → AreBelow m stack (n + 1) (ts ++ n ∷ [])
   with_it is = record {
@@ -116,13 +122,7 @@ all_below m stack n ts e below = record {
 -- On steady tables there is such a list.
 module _ (m : Machine) (levels : List Level) (calm : IsSteady m) (edges : IsStack m (states_on levels)) where
   listed_below : (n : ℕ) → n ≤ m.terminals → (ts : List ℕ) × AreBelow m (states_on levels) n ts
-  listed_below zero within = (
-    [],
-    record {
-      ordered = λ i j d lt low. absurd (omega (arith, low));
-      are = λ t. (λ has. absurd (Contains-none t has), λ w. absurd (omega (arith, w.0)));
-    },
-  )
+  listed_below zero within = ([], none_below m (states_on levels) [] refl)
   listed_below (suc n) within =
       let less = listed_below n (omega (arith, within)) in
       let probe : Token ℕ = record { terminal = n; at = 0; bytes = [] } in

@@ -3,6 +3,7 @@ pub mod CopiedLemmas
 pub mod ExpectedFedLemmas
 pub mod ExpectedListLemmas
 pub mod ExpectedRunLemmas
+pub mod LastRunLemmas
 pub mod FedOnceLemmas
 pub mod FeedingLemmas
 pub mod LandingLemmas

@@ -2,6 +2,7 @@
 pub mod Answered
 pub mod Before
 pub mod Copied
+pub mod LastRun
 pub mod Paying
 pub mod Shortcuts
 pub mod Stack

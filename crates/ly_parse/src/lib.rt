@@ -18,6 +18,7 @@ mod copied;
 mod fault;
 mod kept;
 mod landing;
+mod last_run;
 mod laws;
 mod level;
 mod listing;

@@ -4,7 +4,9 @@ use Rattle.ly_pack.specs.Machine.{states_of}
 use Rattle.ly_pack.specs.SteadyLaws.{IsStack}
 use Rattle.ly_parse.specs.Private.Copied.{states_in}
 use Rattle.ly_parse.specs.Expected.{IsExpected}
-use Rattle.ly_parse.proofs.ExpectedListLemmas.{AreBelow, all_below, with_it, without_it}
+use Rattle.ly_parse.proofs.ExpectedListLemmas.{AreBelow, all_below, none_below, with_it, without_it}
+use Rattle.ly_parse.specs.Private.LastRun.{IsLast}
+use Rattle.ly_parse.proofs.LastRunLemmas.{none_last}
 use Rattle.ly_parse.proofs.listing.expected.Goals as goal
 use Rattle.ly_parse.proofs.listing.expected.Goals.{then-branch+in_ok-push, else-branch}
 use Rattle.std.proofs.lemmas.List.{map_push}
@@ -17,6 +19,20 @@ pub is_expected-requires-clause-stack : goal.is_expected-requires-clause-stack
 is_expected-requires-clause-stack g c = subst (IsStack c.args.machine.now) (sym c.loop-number.invariant.whole)
     c.requires.stack
 
+pub is_expected-requires-clause-last : goal.is_expected-requires-clause-last
+is_expected-requires-clause-last g c = subst (λ w. IsLast c.args.machine.now w c.loop-number.last) (sym
+    c.loop-number.invariant.whole) c.loop-number.invariant.last
+
+pub loop-number-init : goal.loop-number-init
+loop-number-init g c =
+    let m = c.args.machine.now in
+    let stack = states_in c.args.stack.now in
+    record {
+      whole = ap (λ x. x.whole) c.new-copied.ensures;
+      last = none_last m stack _ c.in_ok-last.ensures.none (c.in_ok-last.ensures.room ∙ c.states.ensures.count);
+      listed = none_below m stack _ (ap (map (λ t. t.0)) c.new-list.ensures.items);
+    }
+
 pub loop-number-preserved : goal.loop-number-preserved
 loop-number-preserved g c =
     let m = c.args.machine.now in
@@ -28,6 +44,7 @@ loop-number-preserved g c =
     (IsExpected m k c.loop-number.copied.whole → ⊥)) c.in-Ok.ensures.1 c.in_ok-is_expected.ensures.expected) in
     record {
       whole = c.in_ok-is_expected.ensures.whole ∙ was.whole;
+      last = subst (λ w. IsLast m w c.is_expected.new.self) was.whole c.in_ok-is_expected.ensures.last;
       listed = elim c.if-branch.branch [
         | then-branch+in_ok-push w ↦
             subst (AreBelow m st (n + 1))
