@@ -6,7 +6,7 @@
 //! It asks for steady tables, so that every call ends.
 //! `take` answers a token by a small value, and `refusal` then tells of one that is refused; `feed` does both.
 //! Where a token is refused, the terminals that are expected in its place are listed, by runs on a copy of the stack as
-//! it stood before the token.
+//! it stood before the token; terminals on which the states of a run do the same share it.
 //! What runs of passes come to, reductions that change a state and no term, it keeps as shortcuts.
 //!
 //! Left out: where tokens come from, and what a refusal is printed as.
