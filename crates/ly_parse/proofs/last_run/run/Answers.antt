@@ -44,8 +44,8 @@ returns-in-Accept-clause-shared g c =
     let whole = c.args.copied.now.whole in
     let was = c.loop-copied.invariant in
     subst (λ met. IsShared m t whole met c.has_term.result) (sym (ap (λ x. x.members) c.insert.ensures.added))
-    (shared_accept m t whole c.loop-copied.copied.now c.loop-copied.met.members c.top-top.result.0 c.top-top.ensures.some
-    c.top-top.ensures.top was.back was.forth c.in-Accept.ensures c.has_term.result c.has_term.ensures)
+    (shared_accept m t whole c.loop-copied.copied.now c.loop-copied.met.members c.top-top.result.0
+    c.top-top.ensures.some c.top-top.ensures.top was.back was.forth c.in-Accept.ensures c.has_term.result c.has_term.ensures)
 
 pub returns-in-Error-clause-shared : goal.returns-in-Error-clause-shared
 returns-in-Error-clause-shared g c =
@@ -71,8 +71,8 @@ returns-then-not-branch-clause-shared g c =
     let stop = subst (λ b. IsMade m c.in-Reduce.rule.0 now b c.reduce.new.self.now) c.if-not-branch.true
     c.in_ok-reduce-in-Reduce.ensures.made in
     subst (λ met. IsShared m t whole met false) (sym (ap (λ x. x.members) c.insert.ensures.added))
-    (shared_fault m t whole now c.loop-copied.met.members c.top-top.result.0 c.top-top.ensures.some c.top-top.ensures.top
-    was.back was.forth c.in-Reduce.rule.0 c.in-Reduce.ensures stop.0 stop.1 stop.2)
+    (shared_fault m t whole now c.loop-copied.met.members c.top-top.result.0 c.top-top.ensures.some
+    c.top-top.ensures.top was.back was.forth c.in-Reduce.rule.0 c.in-Reduce.ensures stop.0 stop.1 stop.2)
 
 pub loop-copied-smaller : goal.loop-copied-smaller
 loop-copied-smaller g c =
@@ -105,9 +105,9 @@ loop-copied-preserved g c =
       states = c.in_ok-reduce-in-Reduce.ensures.states;
       ends = (reductions_fall m t ((run_bound + 1) * length whole) now next was.ends step).0;
       back = subst (λ met. (u : ℕ) → AreAlike m t u met → IsExpected m u next → IsExpected m u whole) members
-          (back_over m t whole now c.loop-copied.met.members c.top-top.result.0 c.top-top.ensures.some c.top-top.ensures.top
-          was.back was.forth rule next c.in-Reduce.ensures on);
+          (back_over m t whole now c.loop-copied.met.members c.top-top.result.0 c.top-top.ensures.some
+          c.top-top.ensures.top was.back was.forth rule next c.in-Reduce.ensures on);
       forth = subst (λ met. (u : ℕ) → AreAlike m t u met → IsExpected m u whole → IsExpected m u next) members
-          (forth_over m t whole now c.loop-copied.met.members c.top-top.result.0 c.top-top.ensures.some c.top-top.ensures.top
-          was.back was.forth rule next c.in-Reduce.ensures on);
+          (forth_over m t whole now c.loop-copied.met.members c.top-top.result.0 c.top-top.ensures.some
+          c.top-top.ensures.top was.back was.forth rule next c.in-Reduce.ensures on);
     }

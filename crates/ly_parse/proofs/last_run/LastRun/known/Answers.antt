@@ -28,7 +28,7 @@ returns g c =
       some = c.in-Some.is;
       alike = subst (AreAlike m last now) (take_all c.loop-state.state-index met c.loop-state-test.false
           ∙ c.members-state-items.ensures.these)
-          (subst (λ ms. AreAlike m last now (take c.loop-state.state-index ms)) (sym c.members-state-items.ensures.these)
-          c.loop-state.invariant);
+          (subst (λ ms. AreAlike m last now (take c.loop-state.state-index ms))
+          (sym c.members-state-items.ensures.these) c.loop-state.invariant);
       same = refl;
     }
