@@ -1,6 +1,6 @@
 -- Terminals that share a run.
-use Rattle.std.proofs.Common.{◌≡◌, ◌∙◌, ℕ, ◌<◌, ◌↔◌, Bool, IfSome, IsTrue, List, Option, [], ◌∷◌, ◌++◌, None, inl, inr, false, true}
-use Rattle.std.proofs.Common.{ap, length, refl, subst, sym}
+use Rattle.std.proofs.Common.{◌≡◌, ◌∙◌, ℕ, ◌<◌, ◌↔◌, Bool, IfSome, IsTrue, List, Option, [], ◌∷◌}
+use Rattle.std.proofs.Common.{◌++◌, None, inl, inr, false, true, ap, length, refl, subst, sym}
 use Rattle.std.proofs.lemmas.List.Elements.{Contains-push_cases}
 use Rattle.ly_base.specs.SparseSet.{with_member}
 use Rattle.ly_base.proofs.SparseSetLemmas.{with_member-new, with_member-old}
@@ -102,7 +102,8 @@ module _ (m : Machine) (t : ℕ) (whole now met : List ℕ) (top : ℕ) (some : 
 
   pub forth_over : (p : ℕ) (next : List ℕ) → reduce p ≡ action_of m top t → perform m now (reduce p) ≡ goes_on next
       → (u : ℕ) → AreAlike m t u (with_member met top) → IsExpected m u whole → IsExpected m u next
-  forth_over p next is made u alike x = behind m u now next (reduced p is u alike ∙ made) (forth u (before_top u alike) x)
+  forth_over p next is made u alike x =
+      behind m u now next (reduced p is u alike ∙ made) (forth u (before_top u alike) x)
 
 -- what is kept of the last run tells it of a terminal that shares it
 pub is_told : (m : Machine) (stack : List ℕ) (last : LastRun) (u : ℕ) (is : Bool) → IsLast m stack last

@@ -97,8 +97,8 @@ fn does_the_same(one: TableAction, other: TableAction) -> bool
     }
 }
 
-/// Runs on a terminal from the whole of a stack, until it is known whether it would be read, or accepted with. Notes the
-/// states that are on top.
+/// Runs on a terminal from the whole of a stack, until it is known whether it would be read, or accepted with. Notes
+/// the states that are on top.
 fn run<A: Rows<TableAction> + Drop, G: Rows<StateNo> + Drop>(
     machine: &MachineView<'_, A, G>,
     terminal: Sym,

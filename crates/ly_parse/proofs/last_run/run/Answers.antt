@@ -7,7 +7,8 @@ use Rattle.ly_parse.specs.Private.Copied.{IsMade}
 use Rattle.ly_parse.specs.Private.LastRun.{AreAlike, IsShared}
 use Rattle.ly_parse.specs.Expected.{IsExpected}
 use Rattle.ly_parse.proofs.ExpectedRunLemmas.{move_by}
-use Rattle.ly_parse.proofs.LastRunLemmas.{back_over, forth_over, shared_accept, shared_error, shared_fault, shared_shift}
+use Rattle.ly_parse.proofs.LastRunLemmas.{back_over, forth_over, shared_accept, shared_error, shared_fault}
+use Rattle.ly_parse.proofs.LastRunLemmas.{shared_shift}
 use Rattle.ly_parse.proofs.last_run.run.Goals as goal
 
 pub loop-copied-init : goal.loop-copied-init
@@ -45,7 +46,8 @@ returns-in-Accept-clause-shared g c =
     let was = c.loop-copied.invariant in
     subst (λ met. IsShared m t whole met c.has_term.result) (sym (ap (λ x. x.members) c.insert.ensures.added))
     (shared_accept m t whole c.loop-copied.copied.now c.loop-copied.met.members c.top-top.result.0
-    c.top-top.ensures.some c.top-top.ensures.top was.back was.forth c.in-Accept.ensures c.has_term.result c.has_term.ensures)
+    c.top-top.ensures.some c.top-top.ensures.top was.back was.forth c.in-Accept.ensures c.has_term.result
+    c.has_term.ensures)
 
 pub returns-in-Error-clause-shared : goal.returns-in-Error-clause-shared
 returns-in-Error-clause-shared g c =
