@@ -95,7 +95,7 @@ fn take_told(set: &TableSet, parser: &mut TableParser<'_>, place: &Place<'_>, to
         return Answer::Reads;
     };
     let at = place.at() as u64;
-    parser.take(&Token { terminal, at, text })
+    parser.go_on(&Token { terminal, at, text })
 }
 
 /// The first byte.

@@ -46,6 +46,21 @@ pub lands_from : (m : Machine) (l : Landing) (s : Shortcut Landing) → IsFrom (
     → Lands m l s.state.0 (action_from s.action)
 lands_from m l s h = subst (λ k. Lands m k s.state.0 (action_from s.action)) h.0 h.1
 
+-- what the tables do where it leads
+pub lands_there : (m : Machine) (l : Landing) (s : Shortcut Landing) → IsFrom (Lands m) l s
+    → Lands m l s.state.0 (action_of m s.state.0 l.terminal.0)
+lands_there m l s h =
+    let lands = lands_from m l s h in
+    subst (Lands m l s.state.0) (lands.2.acts ∙ ap (λ t. action_of m s.state.0 t.0) lands.1.terminal) lands
+
+-- the state there is one of the tables
+pub lands_known : (m : Machine) (l : Landing) (s : Shortcut Landing) → IsMachine m → IsFrom (Lands m) l s
+    → s.state.0 < states_of m
+lands_known m l s machine h =
+    let lands = lands_from m l s h in
+    known_behind m lands.0.terminal.0 lands.0.below.0 lands.0.top.0 s.state.0 machine lands.2.passes
+    (machine.gotos lands.0.below.0 l.left.0 lands.0.top.0 (goto_from m l lands.0 lands.1))
+
 -- A stack whose levels above some are the body of a rule, in a forest that has the rule's term, and what is left of it.
 pub record IsReduced (p : Parse) (n : ℕ) (r : TableRule) (low : ℕ) (m : Machine) (f : Grown)
     (levels kept : List code.Level) (l : Landing) (x : code.Level) (q : Grown) : Type 0 where

@@ -80,10 +80,12 @@ impl Before {
             self.fresh = false;
         }
         self.popped.reserve(self.kept - height)?;
-        while height < self.kept {
-            self.popped.push_reserved(stack[self.kept - 1].state);
-            self.kept -= 1;
+        let mut kept = self.kept;
+        while height < kept {
+            self.popped.push_reserved(stack[kept - 1].state);
+            kept -= 1;
         }
+        self.kept = kept;
         Ok(())
     }
 

@@ -1,6 +1,7 @@
 ghost use Rattle.std.specs.Prelude.{◌≡◌, ◌≢◌, ◌<◌, Err, IfOk, MatchOption};
-ghost use Rattle.ly_pack.specs.Machine.{states_of, IsMachine};
+ghost use Rattle.ly_pack.specs.Machine.{action_of, states_of, IsMachine};
 ghost use Rattle.ly_pack.specs.Steady.{IsSteady};
+ghost use Rattle.ly_pack.specs.Values.{action_from};
 ghost use Rattle.ly_parse.specs.Private.Shortcuts.{landing_of, AreShortcuts, IsFrom, Lands, Strands};
 ghost use Rattle.ly_parse.specs.declared.fault.ParseFault.TheVariants as fault;
 
@@ -87,32 +88,40 @@ impl Shortcuts<Landing> {
         ensures not_over { result ≢ Err fault.Over }
         ensures kept { AreShortcuts landing_of (Lands machine.now) self.new }
     {
-        match self.get(from) {
-            Some(shortcut) => Ok(shortcut),
-            None => self.land_by_tables(machine, from.below, from.left, from.terminal),
+        if let Some(shortcut) = self.get(from) {
+            return Ok(shortcut);
         }
+        let state = self.land_by_tables(machine, from.below, from.left, from.terminal)?;
+        let action = action_there(machine, state, from.terminal);
+        Ok(Shortcut {
+            from,
+            state,
+            action,
+        })
     }
 
-    /// The shortcut from the landing of a term of this left side above this state, by the tables; it is kept then.
-    #[inline(never)] // so that a shortcut that is kept has the registers, and the landing needs no room in memory
+    /// The state that the landing of a term of this left side above this state leads to, by the tables; the shortcut is
+    /// kept then.
+    #[inline(never)] // so that a shortcut that is kept has the registers; a number alone needs no room in memory
     fn land_by_tables<A: Rows<TableAction> + Drop, G: Rows<StateNo> + Drop>(
         &mut self,
         machine: &MachineView<'_, A, G>,
         below: StateNo,
         left: Sym,
         terminal: Sym,
-    ) -> Result<Shortcut<Landing>, ParseFault>
+    ) -> Result<StateNo, ParseFault>
         requires machine { IsMachine machine.now }
         requires steady { IsSteady machine.now }
         requires below { below.0 < states_of machine.now }
         requires left { left.0 < machine.now.nonterminals }
         requires terminal { terminal.0 < machine.now.terminals }
         requires kept { AreShortcuts landing_of (Lands machine.now) self.old }
-        ensures ok { IfOk result (λ s. IsFrom (Lands machine.now) (record {
+        ensures ok { IfOk result (λ s. Lands machine.now (record {
           below = below;
           left = left;
           terminal = terminal;
-        }) s) }
+        }) s.0 (action_of machine.now s.0 terminal.0)) }
+        ensures known { IfOk result (λ s. s.0 < states_of machine.now) }
         ensures faulty { result ≡ Err fault.FaultyTables → Strands machine.now (record {
           below = below;
           left = left;
@@ -130,6 +139,20 @@ impl Shortcuts<Landing> {
             return Err(ParseFault::FaultyTables);
         };
         self.keep(shortcut)?;
-        Ok(shortcut)
+        Ok(shortcut.state)
     }
+}
+
+/// What is done in a state before a terminal, by the tables.
+#[inline(never)] // as `land_by_tables`
+fn action_there<A: Rows<TableAction> + Drop, G: Rows<StateNo> + Drop>(
+    machine: &MachineView<'_, A, G>,
+    state: StateNo,
+    terminal: Sym,
+) -> TableAction
+    requires state { state.0 < states_of machine.now }
+    requires terminal { terminal.0 < machine.now.terminals }
+    ensures { action_from result ≡ action_of machine.now state.0 terminal.0 }
+{
+    machine.action(state, terminal)
 }

@@ -93,6 +93,21 @@ impl<'a, A: Rows<TableAction> + Drop, G: Rows<StateNo> + Drop> Parser<'a, A, G> 
         self.running.feed(token, &mut self.before)
     }
 
+    /// Takes a token, as `take` does; the parse isn't over.
+    #[inline(always)] // for it is one call
+    pub fn go_on(&mut self, token: &Token<'_>) -> Answer
+        requires goes_on { self.old.over ≡ false }
+        requires not_end { token.now.terminal.0 ≢ 0 }
+        requires terminal { token.now.terminal.0 < self.old.machine.terminals }
+        ensures { IsTake self.old (record {
+          terminal = token.now.terminal.0;
+          at = token.now.at;
+          bytes = token.now.text;
+        }) self.new result }
+    {
+        self.running.go_on(token, &mut self.before)
+    }
+
     /// What there is to tell of the token that was refused last: its number, and the terminals that would have been
     /// read in its place, or accepted with, as the stack stood before it.
     ///

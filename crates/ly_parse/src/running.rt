@@ -125,6 +125,21 @@ impl<'a, A: Rows<TableAction> + Drop, G: Rows<StateNo> + Drop> Running<'a, A, G>
         if self.over {
             return Answer::Over;
         }
+        self.go_on(token, before)
+    }
+
+    /// Takes a token, as `feed` does; the parse isn't over.
+    #[inline(always)] // likewise
+    pub(crate) fn go_on(&mut self, token: &Token<'_>, before: &mut Before) -> Answer
+        requires goes_on { self.old.over ≡ false }
+        requires not_end { token.now.terminal.0 ≢ 0 }
+        requires terminal { token.now.terminal.0 < self.old.machine.terminals }
+        ensures { IsTake (with_note self.old before.old) (record {
+          terminal = token.now.terminal.0;
+          at = token.now.at;
+          bytes = token.now.text;
+        }) (with_note self.new before.new) result }
+    {
         let answer = self.come(token, before);
         if answer.is_last() {
             self.over = true;

@@ -205,9 +205,11 @@ impl<A: Rows<TableAction> + Drop, G: Rows<StateNo> + Drop> Running<'_, A, G> {
     {
         let rule = self.machine.rule(number);
         let left = rule.left;
-        let Some(below) = self.stack.len().checked_sub(rule.body_length) else {
+        let height = self.stack.len();
+        if height < rule.body_length {
             return Err(ParseFault::FaultyTables);
-        };
+        }
+        let below = height - rule.body_length;
         let term = self.make(number, &rule.tree, below)?;
         let from = Landing {
             below: self.top_at(below),

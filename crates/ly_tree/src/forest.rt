@@ -88,7 +88,7 @@ impl Model for Forest {
 
 impl Forest {
     ghost use Rattle.ly_tree.specs.Costs.{budget};
-    ghost use Rattle.ly_tree.specs.Forest.{no_terms, term_of, terms_of, Keeps, StandsFor};
+    ghost use Rattle.ly_tree.specs.Forest.{no_terms, number_of, term_of, terms_of, Keeps, StandsFor};
     ghost use Rattle.ly_tree.specs.Private.Grown.{AllKnown};
 
     /// No leaves and no nodes.
@@ -124,7 +124,9 @@ impl Forest {
             || terminal.0 > u16::MAX as u32
             || start > u32::MAX as usize
         {
-            return self.long_leaf(terminal, text.bytes());
+            let (high, low) = parts_of(self.long_leaves.len())?;
+            self.long_leaf(high, low, terminal, text.bytes())?;
+            return Ok(TermRef::LongLeaf { high, low });
         }
         self.texts.push(text)?;
         Ok(TermRef::ShortLeaf {
@@ -134,18 +136,24 @@ impl Forest {
         })
     }
 
-    /// Adds a long leaf, and answers it.
-    #[inline(never)] // so that a short one has the registers
-    fn long_leaf(&mut self, terminal: Sym, text: &[u8]) -> Result<TermRef, OutOfMemory>
-        ensures stands { IfOk result (λ r. StandsFor self.new r (leaf terminal.0 text.now)) }
+    /// Adds a long leaf, whose number has these parts.
+    #[inline(never)] // so that a short one has the registers; an answer without a number needs no room in memory
+    fn long_leaf(
+        &mut self,
+        high: u16,
+        low: u32,
+        terminal: Sym,
+        text: &[u8],
+    ) -> Result<(), OutOfMemory>
+        requires { number_of high low ≡ length self.old.lists.long_leaves }
+        ensures stands { OnOk result (StandsFor self.new (TermRef.LongLeaf high low) (leaf terminal.0 text.now)) }
         ensures keeps { OnOk result (Keeps self.old self.new) }
         ensures pays { OnOk result ((each byte : ℕ) → budget each byte self.new
             ≡ budget each byte self.old + byte * length text.now) }
         ensures err { OnErr result (self.new ≡ self.old) }
     {
-        let (high, low) = parts_of(self.long_leaves.len())?;
         self.long_leaves.push(terminal, text)?;
-        Ok(TermRef::LongLeaf { high, low })
+        Ok(())
     }
 
     /// Adds a node, whose children are the terms at these places of a body, which count from 1, and answers it. After
@@ -170,7 +178,9 @@ impl Forest {
             || rule.0 > u16::MAX as u32
             || start > u32::MAX as usize
         {
-            return self.long_node(rule, body, places);
+            let (high, low) = parts_of(self.long_nodes.len())?;
+            self.long_node(high, low, rule, body, places)?;
+            return Ok(TermRef::LongNode { high, low });
         }
         pick(&mut self.children, body, places)?;
         Ok(TermRef::Node {
@@ -180,24 +190,26 @@ impl Forest {
         })
     }
 
-    /// Adds a long node, and answers it.
-    #[inline(never)] // so that a short node has the registers
+    /// Adds a long node, whose number has these parts.
+    #[inline(never)] // as `long_leaf`
     fn long_node<R: Refers>(
         &mut self,
+        high: u16,
+        low: u32,
         rule: RuleNo,
         body: &[R],
         places: &[u32],
-    ) -> Result<TermRef, OutOfMemory>
+    ) -> Result<(), OutOfMemory>
+        requires number { number_of high low ≡ length self.old.lists.long_nodes }
         requires known { All (λ r. IsSome (term_of self.old (R.referred r))) body.now }
         requires places { All (λ i. (1 ≤ i) × (i ≤ length body.now)) places.now }
-        ensures stands { IfOk result (λ r. StandsFor self.new r
+        ensures stands { OnOk result (StandsFor self.new (TermRef.LongNode high low)
             (built rule.0 (at_places (terms_of self.old (map R.referred body.now)) places.now))) }
         ensures keeps { OnOk result (Keeps self.old self.new) }
         ensures pays { OnOk result ((each byte : ℕ) → budget each byte self.new
             ≡ budget each byte self.old + each * length places.now) }
         ensures err { OnErr result (self.new ≡ self.old) }
     {
-        let (high, low) = parts_of(self.long_nodes.len())?;
         let start = self.children.len();
         self.long_nodes.reserve(1)?;
         pick(&mut self.children, body, places)?;
@@ -206,7 +218,7 @@ impl Forest {
             start,
             count: places.len(),
         });
-        Ok(TermRef::LongNode { high, low })
+        Ok(())
     }
 
     /// Looks at a term: at a node, whatever the children are.

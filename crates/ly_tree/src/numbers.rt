@@ -8,6 +8,7 @@ const LOWER: usize = 4_294_967_296;
 
 /// The two parts of the number of a long leaf or node, which have 48 bits together. So many of these as would need more
 /// take over 4,000 terabytes, and are out of memory.
+#[inline(always)] // so that its answer needs no room in memory
 pub(crate) fn parts_of(number: usize) -> Result<(u16, u32), OutOfMemory>
     ensures { IfOk result (λ parts. number_of parts.0 parts.1 ≡ number) }
 {

@@ -35,8 +35,8 @@ returns-in_default-clause-taken c ended is =
       c.requires.goes_on,
     )
 
-pub take-requires-clause-not_end : goal.take-requires-clause-not_end
-take-requires-clause-not_end c =
+pub go_on-requires-clause-not_end : goal.go_on-requires-clause-not_end
+go_on-requires-clause-not_end c =
     let p = scan_part_of c.args.set.now in
     let q = c.args.place.now in
     let is = c.requires.told in
@@ -46,8 +46,8 @@ take-requires-clause-not_end c =
     c.first_of.ensures (c.told_terminal.ensures p c.literals.ensures.literals)) c.in-Some.is)).0 in
     omega (arith, low)
 
-pub take-requires-clause-terminal : goal.take-requires-clause-terminal
-take-requires-clause-terminal c =
+pub go_on-requires-clause-terminal : goal.go_on-requires-clause-terminal
+go_on-requires-clause-terminal c =
     let p = scan_part_of c.args.set.now in
     let q = c.args.place.now in
     let is = c.requires.told in
@@ -65,11 +65,11 @@ returns-clause-taken c ended is =
     c.new-text.result c.first_of.result c.told_terminal.result text c.first_of.ensures
     (c.told_terminal.ensures p c.literals.ensures.literals)) c.in-Some.is in
     let bytes = text ∙ ap (λ n. take n q.rest) (sym is.taken) in
-    taken ended p c.args.parser.now.machine q c.args.parser.now c.take.new.self is.lexeme _ c.take.result
+    taken ended p c.args.parser.now.machine q c.args.parser.now c.go_on.new.self is.lexeme _ c.go_on.result
     c.requires.runs.machine refl c.requires.goes_on
     (c.requires.runs.returned is.lexeme.rule.0 (take is.lexeme.taken q.rest) c.in-Some.terminal.0 there).0
     (fast_of ended (scanner_in p) q is.lexeme is.stands) (record {
       at = c.at-at.ensures;
       bytes = bytes;
       terminal = ap (terminal_in p is.lexeme.rule.0) bytes ∙ there;
-    }) c.take.ensures
+    }) c.go_on.ensures

@@ -1,7 +1,8 @@
-use Rattle.std.proofs.Common.{[], arith}
+use Rattle.std.proofs.Common.{[], ◌∙◌, ap, arith, length, sym}
+use Rattle.std.proofs.lemmas.List.{length-map}
 use Rattle.ly_tree.proofs.CostLemmas.{short_pays}
 use Rattle.ly_tree.proofs.GrownLemmas.{lists_keep, lists_known, short_joined, short_stands}
-use Rattle.ly_tree.specs.Private.Grown.{lists_from}
+use Rattle.ly_tree.specs.Private.Grown.{lists_from, long_leaf}
 use Rattle.ly_tree.proofs.forest.Forest.leaf.Goals as goal
 
 pub invariant_of-self-2 : goal.invariant_of-self-2
@@ -31,3 +32,8 @@ returns-clause-pays c each byte =
     short_pays c.self.inside.texts c.push.new.self c.args.text.now c.self.inside.long_leaves
     c.self.inside.long_nodes.items c.self.inside.children.items
     c.args.self.now each byte c.self.invariant c.self.view_is c.in_ok-push.ensures.ok
+
+pub long_leaf-requires : goal.long_leaf-requires
+long_leaf-requires c =
+    c.in_ok-high.ensures ∙ (c.len-then-len.ensures ∙ (sym (length-map c.self.inside.long_leaves long_leaf)
+    ∙ ap (λ f. length f.lists.long_leaves) c.self.view_is))

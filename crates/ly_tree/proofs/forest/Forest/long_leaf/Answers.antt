@@ -1,4 +1,5 @@
-use Rattle.std.proofs.Common.{[], ◌∷◌, arith}
+use Rattle.std.proofs.Common.{[], ◌∷◌, ◌∙◌, ap, length, sym}
+use Rattle.std.proofs.lemmas.List.{length-map}
 use Rattle.ly_tree.proofs.CostLemmas.{long_pays}
 use Rattle.ly_tree.proofs.GrownLemmas.{lists_keep, lists_known, long_joined, long_stands}
 use Rattle.ly_tree.specs.Private.Grown.{lists_from, long_leaf}
@@ -16,8 +17,9 @@ invariant_of-self-2 c =
 pub returns-clause-stands : goal.returns-clause-stands
 returns-clause-stands c =
     long_stands c.self.inside.texts c.self.inside.long_leaves c.push.new.self c.self.inside.long_nodes.items
-    c.self.inside.children.items (c.args.terminal, c.args.text.now) _ _ c.in_ok-push.ensures.ok
-    (omega (arith, c.in_ok-high.ensures))
+    c.self.inside.children.items (c.args.terminal, c.args.text.now) c.args.high c.args.low c.in_ok-push.ensures.ok
+    (c.requires ∙ (ap (λ f. length f.lists.long_leaves) (sym c.self.view_is)
+    ∙ length-map c.self.inside.long_leaves long_leaf))
 
 pub returns-clause-keeps : goal.returns-clause-keeps
 returns-clause-keeps c =

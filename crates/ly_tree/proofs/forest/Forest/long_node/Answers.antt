@@ -1,4 +1,4 @@
-use Rattle.std.proofs.Common.{◌∙◌, ◌+◌, ◌*◌, ◌++◌, [], ◌∷◌, ap, arith, length, map}
+use Rattle.std.proofs.Common.{◌∙◌, ◌+◌, ◌*◌, ◌++◌, [], ◌∷◌, ap, arith, length, map, sym}
 use Rattle.std.proofs.lemmas.List.{length-map}
 use Rattle.ly_tree.proofs.CostLemmas.{long_node_pays}
 use Rattle.ly_tree.proofs.GrownLemmas.{long_node_keeps, long_node_known, long_node_stands}
@@ -31,9 +31,10 @@ returns-clause-stands g c =
     long_node_stands c.self.inside.texts c.self.inside.long_leaves c.self.inside.long_nodes.items
     c.push_reserved.new.self.items c.self.inside.children.items c.pick.new.children.items
     (map (ref_at refs) c.args.places.now) c.args.self.now span c.self.invariant c.self.view_is c.in_ok-pick.ensures.ok
-    (c.push_reserved.ensures.items ∙ ap (λ xs. xs ++ span ∷ []) c.in_ok-reserve.ensures.items) c.in_ok-high.high
-    c.in_ok-high.low (at_places (terms_of c.args.self.now refs) c.args.places.now) (omega arith)
-    (omega (arith, length-map c.args.places.now (ref_at refs))) (omega (arith, c.in_ok-high.ensures))
+    (c.push_reserved.ensures.items ∙ ap (λ xs. xs ++ span ∷ []) c.in_ok-reserve.ensures.items) c.args.high
+    c.args.low (at_places (terms_of c.args.self.now refs) c.args.places.now) (omega arith)
+    (omega (arith, length-map c.args.places.now (ref_at refs)))
+    (c.requires.number ∙ ap (λ f. length f.lists.long_nodes) (sym c.self.view_is))
     (body_stands g.R.Refers.referred c.args.body.now c.args.self.now c.args.places.now c.requires.known
     c.requires.places)
 

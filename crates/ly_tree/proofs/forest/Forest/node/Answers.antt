@@ -1,4 +1,4 @@
-use Rattle.std.proofs.Common.{◌∙◌, ◌+◌, ◌*◌, ap, arith, map}
+use Rattle.std.proofs.Common.{◌∙◌, ◌+◌, ◌*◌, ap, arith, length, map}
 use Rattle.std.proofs.lemmas.List.{length-map}
 use Rattle.ly_tree.proofs.CostLemmas.{node_pays}
 use Rattle.ly_tree.proofs.GrownLemmas.{node_keeps, node_known, node_stands}
@@ -46,3 +46,7 @@ returns-clause-pays g c each byte =
     c.pick.new.children.items (map at c.args.places.now) c.args.self.now each byte c.self.view_is
     c.in_ok-pick.ensures.ok
     ∙ ap (λ n. budget each byte c.args.self.now + each * n) (length-map c.args.places.now at)
+
+pub long_node-requires-clause-number : goal.long_node-requires-clause-number
+long_node-requires-clause-number g c =
+    omega (arith, c.in_ok-high.ensures, c.len.ensures, ap (λ f. length f.lists.long_nodes) c.self.view_is)
