@@ -6,7 +6,7 @@ use crate::decided::Decided;
 use crate::lex_doubts::say_lex_doubts;
 use crate::places::Places;
 use crate::scanner::say_other_bytes;
-use crate::surveying::{Accepted, first_of, say_numbered};
+use crate::surveying::{Accepted, Wish, first_of, say_numbered};
 use ly_base::{OutOfMemory, Sym, locate};
 use ly_examples::{unreduced_rules, unreturned_terminals, unused_terminals};
 use ly_page::Page;
@@ -43,14 +43,15 @@ const STANDS_NOWHERE: Said<'static> = Said {
     more: b"stand in no rule\n",
 };
 
-/// Says what is doubtful, a line each: first of the lex file, and then of the yacc file. That nothing is, is said where
-/// there are no conflicts either.
+/// Says what is doubtful, a line each: first of the lex file, and then of the yacc file; and answers whether anything
+/// is. That nothing is, is said where there are no conflicts either.
 pub(crate) fn say_doubts(
     alloc: Global,
     page: &mut Page,
     files: &Accepted<'_>,
     places: &Places,
-) -> Result<(), OutOfMemory>
+    wish: Wish,
+) -> Result<bool, OutOfMemory>
     requires { IsBreadthFirst files.now.dfa.now }
 {
     let teller = Teller {
@@ -58,23 +59,29 @@ pub(crate) fn say_doubts(
         places,
     };
     let before = page.len();
-    say_lex_doubts(alloc, page, files)?;
-    teller.say_of_yacc(alloc, page)?;
-    if page.len() == before && files.resolved.conflicts().is_empty() {
+    if !wish.grammar_alone {
+        say_lex_doubts(alloc, page, files)?;
+    }
+    teller.say_of_yacc(alloc, page, wish)?;
+    let are_doubtful = page.len() != before;
+    if !are_doubtful && files.resolved.conflicts().is_empty() {
         page.say(b"No doubts.\n");
     }
-    say_other_bytes(alloc, page, files)
+    if !wish.grammar_alone {
+        say_other_bytes(alloc, page, files)?;
+    }
+    Ok(are_doubtful)
 }
 
 impl Teller<'_> {
     /// Says what is doubtful in the yacc file.
-    fn say_of_yacc(&self, alloc: Global, page: &mut Page) -> Result<(), OutOfMemory>
+    fn say_of_yacc(&self, alloc: Global, page: &mut Page, wish: Wish) -> Result<(), OutOfMemory>
         requires { IsBreadthFirst self.now.files.dfa.now }
     {
         self.say_removed(page);
         self.say_unreduced(alloc, page)?;
         self.say_losing(alloc, page)?;
-        self.say_terminals(alloc, page)?;
+        self.say_terminals(alloc, page, wish)?;
         self.say_declared_again(alloc, page)?;
         self.say_undecided(alloc, page)
     }
@@ -127,7 +134,7 @@ impl Teller<'_> {
     }
 
     /// Says which terminals stand in no rule, and which of the others no rule of the lex file returns.
-    fn say_terminals(&self, alloc: Global, page: &mut Page) -> Result<(), OutOfMemory>
+    fn say_terminals(&self, alloc: Global, page: &mut Page, wish: Wish) -> Result<(), OutOfMemory>
         requires { IsBreadthFirst self.now.files.dfa.now }
     {
         let unused = unused_terminals(alloc, self.files.spec)?;
@@ -137,6 +144,9 @@ impl Teller<'_> {
             &self.precedence_names(alloc, &unused)?,
             STANDS_NOWHERE,
         );
+        if wish.grammar_alone {
+            return Ok(());
+        }
         let unreturned = unreturned_terminals(alloc, self.files.spec, self.files.dfa)?;
         let is_unreturned = Said {
             one: b" is returned by no rule of ",

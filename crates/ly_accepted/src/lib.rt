@@ -5,7 +5,8 @@
 //! the states of the scanner and of the parser, and their picture.
 //!
 //! What is said is found by `ly_examples`, whose contracts it has: which rules and tokens are of no use, and at which
-//! strings both actions of a conflict are possible. How things are worded is tested alone.
+//! strings both actions of a conflict are possible. How many conflicts there are is counted (`AreFoundIn`). How things
+//! are worded, and whether anything is doubtful, is tested alone.
 //!
 //! Left out: whether files are accepted, which is given.
 #![tactic(auto)]
@@ -43,4 +44,4 @@ mod ways;
 mod yields;
 
 pub use states::Tables;
-pub use surveying::{Accepted, Explanation, Wish, survey};
+pub use surveying::{Accepted, Explanation, Findings, Wish, survey};

@@ -1,4 +1,5 @@
-ghost use Rattle.std.specs.Prelude.{◌≡◌, IfOk, true};
+ghost use Rattle.std.specs.Prelude.{IfOk};
+ghost use Rattle.ly_accepted.specs.Findings.{AreFoundIn};
 ghost use Rattle.ly_subset.specs.Automaton.{IsBreadthFirst};
 
 use crate::conflicts::say_conflicts;
@@ -12,6 +13,7 @@ use ly_base::{OutOfMemory, locate};
 use ly_join::Spec;
 use ly_lexread::LexFile;
 use ly_page::{Named, Page};
+use ly_report::ConflictCounts;
 use ly_resolve::Resolved;
 use ly_subset::Dfa;
 use std::alloc::Global;
@@ -23,6 +25,8 @@ pub struct Wish {
     pub states: bool,
     /// Whether their picture is.
     pub picture: bool,
+    /// Whether nothing is to be said of the lex file, since it stands for none.
+    pub grammar_alone: bool,
 }
 
 /// What is said of two files.
@@ -35,8 +39,17 @@ pub struct Explanation {
     /// A picture of the parser's states, in the language of Graphviz's `dot`, where it is asked for and the files are
     /// accepted.
     pub picture: Option<Vec<u8>>,
-    /// Whether the files are accepted.
-    pub accepted: bool,
+    /// What is found in the files, where they are accepted.
+    pub findings: Option<Findings>,
+}
+
+/// What is found in two files that are accepted.
+#[derive(Clone, Copy, Debug, PartialEq, Eq)]
+pub struct Findings {
+    /// How many conflicts there are of each kind.
+    pub conflicts: ConflictCounts,
+    /// Whether anything is doubtful.
+    pub are_doubtful: bool,
 }
 
 /// Two files that are accepted, and what is known of them.
@@ -77,56 +90,63 @@ pub fn survey(
     wish: Wish,
 ) -> Result<Explanation, OutOfMemory>
     requires { IsBreadthFirst files.dfa.now }
-    ensures { IfOk result (λ e. e.accepted ≡ true) }
+    ensures { IfOk result (AreFoundIn files.entry.resolved.now.spec) }
 {
+    let (text, are_doubtful) = text_of(alloc, &files, wish)?;
     Ok(Explanation {
-        text: text_of(alloc, &files)?,
-        states: states_if(alloc, &files, tables, wish.states)?,
+        text,
+        states: states_if(alloc, &files, tables, wish)?,
         picture: picture_if(alloc, &files, wish.picture)?,
-        accepted: true,
+        findings: Some(Findings {
+            conflicts: ConflictCounts::of(files.resolved),
+            are_doubtful,
+        }),
     })
 }
 
-/// What is doubtful, where the conflicts are, and which rule has which number.
-fn text_of(alloc: Global, files: &Accepted<'_>) -> Result<Vec<u8>, OutOfMemory>
+/// What is doubtful, where the conflicts are, and which rule has which number; and whether anything is doubtful.
+fn text_of(alloc: Global, files: &Accepted<'_>, wish: Wish) -> Result<(Vec<u8>, bool), OutOfMemory>
     requires { IsBreadthFirst files.now.dfa.now }
 {
     let places = Places::of(alloc, files.yacc.bytes)?;
     let mut page = Page::new(alloc);
-    let said = say_all(alloc, &mut page, files, &places);
+    let said = say_all(alloc, &mut page, files, &places, wish);
     drop(places);
-    said?;
-    page.finish()
+    let are_doubtful = said?;
+    Ok((page.finish()?, are_doubtful))
 }
 
-/// Says all that, by where symbols and rules stand.
+/// Says all that, by where symbols and rules stand, and answers whether anything is doubtful.
 fn say_all(
     alloc: Global,
     page: &mut Page,
     files: &Accepted<'_>,
     places: &Places,
-) -> Result<(), OutOfMemory>
+    wish: Wish,
+) -> Result<bool, OutOfMemory>
     requires { IsBreadthFirst files.now.dfa.now }
 {
-    say_sizes(page, files);
-    say_doubts(alloc, page, files, places)?;
+    say_sizes(page, files, wish);
+    let are_doubtful = say_doubts(alloc, page, files, places, wish)?;
     say_conflicts(alloc, page, files, places)?;
     say_rules(page, files, places);
-    Ok(())
+    Ok(are_doubtful)
 }
 
-/// The states of the scanner and of the parser, where they are asked for.
+/// The states of the scanner, where there is a lex file, and of the parser, where they are asked for.
 fn states_if(
     alloc: Global,
     files: &Accepted<'_>,
     tables: &Tables,
-    asked: bool,
+    wish: Wish,
 ) -> Result<Option<Vec<u8>>, OutOfMemory> {
-    if !asked {
+    if !wish.states {
         return Ok(None);
     }
     let mut page = Page::new(alloc);
-    say_scanner(alloc, &mut page, files)?;
+    if !wish.grammar_alone {
+        say_scanner(alloc, &mut page, files)?;
+    }
     say_states(alloc, &mut page, files, tables)?;
     Ok(Some(page.finish()?))
 }
@@ -145,14 +165,19 @@ fn picture_if(
     Ok(Some(page.finish()?))
 }
 
-/// Says that two files are accepted, and how large their parser is.
-fn say_sizes(page: &mut Page, files: &Accepted<'_>) {
+/// Says that files are accepted, and how large their parser is.
+fn say_sizes(page: &mut Page, files: &Accepted<'_>, wish: Wish) {
     let grammar = files.spec.grammar();
     let rules = grammar.rules().len().saturating_sub(1);
-    page.say(files.lex.name.as_bytes());
-    page.say(b" and ");
-    page.say(files.yacc.name.as_bytes());
-    page.say(b" are accepted: ");
+    if wish.grammar_alone {
+        page.say(files.yacc.name.as_bytes());
+        page.say(b" is accepted: ");
+    } else {
+        page.say(files.lex.name.as_bytes());
+        page.say(b" and ");
+        page.say(files.yacc.name.as_bytes());
+        page.say(b" are accepted: ");
+    }
     page.say_count(rules, b"rule, ", b"rules, ");
     page.say_count(grammar.terminals() as usize, b"terminal, ", b"terminals, ");
     page.say_count(

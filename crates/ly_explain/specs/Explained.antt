@@ -1,21 +1,36 @@
 -- When an explanation says that two files are accepted.
-use Rattle.std.specs.Prelude.{◌≢◌, ℕ, List, MatchBool}
+use Rattle.std.specs.Prelude.{◌≢◌, ℕ, List, MatchOption, codes}
 use Rattle.ly_base.specs.Limits.{Sizes}
 use Rattle.ly_join.specs.Grammar.{Grammar}
 use Rattle.ly_join.specs.Joined.{Spec}
 use Rattle.ly_generate.specs.Accepted.{IsFit, IsRefusedFor, Specifies}
 use Rattle.ly_generate.specs.declared.gen_fault.GenFault.{GenFault}
 use Rattle.ly_generate.specs.declared.gen_fault.GenFault.TheVariants.{OutOfMemory}
+use Rattle.ly_report.specs.Counts.{AreCounts}
+use Rattle.ly_report.specs.declared.counts.ConflictCounts.{ConflictCounts}
+use Rattle.ly_accepted.specs.Findings.{AreFoundIn}
 use Rattle.ly_accepted.specs.declared.surveying.Explanation.{Explanation}
 
--- The bytes of both files say a specification within the limits, whose tables can be made.
-pub record IsWellFormed (limits : Sizes) (lex yacc : List ℕ) : Type 0 where
+-- The bytes of both files say a specification within the limits, whose tables can be made, and which has so many
+-- conflicts.
+pub record IsWellFormed (limits : Sizes) (lex yacc : List ℕ) (counts : ConflictCounts) : Type 0 where
   pub spec : Spec
   pub specifies : Specifies limits lex yacc spec
   pub useful : Grammar
   pub fit : IsFit limits spec useful
+  pub are_counts : AreCounts spec counts
 
--- It says that they are accepted where they are well formed, and else there is a fault that refuses them.
+-- It says that they are accepted and how many conflicts there are, where they are well formed; and else there is a
+-- fault that refuses them.
 abbrev pub IsExplained : Sizes → List ℕ → List ℕ → Explanation → Type 0
-IsExplained limits lex yacc e = MatchBool e.accepted (IsWellFormed limits lex yacc)
+IsExplained limits lex yacc e = MatchOption e.findings
     ((fault : GenFault) × (fault ≢ OutOfMemory) × IsRefusedFor limits lex yacc fault)
+    (λ found. IsWellFormed limits lex yacc found.conflicts)
+
+-- a lex file without rules, which stands for one that isn't there
+abbrev pub no_rules : List ℕ
+no_rules = codes "%%\n"
+
+-- it says that files of a specification are accepted, whose tables can be made
+abbrev pub IsFitFor : Sizes → Spec → Explanation → Type 0
+IsFitFor limits s e = ((useful : Grammar) × IsFit limits s useful) × AreFoundIn s e

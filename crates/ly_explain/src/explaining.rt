@@ -1,13 +1,13 @@
-ghost use Rattle.std.specs.Prelude.{◌≡◌, IfErr, IfOk, true};
+ghost use Rattle.std.specs.Prelude.{◌≡◌, IfErr, IfOk};
+ghost use Rattle.ly_accepted.specs.Findings.{AreFoundIn};
 ghost use Rattle.ly_base.specs.Limits.{least_of, sizes_in, Sizes};
 ghost use Rattle.ly_base.specs.declared.version.Version.TheVariants.{V2};
 ghost use Rattle.ly_emit.specs.Tables.{AreShapesWithin};
-ghost use Rattle.ly_generate.specs.Accepted.{HasSteadyTables, IsFit, IsRefusedFor, IsUnfitFor};
+ghost use Rattle.ly_generate.specs.Accepted.{HasSteadyTables, IsRefusedFor, IsUnfitFor};
 ghost use Rattle.ly_grammar.specs.Reduction.{KeepsUseful};
-ghost use Rattle.ly_join.specs.Grammar.{Grammar};
 ghost use Rattle.ly_lr0.specs.Automaton as parser;
 ghost use Rattle.ly_subset.specs.Automaton.{IsBreadthFirst};
-ghost use Rattle.ly_explain.specs.Explained.{IsExplained, IsWellFormed};
+ghost use Rattle.ly_explain.specs.Explained.{IsExplained, IsFitFor, no_rules};
 
 use ly_accepted::{Accepted, Explanation, Tables, Wish, survey};
 use ly_base::{Limits, OutOfMemory, Version};
@@ -62,10 +62,34 @@ pub fn explain(
                 text: page.finish()?,
                 states: None,
                 picture: None,
-                accepted: false,
+                findings: None,
             })
         }
     }
+}
+
+/// A lex file without rules, which stands for one that isn't there.
+const NO_RULES: &[u8] = b"%%\n";
+
+/// Says of a yacc file alone what `explain` says of it beside a lex file, and nothing of any lex file. It is accepted
+/// where it is so beside a lex file without rules.
+///
+/// A limit above that of version 2 of the table file counts as that. `OutOfMemory` comes where a growth was refused.
+pub fn explain_grammar(
+    alloc: Global,
+    yacc: Named<'_>,
+    limits: &Limits,
+    wish: Wish,
+) -> Result<Explanation, OutOfMemory>
+    ensures { IfOk result
+        (IsExplained (least_of limits.now (sizes_in V2)) no_rules yacc.entry.bytes.now) }
+{
+    let wish = Wish {
+        states: wish.states,
+        picture: wish.picture,
+        grammar_alone: true,
+    };
+    explain(alloc, Named::new("", NO_RULES), yacc, limits, wish)
 }
 
 /// What is said of two files that are accepted; a fault where they are refused.
@@ -76,8 +100,7 @@ fn of_accepted(
     limits: &Limits,
     wish: Wish,
 ) -> Result<Explanation, GenFault>
-    ensures accepted { IfOk result (λ e. e.accepted ≡ true) }
-    ensures formed { IfOk result (λ _. IsWellFormed limits.now lex.entry.bytes.now yacc.entry.bytes.now) }
+    ensures formed { IfOk result (IsExplained limits.now lex.entry.bytes.now yacc.entry.bytes.now) }
     ensures refused { IfErr result (IsRefusedFor limits.now lex.entry.bytes.now yacc.entry.bytes.now) }
 {
     let given = read_specification(alloc, lex.bytes, yacc.bytes, limits)?;
@@ -110,8 +133,7 @@ fn of_read(
 ) -> Result<Explanation, GenFault>
     requires shapes { AreShapesWithin read.spec.now }
     requires order { IsBreadthFirst read.dfa.now }
-    ensures accepted { IfOk result (λ e. e.accepted ≡ true) }
-    ensures fit { IfOk result (λ _. (useful : Grammar) × IsFit limits.now read.entry.spec.now useful) }
+    ensures fit { IfOk result (IsFitFor limits.now read.entry.spec.now) }
     ensures unfit { IfErr result (IsUnfitFor limits.now read.entry.spec.now) }
 {
     let reduced = reduce(alloc, read.spec.grammar())?;
@@ -130,7 +152,7 @@ fn of_automaton(
     requires order { IsBreadthFirst read.dfa.now }
     requires lawful { parser.IsLr0Automaton lr0.now }
     requires useful { KeepsUseful read.spec.now.grammar lr0.now.grammar }
-    ensures accepted { IfOk result (λ e. e.accepted ≡ true) }
+    ensures found { IfOk result (AreFoundIn read.entry.spec.now) }
     ensures steady { IfOk result (λ _. HasSteadyTables read.entry.spec.now lr0.now.grammar) }
     ensures unfit { IfErr result (λ fault. (limits : Sizes) → IsUnfitFor limits read.entry.spec.now fault) }
 {
@@ -150,8 +172,9 @@ fn told(
     tables: &Tables,
     wish: Wish,
 ) -> Result<Explanation, OutOfMemory>
-    requires { IsBreadthFirst read.dfa.now }
-    ensures { IfOk result (λ e. e.accepted ≡ true) }
+    requires order { IsBreadthFirst read.dfa.now }
+    requires same { resolved.now.spec ≡ read.spec.now }
+    ensures { IfOk result (AreFoundIn read.entry.spec.now) }
 {
     let indented = indented_lines(alloc, read.lex.bytes)?;
     let files = Accepted {

@@ -1,7 +1,7 @@
 -- The words that ask for something are taken, and ask for just that.
 use Rattle.std.proofs.Common.{◌≡◌, ◌∙◌, ◌++◌, ◌∷◌, [], List, ℕ, zero, suc, Some, None, true, refl, sym, ap}
 use Rattle.std.proofs.Common.{Bool, Err, IsErrAnd, MatchResult, Ok, Option, Result, ap₂, arith, codes, drop, false}
-use Rattle.std.proofs.Common.{find, inr}
+use Rattle.std.proofs.Common.{find, inl, inr, is_some}
 use Rattle.std.proofs.Common.{map, option_and_then, option_map, slice_index, subst, take, true≢false, unwrap_or}
 use Rattle.std.specs.List.{flat_map, insert}
 use Rattle.clap.specs.Walk.{Text, answers_to, finished, nothing_held, walk_from}
@@ -9,13 +9,16 @@ use Rattle.clap.specs.Simple.{Shape, built, help_shape, label_of}
 use Rattle.clap.proofs.OnLiterals.{clap_on_literals}
 use Rattle.ly_base.specs.declared.version.Version.{Version}
 use Rattle.ly_base.specs.declared.version.Version.TheVariants.{V1, V2}
-use Rattle.ly_words.specs.CommandLine.{line_app, line_takes, request_by, request_of, subcommand_in, version_by}
+use Rattle.ly_words.specs.CommandLine.{expected_by, line_app, line_takes, request_by, request_of, subcommand_in}
+use Rattle.ly_words.specs.CommandLine.{version_by}
 use Rattle.ly_print.specs.declared.answer_form.AnswerForm.{AnswerForm}
 use Rattle.ly_print.specs.declared.answer_form.AnswerForm.TheVariants.{Json, Plain}
-use Rattle.ly_words.specs.Paths.{ArePathWords, AskFor, IsMeant, IsPathWord, as_list, flags_of, form_words, name_of}
-use Rattle.ly_words.specs.Paths.{number_of, operands_of, pointing_words, words_at, written_of}
+use Rattle.ly_words.specs.Paths.{ArePathWords, AskFor, IsCount, IsMeant, IsPathWord, StandAlone, as_list, count_words}
+use Rattle.ly_words.specs.Paths.{flags_of, form_words, name_of, number_of, operands_of, pointing_words, strict_words}
+use Rattle.ly_words.specs.Paths.{words_at, written_of}
 use Rattle.ly_words.specs.Request.{Request, build, check, explain, lines, run, run_placed, table_tokens}
 use Rattle.ly_words.specs.Request.{tokens, try, try_placed}
+use Rattle.ly_words.specs.declared.command.Strictness.{Strictness}
 use Rattle.ly_words.proofs.PathLemmas.{AreWords, IsLongName, Word, all_taken, held_after, level_taken, long, path}
 use Rattle.ly_words.proofs.PathLemmas.{rest_passes, rows_are, text_of}
 use Rattle.ly_words.proofs.SubcommandLemmas.{Enters, line_passes, subcommand_rows_are}
@@ -40,7 +43,7 @@ enters (tokens lex text by) =
     record { simple = refl; has_name = refl; met = refl; passes = refl; found = refl; rest = refl }
 enters (table_tokens table_file text by) =
     record { simple = refl; has_name = refl; met = refl; passes = refl; found = refl; rest = refl }
-enters (build lex yacc table_file report version points) =
+enters (build lex yacc table_file report version expected points) =
     record { simple = refl; has_name = refl; met = refl; passes = refl; found = refl; rest = refl }
 enters (run table_file text by) =
     record { simple = refl; has_name = refl; met = refl; passes = refl; found = refl; rest = refl }
@@ -54,7 +57,7 @@ enters (try_placed lex yacc text points) =
     record { simple = refl; has_name = refl; met = refl; passes = refl; found = refl; rest = refl }
 enters (check table_file by) =
     record { simple = refl; has_name = refl; met = refl; passes = refl; found = refl; rest = refl }
-enters (explain lex yacc states graph) =
+enters (explain lex yacc states graph strictness) =
     record { simple = refl; has_name = refl; met = refl; passes = refl; found = refl; rest = refl }
 
 -- the same words as `clap` meets them
@@ -144,6 +147,10 @@ insert_both_in_two a b x y (suc zero) j = insert_three a x b y j
 insert_both_in_two {X} a b x y (suc (suc i)) j =
     insert_three a b x y j ∙ ap (λ (l : List X). insert l j y) (insert_two a b x (suc (suc i)))
 
+-- where files are only accepted or refused
+abbrev unasked : Strictness
+unasked = record { strict = false; expected = None }
+
 report_name : IsLongName (codes "report")
 report_name = record { is_read = refl; no_dashes = refl }
 
@@ -197,11 +204,11 @@ module _ (lex yacc table_file : Text) (paths : IsPathWord lex × IsPathWord yacc
     format_are : (j : ℕ) → AreWords (format_words j)
     format_are j = formatted_are j operand_words operands_are
 
-    format_asks : option_map (λ v. build lex yacc table_file None v false) (version_by (Some number))
-        ≡ Some (build lex yacc table_file None version false)
-    format_asks = ap (option_map (λ v. build lex yacc table_file None v false)) is
+    format_asks : option_and_then (λ v. Some (build lex yacc table_file None v None false)) (version_by (Some number))
+        ≡ Some (build lex yacc table_file None version None false)
+    format_asks = ap (option_and_then (λ v. Some (build lex yacc table_file None v None false))) is
 
-    format_met : (j : ℕ) → Met (build lex yacc table_file None version false)
+    format_met : (j : ℕ) → Met (build lex yacc table_file None version None false)
         (flat_map (λ group. group) (insert operands (within_three j) (codes "--format" ∷ number ∷ [])))
     format_met zero = met (format_words 0) (format_are 0) refl refl refl format_asks
     format_met (suc zero) = met (format_words 1) (format_are 1) refl refl refl format_asks
@@ -219,11 +226,12 @@ module _ (lex yacc table_file : Text) (paths : IsPathWord lex × IsPathWord yacc
       both_are : (i j : ℕ) → AreWords (both i j)
       both_are i j = formatted_are j (reported i) (are_inserted operand_words i _ operands_are (report_name, (f, tt)))
 
-      both_ask : option_map (λ v. build lex yacc table_file (Some file) v false) (version_by (Some number))
-          ≡ Some (build lex yacc table_file (Some file) version false)
-      both_ask = ap (option_map (λ v. build lex yacc table_file (Some file) v false)) is
+      both_ask : option_and_then (λ v. Some (build lex yacc table_file (Some file) v None false))
+          (version_by (Some number))
+          ≡ Some (build lex yacc table_file (Some file) version None false)
+      both_ask = ap (option_and_then (λ v. Some (build lex yacc table_file (Some file) v None false))) is
 
-      both_met : (i j : ℕ) → Met (build lex yacc table_file (Some file) version false)
+      both_met : (i j : ℕ) → Met (build lex yacc table_file (Some file) version None false)
           (flat_map (λ group. group) (insert (insert operands (within_three i) (codes "--report" ∷ file ∷ []))
           (within_four j) (codes "--format" ∷ number ∷ [])))
       both_met zero zero = met (both 0 0) (both_are 0 0) refl refl refl both_ask
@@ -258,11 +266,11 @@ module _ (lex yacc table_file : Text) (paths : IsPathWord lex × IsPathWord yacc
     report_are : (i : ℕ) → AreWords (report_words i)
     report_are i = are_words (report_groups i) (are_inserted operand_words i _ operands_are (report_name, (f, tt)))
 
-    report_asks : option_map (λ v. build lex yacc table_file (Some file) v false) (version_by None)
-        ≡ Some (build lex yacc table_file (Some file) version false)
-    report_asks = ap (option_map (λ v. build lex yacc table_file (Some file) v false)) is
+    report_asks : option_and_then (λ v. Some (build lex yacc table_file (Some file) v None false)) (version_by None)
+        ≡ Some (build lex yacc table_file (Some file) version None false)
+    report_asks = ap (option_and_then (λ v. Some (build lex yacc table_file (Some file) v None false))) is
 
-    report_met : (i : ℕ) → Met (build lex yacc table_file (Some file) version false)
+    report_met : (i : ℕ) → Met (build lex yacc table_file (Some file) version None false)
         (flat_map (λ group. group) (insert operands (within_three i) (codes "--report" ∷ file ∷ [])))
     report_met zero = met (report_words 0) (report_are 0) refl refl refl report_asks
     report_met (suc zero) = met (report_words 1) (report_are 1) refl refl refl report_asks
@@ -285,22 +293,22 @@ number_is_word V2 = no_minus 50 (λ e. absurd (omega arith))
 build_met : (lex yacc table_file : Text) (report : Option Text) (version : Version) (i j : ℕ) (format : Option Version)
     → version ≡ unwrap_or format V2 → IsPathWord lex × IsPathWord yacc × IsPathWord table_file
     → ArePathWords (as_list report)
-    → Met (build lex yacc table_file report version false)
-    (words_at i j (build lex yacc table_file report version false) format)
+    → Met (build lex yacc table_file report version None false)
+    (words_at i j (build lex yacc table_file report version None false) format)
 build_met lex yacc table_file None version i j None e paths r =
     met (path lex ∷ path yacc ∷ path table_file ∷ []) (paths.0, (paths.1, (paths.2, tt))) refl refl refl
-    (ap (λ v. Some (build lex yacc table_file None v false)) (sym e))
+    (ap (λ v. Some (build lex yacc table_file None v None false)) (sym e))
 build_met lex yacc table_file None version i j (Some v) e paths r =
-    subst (λ groups. Met (build lex yacc table_file None version false) (flat_map (λ group. group) groups))
+    subst (λ groups. Met (build lex yacc table_file None version None false) (flat_map (λ group. group) groups))
     (insert_three (lex ∷ []) (yacc ∷ []) (table_file ∷ []) (codes "--format" ∷ number_of v ∷ []) j)
     (format_met lex yacc table_file paths version (number_of v) (number_is_word v)
     (number_says v ∙ ap (λ w. Some w) (sym e)) j)
 build_met lex yacc table_file (Some file) version i j None e paths r =
-    subst (λ groups. Met (build lex yacc table_file (Some file) version false) (flat_map (λ group. group) groups))
+    subst (λ groups. Met (build lex yacc table_file (Some file) version None false) (flat_map (λ group. group) groups))
     (insert_three (lex ∷ []) (yacc ∷ []) (table_file ∷ []) (codes "--report" ∷ file ∷ []) i)
     (report_met lex yacc table_file paths version file r.0 (ap (λ w. Some w) (sym e)) i)
 build_met lex yacc table_file (Some file) version i j (Some v) e paths r =
-    subst (λ groups. Met (build lex yacc table_file (Some file) version false) (flat_map (λ group. group) groups))
+    subst (λ groups. Met (build lex yacc table_file (Some file) version None false) (flat_map (λ group. group) groups))
     (insert_both (lex ∷ []) (yacc ∷ []) (table_file ∷ []) (codes "--report" ∷ file ∷ [])
     (codes "--format" ∷ number_of v ∷ []) i j)
     (both_met lex yacc table_file paths version (number_of v) (number_is_word v)
@@ -332,7 +340,7 @@ module _ (lex yacc : Text) (paths : IsPathWord lex × IsPathWord yacc) where
     graph_are : (j : ℕ) → AreWords (graph_words j)
     graph_are j = drawn_are j file_words files_are
 
-    graph_met : (j : ℕ) → Met (explain lex yacc None (Some picture))
+    graph_met : (j : ℕ) → Met (explain (Some lex) yacc None (Some picture) unasked)
         (flat_map (λ group. group) (insert file_names (within_two j) (codes "--graph" ∷ picture ∷ [])))
     graph_met zero = met (graph_words 0) (graph_are 0) refl refl refl refl
     graph_met (suc zero) = met (graph_words 1) (graph_are 1) refl refl refl refl
@@ -349,7 +357,7 @@ module _ (lex yacc : Text) (paths : IsPathWord lex × IsPathWord yacc) where
       all_are : (i j : ℕ) → AreWords (all_words i j)
       all_are i j = drawn_are j (listed i) (are_inserted file_words i _ files_are (states_name, (f, tt)))
 
-      all_met : (i j : ℕ) → Met (explain lex yacc (Some file) (Some picture))
+      all_met : (i j : ℕ) → Met (explain (Some lex) yacc (Some file) (Some picture) unasked)
           (flat_map (λ group. group) (insert (insert file_names (within_two i) (codes "--states" ∷ file ∷ []))
           (within_three j) (codes "--graph" ∷ picture ∷ [])))
       all_met zero zero = met (all_words 0 0) (all_are 0 0) refl refl refl refl
@@ -376,7 +384,7 @@ module _ (lex yacc : Text) (paths : IsPathWord lex × IsPathWord yacc) where
     states_are : (i : ℕ) → AreWords (states_words i)
     states_are i = are_words (states_groups i) (are_inserted file_words i _ files_are (states_name, (f, tt)))
 
-    states_met : (i : ℕ) → Met (explain lex yacc (Some file) None)
+    states_met : (i : ℕ) → Met (explain (Some lex) yacc (Some file) None unasked)
         (flat_map (λ group. group) (insert file_names (within_two i) (codes "--states" ∷ file ∷ [])))
     states_met zero = met (states_words 0) (states_are 0) refl refl refl refl
     states_met (suc zero) = met (states_words 1) (states_are 1) refl refl refl refl
@@ -385,21 +393,152 @@ module _ (lex yacc : Text) (paths : IsPathWord lex × IsPathWord yacc) where
 -- the words of `explain`
 explain_met : (lex yacc : Text) (states graph : Option Text) (i j : ℕ) (format : Option Version)
     → IsPathWord lex × IsPathWord yacc → ArePathWords (as_list states ++ as_list graph)
-    → Met (explain lex yacc states graph) (words_at i j (explain lex yacc states graph) format)
+    → Met (explain (Some lex) yacc states graph unasked)
+    (words_at i j (explain (Some lex) yacc states graph unasked) format)
 explain_met lex yacc None None i j format paths r =
     met (path lex ∷ path yacc ∷ []) (paths.0, (paths.1, tt)) refl refl refl refl
 explain_met lex yacc None (Some picture) i j format paths r =
-    subst (λ groups. Met (explain lex yacc None (Some picture)) (flat_map (λ group. group) groups))
+    subst (λ groups. Met (explain (Some lex) yacc None (Some picture) unasked) (flat_map (λ group. group) groups))
     (insert_two (lex ∷ []) (yacc ∷ []) (codes "--graph" ∷ picture ∷ []) j)
     (graph_met lex yacc paths picture r.0 j)
 explain_met lex yacc (Some file) None i j format paths r =
-    subst (λ groups. Met (explain lex yacc (Some file) None) (flat_map (λ group. group) groups))
+    subst (λ groups. Met (explain (Some lex) yacc (Some file) None unasked) (flat_map (λ group. group) groups))
     (insert_two (lex ∷ []) (yacc ∷ []) (codes "--states" ∷ file ∷ []) i)
     (states_met lex yacc paths file r.0 i)
 explain_met lex yacc (Some file) (Some picture) i j format paths r =
-    subst (λ groups. Met (explain lex yacc (Some file) (Some picture)) (flat_map (λ group. group) groups))
+    subst (λ groups. Met (explain (Some lex) yacc (Some file) (Some picture) unasked)
+    (flat_map (λ group. group) groups))
     (insert_both_in_two (lex ∷ []) (yacc ∷ []) (codes "--states" ∷ file ∷ []) (codes "--graph" ∷ picture ∷ []) i j)
     (all_met lex yacc paths picture r.1.0 file r.0 i j)
+
+expect_name : IsLongName (codes "expect")
+expect_name = record { is_read = refl; no_dashes = refl }
+
+strict_name : IsLongName (codes "strict")
+strict_name = record { is_read = refl; no_dashes = refl }
+
+-- a count that is said
+count_said : {A B : Type 0} (f : A → B) (o : Option A) (x : A) → o ≡ Some x → option_map f o ≡ Some (f x)
+count_said f o x is = ap (option_map f) is
+
+-- the words of `build` with a count
+counted_build_met : (lex yacc table_file count : Text) (expected : Option ℕ) → expected_by (Some count) ≡ Some expected
+    → IsPathWord count → IsPathWord lex × IsPathWord yacc × IsPathWord table_file
+    → Met (build lex yacc table_file None V2 expected false)
+    (codes "--expect" ∷ count ∷ lex ∷ yacc ∷ table_file ∷ [])
+counted_build_met lex yacc table_file count expected is c paths =
+    met (long (codes "expect") ∷ path count ∷ path lex ∷ path yacc ∷ path table_file ∷ [])
+    (expect_name, (c, (paths.0, (paths.1, (paths.2, tt))))) refl refl refl
+    (count_said (λ e. build lex yacc table_file None V2 e false) (expected_by (Some count)) expected is)
+
+-- the words of `build`, with a count if one is said
+build_at : (lex yacc table_file : Text) (report : Option Text) (version : Version) (expected : Option ℕ) (i j : ℕ)
+    (format : Option Version) (count : Option Text) → version ≡ unwrap_or format V2
+    → IsCount (build lex yacc table_file report version expected false) count
+    → StandAlone (build lex yacc table_file report version expected false) count format
+    → IsPathWord lex × IsPathWord yacc × IsPathWord table_file → ArePathWords (as_list report)
+    → Met (build lex yacc table_file report version expected false)
+    (count_words count ++ words_at i j (build lex yacc table_file report version expected false) format)
+build_at lex yacc table_file report version (Some n) i j format None e says alone paths r =
+    absurd (true≢false (sym (ap (λ o. is_some (unwrap_or o None)) says.0)))
+build_at lex yacc table_file report version None i j format None e says alone paths r =
+    build_met lex yacc table_file report version i j format e paths r
+build_at lex yacc table_file report version expected i j format (Some count) e says (inl none) paths r =
+    absurd (true≢false (ap is_some none))
+build_at lex yacc table_file None V2 expected i j None (Some count) e says (inr alone) paths r =
+    counted_build_met lex yacc table_file count expected says.0 says.1.0 paths
+build_at lex yacc table_file None V1 expected i j None (Some count) e says (inr alone) paths r = absurd cc
+build_at lex yacc table_file (Some file) version expected i j format (Some count) e says (inr alone) paths r =
+    absurd (true≢false (ap is_some alone.0))
+build_at lex yacc table_file None version expected i j (Some v) (Some count) e says (inr alone) paths r =
+    absurd (true≢false (ap is_some alone.1))
+
+-- how files are judged with a count, and what is asked for then
+strictness_asked : (lex : Option Text) (yacc : Text) (strict : Bool) (o : Option (Option ℕ)) (expected : Option ℕ)
+    → o ≡ Some expected
+    → option_and_then (λ (d : Strictness). Some (explain lex yacc None None d))
+    (option_map (λ (e : Option ℕ). record { strict = strict; expected = e }) o)
+    ≡ Some (explain lex yacc None None (record { strict = strict; expected = expected }))
+strictness_asked lex yacc strict o expected is = rw is refl
+
+-- the words of `explain` with a count
+counted_explain_met : (lex yacc count : Text) (strict : Bool) (expected : Option ℕ)
+    → expected_by (Some count) ≡ Some expected → IsPathWord count → IsPathWord lex × IsPathWord yacc
+    → Met (explain (Some lex) yacc None None (record { strict = strict; expected = expected }))
+    (strict_words strict ++ codes "--expect" ∷ count ∷ lex ∷ yacc ∷ [])
+counted_explain_met lex yacc count true expected is c paths =
+    met (long (codes "strict") ∷ long (codes "expect") ∷ path count ∷ path lex ∷ path yacc ∷ [])
+    (strict_name, (expect_name, (c, (paths.0, (paths.1, tt))))) refl refl refl
+    (strictness_asked (Some lex) yacc true (expected_by (Some count)) expected is)
+counted_explain_met lex yacc count false expected is c paths =
+    met (long (codes "expect") ∷ path count ∷ path lex ∷ path yacc ∷ [])
+    (expect_name, (c, (paths.0, (paths.1, tt)))) refl refl refl
+    (strictness_asked (Some lex) yacc false (expected_by (Some count)) expected is)
+
+-- the words of `explain` for a grammar by itself
+alone_name : IsLongName (codes "yacc")
+alone_name = record { is_read = refl; no_dashes = refl }
+
+counted_alone_met : (yacc count : Text) (strict : Bool) (expected : Option ℕ)
+    → expected_by (Some count) ≡ Some expected → IsPathWord count → IsPathWord yacc
+    → Met (explain None yacc None None (record { strict = strict; expected = expected }))
+    (codes "--yacc" ∷ (strict_words strict ++ codes "--expect" ∷ count ∷ yacc ∷ []))
+counted_alone_met yacc count true expected is c p =
+    met (long (codes "yacc") ∷ long (codes "strict") ∷ long (codes "expect") ∷ path count ∷ path yacc ∷ [])
+    (alone_name, (strict_name, (expect_name, (c, (p, tt))))) refl refl refl
+    (strictness_asked None yacc true (expected_by (Some count)) expected is)
+counted_alone_met yacc count false expected is c p =
+    met (long (codes "yacc") ∷ long (codes "expect") ∷ path count ∷ path yacc ∷ [])
+    (alone_name, (expect_name, (c, (p, tt)))) refl refl refl
+    (strictness_asked None yacc false (expected_by (Some count)) expected is)
+
+alone_at : (yacc : Text) (states graph : Option Text) (strict : Bool) (expected : Option ℕ) (i j : ℕ)
+    (format : Option Version) (count : Option Text)
+    → IsCount (explain None yacc states graph (record { strict = strict; expected = expected })) count
+    → (states ≡ None) × (graph ≡ None) → IsPathWord yacc
+    → Met (explain None yacc states graph (record { strict = strict; expected = expected }))
+    (codes "--yacc" ∷ ((strict_words strict ++ count_words count)
+    ++ words_at i j (explain None yacc states graph (record { strict = strict; expected = expected })) format))
+alone_at yacc states graph strict (Some n) i j format None says alone p =
+    absurd (true≢false (sym (ap (λ o. is_some (unwrap_or o None)) says.0)))
+alone_at yacc None None true None i j format None says alone p =
+    met (long (codes "yacc") ∷ long (codes "strict") ∷ path yacc ∷ []) (alone_name, (strict_name, (p, tt)))
+    refl refl refl refl
+alone_at yacc None None false None i j format None says alone p =
+    met (long (codes "yacc") ∷ path yacc ∷ []) (alone_name, (p, tt)) refl refl refl refl
+alone_at yacc None None true expected i j format (Some count) says alone p =
+    counted_alone_met yacc count true expected says.0 says.1.0 p
+alone_at yacc None None false expected i j format (Some count) says alone p =
+    counted_alone_met yacc count false expected says.0 says.1.0 p
+alone_at yacc (Some file) graph strict expected i j format count says alone p = absurd (true≢false (ap is_some alone.0))
+alone_at yacc None (Some file) strict expected i j format count says alone p = absurd (true≢false (ap is_some alone.1))
+
+-- the words of `explain`, with a count if one is said
+explain_at : (lex yacc : Text) (states graph : Option Text) (strict : Bool) (expected : Option ℕ) (i j : ℕ)
+    (format : Option Version) (count : Option Text)
+    → IsCount (explain (Some lex) yacc states graph (record { strict = strict; expected = expected })) count
+    → StandAlone (explain (Some lex) yacc states graph (record { strict = strict; expected = expected })) count format
+    → IsPathWord lex × IsPathWord yacc → ArePathWords (as_list states ++ as_list graph)
+    → Met (explain (Some lex) yacc states graph (record { strict = strict; expected = expected }))
+    ((strict_words strict ++ count_words count)
+    ++ words_at i j (explain (Some lex) yacc states graph (record { strict = strict; expected = expected })) format)
+explain_at lex yacc states graph strict (Some n) i j format None says alone paths r =
+    absurd (true≢false (sym (ap (λ o. is_some (unwrap_or o None)) says.0)))
+explain_at lex yacc states graph false None i j format None says alone paths r =
+    explain_met lex yacc states graph i j format paths r
+explain_at lex yacc None None true None i j format None says alone paths r =
+    met (long (codes "strict") ∷ path lex ∷ path yacc ∷ []) (strict_name, (paths.0, (paths.1, tt))) refl refl refl refl
+explain_at lex yacc None None true expected i j format (Some count) says alone paths r =
+    counted_explain_met lex yacc count true expected says.0 says.1.0 paths
+explain_at lex yacc None None false expected i j format (Some count) says alone paths r =
+    counted_explain_met lex yacc count false expected says.0 says.1.0 paths
+explain_at lex yacc states graph true None i j format None says (inl plain) paths r = absurd (true≢false plain.0)
+explain_at lex yacc states graph strict expected i j format (Some count) says (inl plain) paths r =
+    absurd (true≢false (ap is_some plain.1))
+explain_at lex yacc (Some file) graph strict expected i j format count says (inr alone) paths r =
+    absurd (true≢false (ap is_some alone.0))
+explain_at lex yacc None (Some file) strict expected i j format count says (inr alone) paths r =
+    absurd (true≢false (ap is_some alone.1))
 
 where_name : IsLongName (codes "where")
 where_name = record { is_read = refl; no_dashes = refl }
@@ -586,52 +725,59 @@ check_met table_file Json true o =
     refl refl refl refl
 
 -- no version is said with other commands
-unversioned : (request : Request) (i j : ℕ) (format : Option Version) → format ≡ None
-    → Met request (flags_of request ++ words_at i j request None)
-    → Met request (flags_of request ++ words_at i j request format)
-unversioned request i j format none m =
-    subst (λ f. Met request (flags_of request ++ words_at i j request f)) (sym none) m
+unversioned : (request : Request) (i j : ℕ) (format : Option Version) (count : Option Text) → format ≡ None
+    → Met request (flags_of request count ++ words_at i j request None)
+    → Met request (flags_of request count ++ words_at i j request format)
+unversioned request i j format count none m =
+    subst (λ f. Met request (flags_of request count ++ words_at i j request f)) (sym none) m
 
-met_at : (request : Request) (i j : ℕ) (format : Option Version) → IsMeant request format
+met_at : (request : Request) (i j : ℕ) (format : Option Version) (count : Option Text) → IsMeant request format
+    → IsCount request count → StandAlone request count format
     → ArePathWords (operands_of request) → ArePathWords (written_of request)
-    → Met request (flags_of request ++ words_at i j request format)
-met_at (tokens lex None by) i j format m o r =
-    unversioned (tokens lex None by) i j format m (tokens_met lex None by.form by.points o)
-met_at (tokens lex (Some text) by) i j format m o r =
-    unversioned (tokens lex (Some text) by) i j format m (tokens_met lex (Some text) by.form by.points o)
-met_at (table_tokens table_file None by) i j format m o r =
-    unversioned (table_tokens table_file None by) i j format m (table_tokens_met table_file None by.form by.points o)
-met_at (table_tokens table_file (Some text) by) i j format m o r =
-    unversioned (table_tokens table_file (Some text) by) i j format m
+    → Met request (flags_of request count ++ words_at i j request format)
+met_at (tokens lex None by) i j format count m says alone o r =
+    unversioned (tokens lex None by) i j format count m (tokens_met lex None by.form by.points o)
+met_at (tokens lex (Some text) by) i j format count m says alone o r =
+    unversioned (tokens lex (Some text) by) i j format count m (tokens_met lex (Some text) by.form by.points o)
+met_at (table_tokens table_file None by) i j format count m says alone o r =
+    unversioned (table_tokens table_file None by) i j format count m
+    (table_tokens_met table_file None by.form by.points o)
+met_at (table_tokens table_file (Some text) by) i j format count m says alone o r =
+    unversioned (table_tokens table_file (Some text) by) i j format count m
     (table_tokens_met table_file (Some text) by.form by.points o)
-met_at (build lex yacc table_file report version false) i j format m o r =
-    build_met lex yacc table_file report version i j format m.0 (o.0, o.1.0, o.1.1.0) r
-met_at (build lex yacc table_file report version true) i j format m o r = absurd (true≢false m.1)
-met_at (run table_file None by) i j format m o r =
-    unversioned (run table_file None by) i j format m (run_met table_file None by.form by.points o)
-met_at (run table_file (Some text) by) i j format m o r =
-    unversioned (run table_file (Some text) by) i j format m (run_met table_file (Some text) by.form by.points o)
-met_at (lines table_file None by) i j format m o r =
-    unversioned (lines table_file None by) i j format m (lines_met table_file None by.form by.points o)
-met_at (lines table_file (Some text) by) i j format m o r =
-    unversioned (lines table_file (Some text) by) i j format m (lines_met table_file (Some text) by.form by.points o)
-met_at (try lex yacc None by) i j format m o r =
-    unversioned (try lex yacc None by) i j format m (try_met lex yacc None by.form by.points o)
-met_at (try lex yacc (Some text) by) i j format m o r =
-    unversioned (try lex yacc (Some text) by) i j format m (try_met lex yacc (Some text) by.form by.points o)
-met_at (run_placed table_file None points) i j format m o r =
-    unversioned (run_placed table_file None points) i j format m (run_placed_met table_file None points o)
-met_at (run_placed table_file (Some text) points) i j format m o r =
-    unversioned (run_placed table_file (Some text) points) i j format m
+met_at (build lex yacc table_file report version expected false) i j format count m says alone o r =
+    build_at lex yacc table_file report version expected i j format count m.0 says alone (o.0, o.1.0, o.1.1.0) r
+met_at (build lex yacc table_file report version expected true) i j format count m says alone o r =
+    absurd (true≢false m.1)
+met_at (run table_file None by) i j format count m says alone o r =
+    unversioned (run table_file None by) i j format count m (run_met table_file None by.form by.points o)
+met_at (run table_file (Some text) by) i j format count m says alone o r =
+    unversioned (run table_file (Some text) by) i j format count m (run_met table_file (Some text) by.form by.points o)
+met_at (lines table_file None by) i j format count m says alone o r =
+    unversioned (lines table_file None by) i j format count m (lines_met table_file None by.form by.points o)
+met_at (lines table_file (Some text) by) i j format count m says alone o r =
+    unversioned (lines table_file (Some text) by) i j format count m
+    (lines_met table_file (Some text) by.form by.points o)
+met_at (try lex yacc None by) i j format count m says alone o r =
+    unversioned (try lex yacc None by) i j format count m (try_met lex yacc None by.form by.points o)
+met_at (try lex yacc (Some text) by) i j format count m says alone o r =
+    unversioned (try lex yacc (Some text) by) i j format count m (try_met lex yacc (Some text) by.form by.points o)
+met_at (run_placed table_file None points) i j format count m says alone o r =
+    unversioned (run_placed table_file None points) i j format count m (run_placed_met table_file None points o)
+met_at (run_placed table_file (Some text) points) i j format count m says alone o r =
+    unversioned (run_placed table_file (Some text) points) i j format count m
     (run_placed_met table_file (Some text) points o)
-met_at (try_placed lex yacc None points) i j format m o r =
-    unversioned (try_placed lex yacc None points) i j format m (try_placed_met lex yacc None points o)
-met_at (try_placed lex yacc (Some text) points) i j format m o r =
-    unversioned (try_placed lex yacc (Some text) points) i j format m (try_placed_met lex yacc (Some text) points o)
-met_at (check table_file by) i j format m o r =
-    unversioned (check table_file by) i j format m (check_met table_file by.form by.points o)
-met_at (explain lex yacc states graph) i j format m o r =
-    explain_met lex yacc states graph i j format (o.0, o.1.0) r
+met_at (try_placed lex yacc None points) i j format count m says alone o r =
+    unversioned (try_placed lex yacc None points) i j format count m (try_placed_met lex yacc None points o)
+met_at (try_placed lex yacc (Some text) points) i j format count m says alone o r =
+    unversioned (try_placed lex yacc (Some text) points) i j format count m
+    (try_placed_met lex yacc (Some text) points o)
+met_at (check table_file by) i j format count m says alone o r =
+    unversioned (check table_file by) i j format count m (check_met table_file by.form by.points o)
+met_at (explain (Some lex) yacc states graph strictness) i j format count m says alone o r =
+    explain_at lex yacc states graph strictness.strict strictness.expected i j format count says alone (o.0, o.1.0) r
+met_at (explain None yacc states graph strictness) i j format count m says alone o r =
+    alone_at yacc states graph strictness.strict strictness.expected i j format count says alone o.0
 
 -- these words behind the program's name and the command's
 both_asked : (program : Text) (request : Request) (words : List Word) → Asks request words
@@ -649,7 +795,8 @@ both_asked program request words a = (
 pub asked : (words : List Text) (request : Request) → AskFor words request
     → (line_takes words ≡ true) × (request_of words ≡ Some request)
 asked words request a =
-    let m = met_at request a.first_place a.second_place a.format a.format_is_meant a.operand_paths a.written_paths in
+    let m = met_at request a.first_place a.second_place a.format a.count a.format_is_meant a.is_count a.alone
+    a.operand_paths a.written_paths in
     let words_are : words ≡ a.program ∷ name_of request ∷ map text_of m.words =
     a.words_are ∙ ap (λ ws. a.program ∷ name_of request ∷ ws) (sym m.texts_are) in
     let both = both_asked a.program request m.words m.asks in

@@ -9,13 +9,13 @@ use Rattle.ly_words.specs.declared.command.Command.TheVariants.{TableTokens, Try
 abbrev pub said : Command → Request
 said (Tokens lex text by) = tokens lex.now (option_map (λ s. s.now) text) by
 said (TableTokens table_file text by) = table_tokens table_file.now (option_map (λ s. s.now) text) by
-said (Build paths version points) =
-    build paths.lex.now paths.yacc.now paths.tables.now (option_map (λ s. s.now) paths.report) version points
+said (Build paths version expected points) =
+    build paths.lex.now paths.yacc.now paths.tables.now (option_map (λ s. s.now) paths.report) version expected points
 said (Run table_file text by) = run table_file.now (option_map (λ s. s.now) text) by
 said (Lines table_file text by) = lines table_file.now (option_map (λ s. s.now) text) by
 said (Try lex yacc text by) = try lex.now yacc.now (option_map (λ s. s.now) text) by
 said (RunPlaced table_file text points) = run_placed table_file.now (option_map (λ s. s.now) text) points
 said (TryPlaced lex yacc text points) = try_placed lex.now yacc.now (option_map (λ s. s.now) text) points
 said (Check table_file by) = check table_file.now by
-said (Explain paths) = explain paths.lex.now paths.yacc.now (option_map (λ s. s.now) paths.states)
-    (option_map (λ s. s.now) paths.graph)
+said (Explain paths strictness) = explain (option_map (λ s. s.now) paths.lex) paths.yacc.now
+    (option_map (λ s. s.now) paths.states) (option_map (λ s. s.now) paths.graph) strictness

@@ -7,6 +7,7 @@ use Rattle.ly_base.specs.declared.version.Version.{Version}
 use Rattle.ly_base.specs.declared.version.Version.TheVariants.{V1, V2}
 use Rattle.ly_print.specs.declared.answer_form.AnswerForm.{AnswerForm}
 use Rattle.ly_print.specs.declared.answer_form.AnswerForm.TheVariants.{Json, Plain}
+use Rattle.ly_words.specs.CommandLine.{expected_by}
 use Rattle.ly_words.specs.Request.{Request, build, check, explain, lines, run, run_placed, table_tokens}
 use Rattle.ly_words.specs.Request.{tokens, try, try_placed}
 use Rattle.ly_words.specs.declared.command.Answering.{Answering}
@@ -26,37 +27,38 @@ as_list (Some word) = word ∷ []
 abbrev pub name_of : Request → Text
 name_of (tokens lex text by) = codes "tokens"
 name_of (table_tokens table_file text by) = codes "tokens"
-name_of (build lex yacc table_file report version points) = codes "build"
+name_of (build lex yacc table_file report version expected points) = codes "build"
 name_of (run table_file text by) = codes "run"
 name_of (lines table_file text by) = codes "run"
 name_of (try lex yacc text by) = codes "try"
 name_of (run_placed table_file text points) = codes "run"
 name_of (try_placed lex yacc text points) = codes "try"
 name_of (check table_file by) = codes "check"
-name_of (explain lex yacc states graph) = codes "explain"
+name_of (explain lex yacc states graph strictness) = codes "explain"
 
 -- the words that stand behind the command's name in this order
 abbrev pub operands_of : Request → List Text
 operands_of (tokens lex text by) = lex ∷ as_list text
 operands_of (table_tokens table_file text by) = table_file ∷ as_list text
-operands_of (build lex yacc table_file report version points) = lex ∷ yacc ∷ table_file ∷ []
+operands_of (build lex yacc table_file report version expected points) = lex ∷ yacc ∷ table_file ∷ []
 operands_of (run table_file text by) = table_file ∷ as_list text
 operands_of (lines table_file text by) = table_file ∷ as_list text
 operands_of (try lex yacc text by) = lex ∷ yacc ∷ as_list text
 operands_of (run_placed table_file text points) = table_file ∷ as_list text
 operands_of (try_placed lex yacc text points) = lex ∷ yacc ∷ as_list text
 operands_of (check table_file by) = table_file ∷ []
-operands_of (explain lex yacc states graph) = lex ∷ yacc ∷ []
+operands_of (explain lex yacc states graph strictness) = as_list lex ++ yacc ∷ []
 
 -- the files beside these that are written
 abbrev pub written_of : Request → List Text
-written_of (build lex yacc table_file report version points) = as_list report
-written_of (explain lex yacc states graph) = as_list states ++ as_list graph
+written_of (build lex yacc table_file report version expected points) = as_list report
+written_of (explain lex yacc states graph strictness) = as_list states ++ as_list graph
 written_of _ = []
 
 -- the version that is said is the one that is meant, which is the second where none is said; a build points at nothing
 abbrev pub IsMeant : Request → Option Version → Type 0
-IsMeant (build lex yacc table_file report version points) format = (version ≡ unwrap_or format V2) × (points ≡ false)
+IsMeant (build lex yacc table_file report version expected points) format =
+    (version ≡ unwrap_or format V2) × (points ≡ false)
 IsMeant _ format = format ≡ None
 
 -- the flag that points
@@ -73,17 +75,53 @@ form_words Plain = []
 abbrev pub answering_words : Answering → List Text
 answering_words by = form_words by.form ++ pointing_words by.points
 
--- the flags that stand in front of the operands
-abbrev pub flags_of : Request → List Text
-flags_of (tokens lex text by) = answering_words by
-flags_of (table_tokens table_file text by) = codes "--tables" ∷ answering_words by
-flags_of (run table_file text by) = answering_words by
-flags_of (lines table_file text by) = codes "--lines" ∷ answering_words by
-flags_of (try lex yacc text by) = answering_words by
-flags_of (run_placed table_file text points) = codes "--places" ∷ pointing_words points
-flags_of (try_placed lex yacc text points) = codes "--places" ∷ pointing_words points
-flags_of (check table_file by) = answering_words by
-flags_of _ = []
+-- the flag of files without conflicts and doubts
+abbrev pub strict_words : Bool → List Text
+strict_words true = codes "--strict" ∷ []
+strict_words false = []
+
+-- the flag of a grammar that is explained by itself
+abbrev pub alone_words : Option Text → List Text
+alone_words (Some lex) = []
+alone_words None = codes "--yacc" ∷ []
+
+-- a count of conflicts, if it is said
+abbrev pub count_words : Option Text → List Text
+count_words None = []
+count_words (Some count) = codes "--expect" ∷ count ∷ []
+
+-- the flags that stand in front of the operands, and with them the count of conflicts
+abbrev pub flags_of : Request → Option Text → List Text
+flags_of (tokens lex text by) count = answering_words by
+flags_of (table_tokens table_file text by) count = codes "--tables" ∷ answering_words by
+flags_of (build lex yacc table_file report version expected points) count = count_words count
+flags_of (run table_file text by) count = answering_words by
+flags_of (lines table_file text by) count = codes "--lines" ∷ answering_words by
+flags_of (try lex yacc text by) count = answering_words by
+flags_of (run_placed table_file text points) count = codes "--places" ∷ pointing_words points
+flags_of (try_placed lex yacc text points) count = codes "--places" ∷ pointing_words points
+flags_of (check table_file by) count = answering_words by
+flags_of (explain lex yacc states graph strictness) count =
+    alone_words lex ++ (strict_words strictness.strict ++ count_words count)
+
+-- how many conflicts there are to be
+abbrev pub expected_of : Request → Option ℕ
+expected_of (build lex yacc table_file report version expected points) = expected
+expected_of (explain lex yacc states graph strictness) = strictness.expected
+expected_of _ = None
+
+-- the count that is said is the one that is expected
+abbrev pub IsCount : Request → Option Text → Type 0
+IsCount request count = (expected_by count ≡ Some (expected_of request)) × ArePathWords (as_list count)
+
+-- no option stands beside a count, or a flag of `explain`
+abbrev pub StandAlone : Request → Option Text → Option Version → Type 0
+StandAlone (build lex yacc table_file report version expected points) count format =
+    (count ≡ None) ⊎ ((report ≡ None) × (format ≡ None))
+StandAlone (explain None yacc states graph strictness) count format = (states ≡ None) × (graph ≡ None)
+StandAlone (explain (Some lex) yacc states graph strictness) count format =
+    ((strictness.strict ≡ false) × (count ≡ None)) ⊎ ((states ≡ None) × (graph ≡ None))
+StandAlone _ count format = Unit {0}
 
 -- how a version is said
 abbrev pub number_of : Version → Text
@@ -96,15 +134,15 @@ option_words name value = option_map (λ v. name ∷ v ∷ []) value
 
 -- the first option of a command, if it is said
 abbrev pub first_option : Request → Option (List Text)
-first_option (build lex yacc table_file report version points) = option_words (codes "--report") report
-first_option (explain lex yacc states graph) = option_words (codes "--states") states
+first_option (build lex yacc table_file report version expected points) = option_words (codes "--report") report
+first_option (explain lex yacc states graph strictness) = option_words (codes "--states") states
 first_option _ = None
 
 -- the second option, where this version is said
 abbrev pub second_option : Request → Option Version → Option (List Text)
-second_option (build lex yacc table_file report version points) format =
+second_option (build lex yacc table_file report version expected points) format =
     option_words (codes "--format") (option_map number_of format)
-second_option (explain lex yacc states graph) format = option_words (codes "--graph") graph
+second_option (explain lex yacc states graph strictness) format = option_words (codes "--graph") graph
 second_option _ format = None
 
 -- the words of an option behind so many groups of words, or nothing
@@ -121,7 +159,7 @@ words_at first_place second_place request format = flat_map (λ group. group)
 
 -- The words ask for this: they are the program's name, the command's, the flags, and the operands, with the options
 -- among these wherever; and all its paths are words of paths. (Words of other forms may mean it too: a flag behind its
--- operands, or one of a build.)
+-- operands, one that points of a build, or a count beside other options.)
 pub record AskFor (words : List Text) (request : Request) : Type 0 where
   pub program : Text
   pub first_place : ℕ
@@ -129,7 +167,11 @@ pub record AskFor (words : List Text) (request : Request) : Type 0 where
   -- the version that is said, if one is
   pub format : Option Version
   pub format_is_meant : IsMeant request format
+  -- the count of conflicts that is said, if one is
+  pub count : Option Text
+  pub is_count : IsCount request count
+  pub alone : StandAlone request count format
   pub words_are : words
-      ≡ program ∷ name_of request ∷ (flags_of request ++ words_at first_place second_place request format)
+      ≡ program ∷ name_of request ∷ (flags_of request count ++ words_at first_place second_place request format)
   pub operand_paths : ArePathWords (operands_of request)
   pub written_paths : ArePathWords (written_of request)

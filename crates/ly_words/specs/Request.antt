@@ -1,19 +1,21 @@
 -- What the words of a line ask for.
-use Rattle.std.specs.Prelude.{Bool, Option}
+use Rattle.std.specs.Prelude.{Bool, Option, ℕ}
 use Rattle.clap.specs.Words.{Text}
 use Rattle.ly_base.specs.declared.version.Version.{Version}
 use Rattle.ly_words.specs.declared.command.Answering.{Answering}
+use Rattle.ly_words.specs.declared.command.Strictness.{Strictness}
 
--- A command, with the paths that it is given, the version of a table file that is written, and how it is answered, or
--- whether it points at what is wrong.
+-- A command, with the paths that it is given, the version of a table file that is written, how strictly files are
+-- judged, and how it is answered, or whether it points at what is wrong.
 pub data Request : Type 0 where
   tokens : (lex : Text) → (text : Option Text) → (by : Answering) → Request
   table_tokens : (tables : Text) → (text : Option Text) → (by : Answering) → Request
-  build : (lex yacc tables : Text) → (report : Option Text) → (version : Version) → (points : Bool) → Request
+  build : (lex yacc tables : Text) → (report : Option Text) → (version : Version) → (expected : Option ℕ)
+      → (points : Bool) → Request
   run : (tables : Text) → (text : Option Text) → (by : Answering) → Request
   lines : (tables : Text) → (text : Option Text) → (by : Answering) → Request
   try : (lex yacc : Text) → (text : Option Text) → (by : Answering) → Request
   run_placed : (tables : Text) → (text : Option Text) → (points : Bool) → Request
   try_placed : (lex yacc : Text) → (text : Option Text) → (points : Bool) → Request
   check : (tables : Text) → (by : Answering) → Request
-  explain : (lex yacc : Text) → (states graph : Option Text) → Request
+  explain : (lex : Option Text) → (yacc : Text) → (states graph : Option Text) → (strictness : Strictness) → Request

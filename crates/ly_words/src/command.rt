@@ -32,6 +32,8 @@ pub enum Command<'a> {
         paths: Paths<'a>,
         /// The version of the table file.
         version: Version,
+        /// How many shift/reduce conflicts there are to be, and no others, where a count is said.
+        expected: Option<usize>,
         /// Whether standard error says where something is wrong, and shows it.
         points: bool,
     },
@@ -91,8 +93,22 @@ pub enum Command<'a> {
         /// How this is answered.
         by: Answering,
     },
-    /// Say what is wrong with a lex file and a yacc file, or doubtful in them.
-    Explain(ExplainPaths<'a>),
+    /// Say what is wrong with a lex file and a yacc file, or doubtful in them, or with a yacc file alone.
+    Explain {
+        /// What is read and written.
+        paths: ExplainPaths<'a>,
+        /// How strictly the files are judged.
+        strictness: Strictness,
+    },
+}
+
+/// How strictly files are judged that are explained: where they are accepted and don't pass, the exit status says so.
+#[derive(Clone, Copy, Debug, PartialEq, Eq)]
+pub struct Strictness {
+    /// Whether there are to be no conflicts and no doubts.
+    pub strict: bool,
+    /// How many shift/reduce conflicts there are to be, and no others, where a count is said.
+    pub expected: Option<usize>,
 }
 
 /// How something is answered.
@@ -117,11 +133,11 @@ pub struct Paths<'a> {
     pub report: Option<&'a str>,
 }
 
-/// The paths of what is read and written where two files are explained.
+/// The paths of what is read and written where files are explained.
 #[derive(Clone, Copy, Debug, PartialEq, Eq)]
 pub struct ExplainPaths<'a> {
-    /// The lex file.
-    pub lex: &'a str,
+    /// The lex file; none where a grammar is explained by itself.
+    pub lex: Option<&'a str>,
     /// The yacc file.
     pub yacc: &'a str,
     /// The states of the parser, if they are asked for.

@@ -1,13 +1,13 @@
-ghost use Rattle.std.specs.Prelude.{◌≡◌, IfErr, IfOk, IsSome, OnOk, Some, [], map, option_and_then, option_map};
+ghost use Rattle.std.specs.Prelude.{◌≡◌, IfErr, IfOk, IsSome, OnOk, Some, [], codes, map, option_and_then, option_map};
 ghost use Rattle.std.specs.Prelude.{MatchResult, string_bytes, true};
 ghost use Rattle.clap.specs.Words.{first_value, found_of, kind_of, subcommand_rows_of};
-ghost use Rattle.ly_words.specs.CommandLine.{answering_by, build_by, check_by, explain_by, is_said, line_faults};
-ghost use Rattle.ly_words.specs.CommandLine.{line_takes, request_by, request_of, run_by, subcommand_in, tokens_by};
-ghost use Rattle.ly_words.specs.CommandLine.{try_by, version_by, Mean};
+ghost use Rattle.ly_words.specs.CommandLine.{answering_by, build_by, check_by, count_by, strictness_by, expected_by};
+ghost use Rattle.ly_words.specs.CommandLine.{explain_by, is_said, line_faults, line_takes, request_by, request_of};
+ghost use Rattle.ly_words.specs.CommandLine.{run_by, subcommand_in, tokens_by, try_by, version_by, Mean};
 ghost use Rattle.ly_words.specs.Command.{said};
 ghost use Rattle.ly_words.specs.Request.{Request};
 
-use crate::command::{Answering, Command, CommandFault, ExplainPaths, Paths};
+use crate::command::{Answering, Command, CommandFault, ExplainPaths, Paths, Strictness};
 use crate::line::line;
 use clap::ArgMatches;
 use clap::error::ErrorKind;
@@ -15,21 +15,28 @@ use ly_base::Version;
 use ly_print::AnswerForm;
 use std::alloc::{AllocError, Global};
 
-/// Where `clap` takes the words of `build`, nothing else can be wrong with them.
+/// What can be wrong with words that `clap` takes.
 const NO_VERSION: &str = "error: invalid value for '--format <VERSION>': it must be 1 or 2\n";
 
-/// Nor with those of another command.
+const NO_COUNT: &str =
+    "error: invalid value for '--expect <COUNT>': it must be a number below 2^64\n";
+
+const NO_PAIR: &str =
+    "error: explain takes a lex file and a yacc file, or '--yacc' and a yacc file alone\n";
+
 const NO_LINES: &str = "error: the argument '--lines' cannot be used with '--places'\n";
 
 /// Reads the words of the line, of which the first is the program's name: `tokens LEX [TEXT] [--json] [--where]`,
 /// `tokens --tables TABLES [TEXT] [--json] [--where]`,
-/// `build LEX YACC TABLES [--report FILE] [--format 1|2] [--where]`,
+/// `build LEX YACC TABLES [--report FILE] [--format 1|2] [--expect COUNT] [--where]`,
 /// `run TABLES [TEXT] [--lines] [--json] [--places] [--where]`,
 /// `try LEX YACC [TEXT] [--json] [--places] [--where]`, `check TABLES [--json] [--where]` or
-/// `explain LEX YACC [--states FILE] [--graph FILE]`. `--places` means JSON, also without `--json`.
+/// `explain LEX YACC [--states FILE] [--graph FILE] [--strict] [--expect COUNT]`, or this with `--yacc YACC` for both
+/// files. `--places` means JSON, also without `--json`.
 ///
 /// `Help` comes where a help text or the version is asked for, `Bad` where `clap` refuses the words for another reason,
-/// they ask for another version of a table file, or for lines with places, `OutOfMemory` where a growth was refused.
+/// they ask for another version of a table file, for a count that is no number, for lines with places, or for one file
+/// too few or too many to be explained, `OutOfMemory` where a growth was refused.
 pub fn read_command<'a>(alloc: Global, words: &'a [String]) -> Result<Command<'a>, CommandFault>
     ensures said { IfOk result (λ c. request_of (map string_bytes words.entry.now) ≡ Some (said c)) }
     ensures faultless { OnOk result (line_faults (map string_bytes words.entry.now) ≡ []) }
@@ -41,11 +48,17 @@ pub fn read_command<'a>(alloc: Global, words: &'a [String]) -> Result<Command<'a
     let matches = matched(alloc, words)?;
     match command_in(&matches) {
         Some(command) => Ok(command),
-        None => {
-            let is_build = matches!(matches.subcommand(), Some(("build", _)));
-            let reason = if is_build { NO_VERSION } else { NO_LINES };
-            Err(CommandFault::Bad(String::from_str(alloc, reason)?))
-        }
+        None => Err(CommandFault::Bad(String::from_str(alloc, wrong_with(&matches))?)),
+    }
+}
+
+/// What is wrong with words that name no command.
+fn wrong_with(matches: &ArgMatches<'_>) -> &'static str {
+    match matches.subcommand() {
+        Some(("build", values)) if version_of(values.get_str("VERSION")).is_none() => NO_VERSION,
+        Some(("build" | "explain", values)) if expected_in(values).is_none() => NO_COUNT,
+        Some(("explain", _)) => NO_PAIR,
+        _ => NO_LINES,
     }
 }
 
@@ -137,8 +150,29 @@ fn build_in<'a>(values: &ArgMatches<'a>) -> Option<Command<'a>>
     Some(Command::Build {
         paths,
         version: version_of(values.get_str("VERSION"))?,
+        expected: expected_in(values)?,
         points: is_said(values, "WHERE"),
     })
+}
+
+/// How many conflicts there are to be, if a count is said; nothing where it is no number.
+fn expected_in(values: &ArgMatches<'_>) -> Option<Option<usize>>
+    ensures { result ≡ expected_by (first_value (found_of values.now) (codes "COUNT")) }
+{
+    match values.get_str("COUNT") {
+        None => Some(None),
+        Some(word) => Some(Some(count_of(word)?)),
+    }
+}
+
+/// The number that digits say, a plus before them or none, if it is there.
+fn count_of(word: &str) -> Option<usize>
+    ensures { result ≡ count_by word.now }
+{
+    match word.parse::<usize>() {
+        Ok(count) => Some(count),
+        Err(_) => None,
+    }
 }
 
 /// The version that a number says, or the one that is meant where none is said. There are no others.
@@ -213,12 +247,42 @@ fn check_in<'a>(values: &ArgMatches<'a>) -> Option<Command<'a>>
 fn explain_in<'a>(values: &ArgMatches<'a>) -> Option<Command<'a>>
     ensures { option_map said result ≡ explain_by (first_value (found_of values.now)) }
 {
-    Some(Command::Explain(ExplainPaths {
-        lex: values.get_str("LEX")?,
-        yacc: values.get_str("YACC")?,
-        states: values.get_str("STATES"),
-        graph: values.get_str("GRAPH"),
-    }))
+    let first = values.get_str("LEX")?;
+    let second = values.get_str("YACC");
+    let states = values.get_str("STATES");
+    let graph = values.get_str("GRAPH");
+    let strictness = strictness_in(values)?;
+    match (is_said(values, "GRAMMAR"), second) {
+        (false, Some(yacc)) => Some(Command::Explain {
+            paths: ExplainPaths {
+                lex: Some(first),
+                yacc,
+                states,
+                graph,
+            },
+            strictness,
+        }),
+        (true, None) => Some(Command::Explain {
+            paths: ExplainPaths {
+                lex: None,
+                yacc: first,
+                states,
+                graph,
+            },
+            strictness,
+        }),
+        _ => None,
+    }
+}
+
+/// How strictly files are judged; nothing where the count is no number.
+fn strictness_in(values: &ArgMatches<'_>) -> Option<Strictness>
+    ensures { result ≡ strictness_by (first_value (found_of values.now)) }
+{
+    Some(Strictness {
+        strict: is_said(values, "STRICT"),
+        expected: expected_in(values)?,
+    })
 }
 
 /// The fault that stands for `clap`'s error.

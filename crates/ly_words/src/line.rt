@@ -1,9 +1,9 @@
 ghost use Rattle.std.specs.Prelude.{◌≡◌, IfOk, codes, false};
 ghost use Rattle.clap.specs.Words.{App, app_of, rule_of, with_subcommand};
-ghost use Rattle.ly_words.specs.CommandLine.{IsApp, build_app, build_paths_app, check_app, explain_app};
-ghost use Rattle.ly_words.specs.CommandLine.{files_app, flag_rule, format_rule, graph_rule, line_app, path_rule};
-ghost use Rattle.ly_words.specs.CommandLine.{report_rule, run_app, run_paths_app, states_rule, text_rule, tokens_app};
-ghost use Rattle.ly_words.specs.CommandLine.{tokens_paths_app, top_app, try_app};
+ghost use Rattle.ly_words.specs.CommandLine.{IsApp, build_app, build_paths_app, check_app, expect_rule, explain_app};
+ghost use Rattle.ly_words.specs.CommandLine.{explain_paths_app, files_app, flag_rule, format_rule, graph_rule};
+ghost use Rattle.ly_words.specs.CommandLine.{line_app, other_rule, path_rule, report_rule, run_app, run_paths_app};
+ghost use Rattle.ly_words.specs.CommandLine.{states_rule, text_rule, tokens_app, tokens_paths_app, top_app, try_app};
 
 use clap::{Arg, ArgAction, Command};
 use std::alloc::{AllocError, Global};
@@ -17,8 +17,9 @@ Begin with explain, which says what is wrong with both files and how to mend it;
   lytab explain sums.l sums.y
   lytab try sums.l sums.y sums.txt --where
 
-Exit status: 0 where all is done, 1 where the text is refused, 2 where a lex file, a yacc file or a
-table file is, 3 where a device fails or memory runs out, 4 where the words are wrong";
+Exit status: 0 where all is done, 1 where the text is refused or files don't pass --strict or
+--expect, 2 where a lex file, a yacc file or a table file is refused, 3 where a device fails or
+memory runs out, 4 where the words are wrong";
 
 /// The line as `clap` has it.
 pub fn line<'a>(alloc: Global) -> Result<Command<'a>, AllocError>
@@ -81,6 +82,7 @@ fn build_line<'a>(alloc: Global) -> Result<Command<'a>, AllocError>
     build_paths(alloc)?
         .arg(report(alloc))?
         .arg(format(alloc))?
+        .arg(expect(alloc))?
         .arg(pointing(alloc))
 }
 
@@ -143,9 +145,22 @@ fn check_line<'a>(alloc: Global) -> Result<Command<'a>, AllocError>
 fn explain_line<'a>(alloc: Global) -> Result<Command<'a>, AllocError>
     ensures { IfOk result (IsApp explain_app) }
 {
-    let about =
-        "Says what is wrong with both files, or doubtful in them, and where their conflicts are";
-    files(alloc, "explain", about)?
+    explain_paths(alloc)?
+        .arg(alone(alloc))?
+        .arg(strict(alloc))?
+        .arg(expect(alloc))
+}
+
+/// The subcommand `explain` with its paths alone.
+fn explain_paths<'a>(alloc: Global) -> Result<Command<'a>, AllocError>
+    ensures { IfOk result (IsApp explain_paths_app) }
+{
+    Command::new(alloc, "explain")
+        .about(
+            "Says what is wrong with both files, or doubtful in them, and where their conflicts are",
+        )
+        .arg(path(alloc, "LEX", LEX))?
+        .arg(other_file(alloc))?
         .arg(states(alloc))?
         .arg(graph(alloc))
 }
@@ -180,6 +195,25 @@ fn text<'a>(alloc: Global) -> Arg<'a>
     ensures local { result.global ≡ false }
 {
     Arg::new(alloc, "TEXT").help("The text; standard input if it is left out")
+}
+
+/// The path of the yacc file, which is left out where a grammar is explained by itself.
+fn other_file<'a>(alloc: Global) -> Arg<'a>
+    ensures rule { rule_of result ≡ other_rule }
+    ensures local { result.global ≡ false }
+{
+    Arg::new(alloc, "YACC").help(YACC)
+}
+
+/// The flag of a grammar that is explained by itself.
+fn alone<'a>(alloc: Global) -> Arg<'a>
+    ensures rule { rule_of result ≡ flag_rule (codes "GRAMMAR") (codes "yacc") }
+    ensures local { result.global ≡ false }
+{
+    Arg::new(alloc, "GRAMMAR")
+        .long("yacc")
+        .action(ArgAction::SetTrue)
+        .help("Takes LEX as a yacc file, and says what there is to say of it alone")
 }
 
 /// The flag of a table file in place of a lex file.
@@ -255,6 +289,27 @@ fn format<'a>(alloc: Global) -> Arg<'a>
     Arg::new(alloc, "VERSION")
         .long("format")
         .help("The version of the table file: 1, or 2 if it is left out")
+}
+
+/// The option of a count.
+fn expect<'a>(alloc: Global) -> Arg<'a>
+    ensures rule { rule_of result ≡ expect_rule }
+    ensures local { result.global ≡ false }
+{
+    Arg::new(alloc, "COUNT").long("expect").help(
+        "How many shift/reduce conflicts there are to be, and no others; else the status is 1",
+    )
+}
+
+/// The flag of files without conflicts and doubts.
+fn strict<'a>(alloc: Global) -> Arg<'a>
+    ensures rule { rule_of result ≡ flag_rule (codes "STRICT") (codes "strict") }
+    ensures local { result.global ≡ false }
+{
+    Arg::new(alloc, "STRICT")
+        .long("strict")
+        .action(ArgAction::SetTrue)
+        .help("Where there is a conflict or a doubt, the status is 1")
 }
 
 /// The option of states.

@@ -8,13 +8,16 @@ use Rattle.std.specs.declared.alloc.Global.{Global}
 use Rattle.std.specs.declared.vec.Vec.{Vec}
 use Rattle.ly_base.specs.Limits.{Sizes, version_2}
 use Rattle.ly_base.specs.declared.version.Version.{Version}
+use Rattle.ly_explain.specs.Explained.{IsExplained}
 use Rattle.ly_generate.specs.Parser.{IsReportIf}
 use Rattle.ly_print.specs.declared.answer_form.AnswerForm.{AnswerForm}
 use Rattle.ly_words.specs.Request.{Request, build, check, explain, lines, run, run_placed, table_tokens}
 use Rattle.ly_words.specs.Request.{tokens, try, try_placed}
 use Rattle.ly_words.specs.declared.command.Answering.{Answering}
+use Rattle.ly_words.specs.declared.command.Strictness.{Strictness}
 use Rattle.lytab.specs.Answering.{AreTokensPrinted, IsAnsweredByFiles, IsAnsweredByTables, text_from}
-use Rattle.lytab.specs.CarriedOut.{Ends, IsBuildTold, IsCarriedOut, IsExplanationTold, IsInputTold, wanted_for}
+use Rattle.lytab.specs.CarriedOut.{Ends, IsBuildTold, IsCarriedOut, IsExplanationTold, IsInputTold, lex_text}
+use Rattle.lytab.specs.CarriedOut.{wanted_for}
 use Rattle.lytab.specs.Devices.{AreAnswersTold, AreWritesTold, IsLeftOrFailed, IsOutputTold, IsToldOf}
 use Rattle.lytab.specs.Failure.{IsOfDevice, IsOfWriter, failure_of_file}
 use Rattle.lytab.specs.Files.{IsWrittenIf}
@@ -26,7 +29,8 @@ use Rattle.lytab.specs.Refusal.{IsRefusalOfTables}
 use Rattle.lytab.specs.TableTokens.{AreTableTokens, IsRefusalOfScanner}
 use Rattle.lytab.specs.declared.completion.Completion.{Completion}
 use Rattle.lytab.specs.declared.failure.Failure.{Failure}
-use Rattle.lytab.specs.declared.failure.Failure.TheVariants.{FaultyTables, Refused, Tables, TooLong, Unreadable}
+use Rattle.lytab.specs.declared.failure.Failure.TheVariants.{FaultyTables, Refused, Tables, TooLong, Unexpected}
+use Rattle.lytab.specs.declared.failure.Failure.TheVariants.{Unreadable}
 use Rattle.lytab.specs.declared.failure.Failure.TheVariants as failure
 use Rattle.lytab.specs.declared.files.FileFault.{FileFault}
 use Rattle.lytab.specs.declared.files.FileFault.TheVariants.{CannotRead, CannotWrite, OutOfMemory}
@@ -61,10 +65,11 @@ fails_files lex yacc given (CannotRead path) = tt
 fails_files lex yacc given (CannotWrite path) = tt
 fails_files lex yacc given OutOfMemory = tt
 
-pub fails_build : (version : Version) (fault : FileFault) → IsRefusalOfBuild version (failure_of_file fault)
-fails_build version (CannotRead path) = tt
-fails_build version (CannotWrite path) = tt
-fails_build version OutOfMemory = tt
+pub fails_build : (version : Version) (expected : Option ℕ) (fault : FileFault)
+    → IsRefusalOfBuild version expected (failure_of_file fault)
+fails_build version expected (CannotRead path) = tt
+fails_build version expected (CannotWrite path) = tt
+fails_build version expected OutOfMemory = tt
 
 fails_check : (fault : FileFault) → IsRefusalOfCheck (failure_of_file fault)
 fails_check (CannotRead path) = tt
@@ -130,10 +135,10 @@ failed_first contents (try lex yacc text by) fault e same kept = (
   fails_files [] [] (text_from text e.given) fault,
   untouched text (Err (failure_of_file fault)) e _ same (λ _. same) (inl same),
 )
-failed_first contents (build lex yacc table_file report version points) fault e same kept =
-    (tt, fails_build version fault, same)
+failed_first contents (build lex yacc table_file report version expected points) fault e same kept =
+    (tt, fails_build version expected fault, same)
 failed_first contents (check table_file by) fault e same kept = (tt, fails_check fault, same)
-failed_first contents (explain lex yacc states graph) fault e same kept = (tt, fails_device fault, same)
+failed_first contents (explain lex yacc states graph strictness) fault e same kept = (tt, fails_device fault, same)
 
 pub failed_with : {R D : Type 0} (contents : D → Option (List ℕ)) (request : Request) (fault : FileFault) (e : Ends R)
     (r : Result Completion Failure) → IsErrAnd r (λ f. f ≡ failure_of_file fault) → e.input_after ≡ e.input_before
@@ -280,10 +285,10 @@ wanted_mapped f None = refl
 wanted_mapped f (Some path) = refl
 
 build_told : {A B D : Type 0} (f : A → B) (contents : D → Option (List ℕ)) (limits : Sizes) (version : Version)
-    (path : Option A) (before after : Option (List ℕ)) (c : Completion)
-    → IsBuildTold contents limits version path before after c
-    → IsBuildTold contents limits version (option_map f path) before after c
-build_told f contents limits version path before after c h = record {
+    (path : Option A) (expected : Option ℕ) (before after : Option (List ℕ)) (c : Completion)
+    → IsBuildTold contents limits version path expected before after c
+    → IsBuildTold contents limits version (option_map f path) expected before after c
+build_told f contents limits version path expected before after c h = record {
   lex = h.lex;
   yacc = h.yacc;
   set = h.set;
@@ -296,18 +301,26 @@ build_told f contents limits version path before after c h = record {
   report_written = written_mapped f contents path h.report h.report_written;
   counts = h.counts;
   are_counts = h.are_counts;
+  as_expected = h.as_expected;
   line = h.line;
   done = h.done;
 }
 
-explanation_told : {A B D : Type 0} (f : A → B) (contents : D → Option (List ℕ)) (states graph : Option A)
-    (before after : Option (List ℕ)) (c : Completion) → IsExplanationTold contents states graph before after c
-    → IsExplanationTold contents (option_map f states) (option_map f graph) before after c
-explanation_told f contents states graph before after c h = record {
+text_named : {A B : Type 0} (f : A → B) (path : Option A) (bytes : List ℕ)
+    → lex_text (option_map f path) bytes ≡ lex_text path bytes
+text_named f None bytes = refl
+text_named f (Some path) bytes = refl
+
+explanation_told : {A B D : Type 0} (f : A → B) (contents : D → Option (List ℕ)) (lex states graph : Option A)
+    (strictness : Strictness) (before after : Option (List ℕ)) (c : Completion)
+    → IsExplanationTold contents lex states graph strictness before after c
+    → IsExplanationTold contents (option_map f lex) (option_map f states) (option_map f graph) strictness before after c
+explanation_told f contents lex states graph strictness before after c h = record {
   lex = h.lex;
   yacc = h.yacc;
   explanation = h.explanation;
-  explained = h.explained;
+  explained = subst (λ bytes. IsExplained version_2 bytes h.yacc h.explanation) (sym (text_named f lex h.lex))
+      h.explained;
   states_written = written_mapped f contents states h.explanation.states h.states_written;
   picture_written = written_mapped f contents graph h.explanation.picture h.picture_written;
   text = h.text;
@@ -315,36 +328,37 @@ explanation_told f contents states graph before after c h = record {
 }
 
 if_build_told : {A B D : Type 0} (f : A → B) (contents : D → Option (List ℕ)) (limits : Sizes) (version : Version)
-    (path : Option A) (before after : Option (List ℕ)) (r : Result Completion Failure)
-    → IfOk r (IsBuildTold contents limits version path before after)
-    → IfOk r (IsBuildTold contents limits version (option_map f path) before after)
-if_build_told f contents limits version path before after (Ok c) h =
-    build_told f contents limits version path before after c h
-if_build_told f contents limits version path before after (Err g) h = h
+    (path : Option A) (expected : Option ℕ) (before after : Option (List ℕ)) (r : Result Completion Failure)
+    → IfOk r (IsBuildTold contents limits version path expected before after)
+    → IfOk r (IsBuildTold contents limits version (option_map f path) expected before after)
+if_build_told f contents limits version path expected before after (Ok c) h =
+    build_told f contents limits version path expected before after c h
+if_build_told f contents limits version path expected before after (Err g) h = h
 
-if_explanation_told : {A B D : Type 0} (f : A → B) (contents : D → Option (List ℕ)) (states graph : Option A)
-    (before after : Option (List ℕ)) (r : Result Completion Failure)
-    → IfOk r (IsExplanationTold contents states graph before after)
-    → IfOk r (IsExplanationTold contents (option_map f states) (option_map f graph) before after)
-if_explanation_told f contents states graph before after (Ok c) h =
-    explanation_told f contents states graph before after c h
-if_explanation_told f contents states graph before after (Err g) h = h
+if_explanation_told : {A B D : Type 0} (f : A → B) (contents : D → Option (List ℕ)) (lex states graph : Option A)
+    (strictness : Strictness) (before after : Option (List ℕ)) (r : Result Completion Failure)
+    → IfOk r (IsExplanationTold contents lex states graph strictness before after)
+    → IfOk r (IsExplanationTold contents (option_map f lex) (option_map f states) (option_map f graph) strictness before
+    after)
+if_explanation_told f contents lex states graph strictness before after (Ok c) h =
+    explanation_told f contents lex states graph strictness before after c h
+if_explanation_told f contents lex states graph strictness before after (Err g) h = h
 
 pub carried_build : {A R D : Type 0} (contents : D → Option (List ℕ)) (f : A → List ℕ) (lex yacc tables : List ℕ)
-    (path : Option A) (version : Version) (points : Bool) (r : Result Completion Failure) (e : Ends R)
-    → IfOk r (IsBuildTold contents version_2 version path e.before e.after) → IfErr r (IsRefusalOfBuild version)
-    → e.input_after ≡ e.input_before
-    → IsCarriedOut contents (build lex yacc tables (option_map f path) version points) r e
-carried_build contents f lex yacc tables path version points r e told refused same =
-    (if_build_told f contents version_2 version path e.before e.after r told, refused, same)
+    (path : Option A) (version : Version) (expected : Option ℕ) (points : Bool) (r : Result Completion Failure)
+    (e : Ends R) → IfOk r (IsBuildTold contents version_2 version path expected e.before e.after)
+    → IfErr r (IsRefusalOfBuild version expected) → e.input_after ≡ e.input_before
+    → IsCarriedOut contents (build lex yacc tables (option_map f path) version expected points) r e
+carried_build contents f lex yacc tables path version expected points r e told refused same =
+    (if_build_told f contents version_2 version path expected e.before e.after r told, refused, same)
 
-pub carried_explain : {A R D : Type 0} (contents : D → Option (List ℕ)) (f : A → List ℕ) (lex yacc : List ℕ)
-    (states graph : Option A) (r : Result Completion Failure) (e : Ends R)
-    → IfOk r (IsExplanationTold contents states graph e.before e.after) → IfErr r IsOfDevice
+pub carried_explain : {A R D : Type 0} (contents : D → Option (List ℕ)) (f : A → List ℕ) (lex : Option A)
+    (yacc : List ℕ) (states graph : Option A) (strictness : Strictness) (r : Result Completion Failure) (e : Ends R)
+    → IfOk r (IsExplanationTold contents lex states graph strictness e.before e.after) → IfErr r IsOfDevice
     → e.input_after ≡ e.input_before
-    → IsCarriedOut contents (explain lex yacc (option_map f states) (option_map f graph)) r e
-carried_explain contents f lex yacc states graph r e told failed same =
-    (if_explanation_told f contents states graph e.before e.after r told, failed, same)
+    → IsCarriedOut contents (explain (option_map f lex) yacc (option_map f states) (option_map f graph) strictness) r e
+carried_explain contents f lex yacc states graph strictness r e told failed same =
+    (if_explanation_told f contents lex states graph strictness e.before e.after r told, failed, same)
 
 -- what is told of a device is told of what is known of it
 left_or_failed : {W : Type 0} (known : W → Option (List ℕ)) (old new : W) (before after : ℕ) (f : Failure)
@@ -364,7 +378,7 @@ pub told_of_known : {W : Type 0} (known : W → Option (List ℕ)) (request : Re
 told_of_known known (tokens lex text by) r old new before after h = known_told known r old new before after h
 told_of_known known (table_tokens tables text by) r old new before after h =
     known_told known r old new before after h
-told_of_known known (build lex yacc tables report version points) r old new before after h =
+told_of_known known (build lex yacc tables report version expected points) r old new before after h =
     known_told known r old new before after h
 told_of_known known (run tables text by) r old new before after h = known_told known r old new before after h
 told_of_known known (lines tables text by) r old new before after h = h
@@ -374,7 +388,7 @@ told_of_known known (try_placed lex yacc text points) r old new before after h =
     known_told known r old new before after h
 told_of_known known (try lex yacc text by) r old new before after h = known_told known r old new before after h
 told_of_known known (check tables by) r old new before after h = known_told known r old new before after h
-told_of_known known (explain lex yacc states graph) r old new before after h =
+told_of_known known (explain lex yacc states graph strictness) r old new before after h =
     known_told known r old new before after h
 
 -- a command that failed before it did anything
@@ -382,14 +396,15 @@ pub kept_told : {W : Type 0} (request : Request) (f : Failure) (old : W) (count 
     → IsToldOf request (Err f) old old count count
 kept_told (tokens lex text by) f old count = record { failed = inl (refl, refl); held = tt }
 kept_told (table_tokens tables text by) f old count = record { failed = inl (refl, refl); held = tt }
-kept_told (build lex yacc tables report version points) f old count = record { failed = inl (refl, refl); held = tt }
+kept_told (build lex yacc tables report version expected points) f old count =
+    record { failed = inl (refl, refl); held = tt }
 kept_told (run tables text by) f old count = record { failed = inl (refl, refl); held = tt }
 kept_told (lines tables text by) f old count = record { failed = inl refl; held = tt }
 kept_told (run_placed tables text points) f old count = record { failed = inl (refl, refl); held = tt }
 kept_told (try_placed lex yacc text points) f old count = record { failed = inl (refl, refl); held = tt }
 kept_told (try lex yacc text by) f old count = record { failed = inl (refl, refl); held = tt }
 kept_told (check tables by) f old count = record { failed = inl (refl, refl); held = tt }
-kept_told (explain lex yacc states graph) f old count = record { failed = inl (refl, refl); held = tt }
+kept_told (explain lex yacc states graph strictness) f old count = record { failed = inl (refl, refl); held = tt }
 
 -- what is told of standard output where lines were answered
 pub lines_told : (r : Result Completion Failure) (before after : ℕ) → AreWritesTold r before after
@@ -402,6 +417,8 @@ lines_told (Err (Unreadable path reason)) before after told kept =
     record { failed = inl (kept (λ no. no)); held = tt }
 lines_told (Err (Refused fault line)) before after told kept = record { failed = inl (kept (λ no. no)); held = tt }
 lines_told (Err (Tables fault)) before after told kept = record { failed = inl (kept (λ no. no)); held = tt }
+lines_told (Err (Unexpected counts expected)) before after told kept =
+    record { failed = inl (kept (λ no. no)); held = tt }
 lines_told (Err FaultyTables) before after told kept = record { failed = inl (kept (λ no. no)); held = tt }
 lines_told (Err TooLong) before after told kept = record { failed = inl (kept (λ no. no)); held = tt }
 lines_told (Err failure.OutOfMemory) before after told kept = record { failed = inl (kept (λ no. no)); held = tt }

@@ -1,6 +1,6 @@
 -- What a command has written, or why it failed, and what it read of standard input. Of what the files of its words hold
 -- nothing is known, so it is said for some bytes.
-use Rattle.std.specs.Prelude.{◌≡◌, ◌⊎◌, ◌++◌, ℕ, IfErr, IfOk, List, MatchBool, MatchResult}
+use Rattle.std.specs.Prelude.{◌≡◌, ◌⊎◌, ◌++◌, ℕ, IfErr, IfOk, List, MatchResult}
 use Rattle.std.specs.Prelude.{None, OnOk, Option, Result, Some, codes, length}
 use Rattle.std.specs.Fmt.{decimal}
 use Rattle.std.specs.Io.KnownBytes.{Appends, IsAtEnd}
@@ -9,7 +9,7 @@ use Rattle.std.specs.declared.vec.Vec.{Vec}
 use Rattle.ly_base.specs.Limits.{Sizes, least_of, sizes_in, version_2}
 use Rattle.ly_base.specs.declared.version.Version.{Version}
 use Rattle.ly_base.specs.declared.version.Version.TheVariants.{V1, V2}
-use Rattle.ly_explain.specs.Explained.{IsExplained}
+use Rattle.ly_explain.specs.Explained.{IsExplained, no_rules}
 use Rattle.ly_generate.specs.Generated.{IsGenerated}
 use Rattle.ly_generate.specs.Parser.{IsReportIf}
 use Rattle.ly_generate.specs.declared.report.Report.{Report}
@@ -25,8 +25,9 @@ use Rattle.ly_tables.specs.TableText.{TableText}
 use Rattle.ly_tables.specs.declared.set_counts.SetCounts.{SetCounts}
 use Rattle.ly_words.specs.Request.{Request, build, check, explain, lines, run, run_placed, table_tokens}
 use Rattle.ly_words.specs.Request.{tokens, try, try_placed}
+use Rattle.ly_words.specs.declared.command.Strictness.{Strictness}
 use Rattle.lytab.specs.Answering.{IsAnsweredByFiles, IsAnsweredByTables, AreTokensPrinted, text_from}
-use Rattle.lytab.specs.Completion.{completion_status}
+use Rattle.lytab.specs.Completion.{completion_of_findings, completion_status}
 use Rattle.lytab.specs.Devices.{IsToldOf}
 use Rattle.lytab.specs.Failure.{failure_status, IsOfDevice}
 use Rattle.lytab.specs.Files.{HasTaken, IsWrittenIf}
@@ -36,7 +37,7 @@ use Rattle.lytab.specs.Reading.{IsOfRules, IsReadByFiles, IsReadByTables}
 use Rattle.lytab.specs.Refusal.{IsRefusalOfBuild, IsRefusalOfCheck, IsRefusalOfFiles, IsRefusalOfLex, IsRefusalOfTables}
 use Rattle.lytab.specs.TableTokens.{AreTableTokens, IsRefusalOfScanner}
 use Rattle.lytab.specs.declared.completion.Completion.{Completion}
-use Rattle.lytab.specs.declared.completion.Completion.TheVariants.{Done, FilesRefused}
+use Rattle.lytab.specs.declared.completion.Completion.TheVariants.{Done}
 use Rattle.lytab.specs.declared.failure.Failure.{Failure}
 
 -- a report is wanted where a file is named for it
@@ -44,10 +45,16 @@ abbrev pub wanted_for : {A : Type 0} → Option A → Report
 wanted_for (Some path) = Wanted
 wanted_for None = Unwanted
 
+-- a specification has the conflicts that it is to have: so many between a shift and a reduction, and no others
+abbrev pub AreAsExpected : Option ℕ → ConflictCounts → Type 0
+AreAsExpected None counts = Unit {0}
+AreAsExpected (Some n) counts = (counts.shift_reduce ≡ n) × (counts.reduce_reduce ≡ 0)
+
 -- A table set was made of the specification that a lex file and a yacc file say within limits. Its table file was
--- written, and the specification's report where a file is named for it; and it is told how many conflicts there are.
+-- written, and the specification's report where a file is named for it; and it is told how many conflicts there are,
+-- which are as many as there are to be.
 pub record IsBuildTold {D A : Type 0} (contents : D → Option (List ℕ)) (limits : Sizes) (version : Version)
-    (report_path : Option A) (before after : Option (List ℕ)) (c : Completion) : Type 0 where
+    (report_path : Option A) (expected : Option ℕ) (before after : Option (List ℕ)) (c : Completion) : Type 0 where
   pub lex : List ℕ
   pub yacc : List ℕ
   pub set : TableSet
@@ -60,6 +67,7 @@ pub record IsBuildTold {D A : Type 0} (contents : D → Option (List ℕ)) (limi
   pub report_written : IsWrittenIf contents report_path report
   pub counts : ConflictCounts
   pub are_counts : AreCounts generated.spec counts
+  pub as_expected : AreAsExpected expected counts
   pub line : Appends before after (counts_line counts.shift_reduce counts.reduce_reduce)
   pub done : c ≡ Done
 
@@ -117,18 +125,25 @@ pub record IsCheckTold (form : AnswerForm) (before after : Option (List ℕ)) (c
   pub line : Appends before after (set_told form counts version)
   pub done : c ≡ Done
 
+-- the bytes of the lex file: where none is named it is one without rules
+abbrev pub lex_text : {A : Type 0} → Option A → List ℕ → List ℕ
+lex_text (Some path) bytes = bytes
+lex_text None bytes = no_rules
+
 -- what there is to say of a lex file and a yacc file, and whether they are accepted; the states of their parser and a
--- picture of them were written where files are named for them, as far as there are any
-pub record IsExplanationTold {D A : Type 0} (contents : D → Option (List ℕ)) (states_path graph_path : Option A)
-    (before after : Option (List ℕ)) (c : Completion) : Type 0 where
+-- picture of them were written where files are named for them, as far as there are any; and the end tells whether they
+-- pass
+pub record IsExplanationTold {D A : Type 0} (contents : D → Option (List ℕ))
+    (lex_path states_path graph_path : Option A)
+    (strictness : Strictness) (before after : Option (List ℕ)) (c : Completion) : Type 0 where
   pub lex : List ℕ
   pub yacc : List ℕ
   pub explanation : Explanation
-  pub explained : IsExplained version_2 lex yacc explanation
+  pub explained : IsExplained version_2 (lex_text lex_path lex) yacc explanation
   pub states_written : IsWrittenIf contents states_path explanation.states
   pub picture_written : IsWrittenIf contents graph_path explanation.picture
   pub text : Appends before after explanation.text.items
-  pub completed : MatchBool explanation.accepted (c ≡ Done) (c ≡ FilesRefused)
+  pub completed : c ≡ completion_of_findings strictness explanation.findings
 
 -- What a command's devices were before it and after it: standard input, what it had and has left, and what stood and
 -- stands on standard output.
@@ -184,15 +199,15 @@ IsCarriedOut contents (try lex yacc text by) result e = (lex_bytes yacc_bytes : 
     × IfOk result (IsAnsweredByFiles by.form lex_bytes yacc_bytes (text_from text e.given) e.before e.after)
     × IfErr result (IsRefusalOfFiles lex_bytes yacc_bytes (text_from text e.given))
     × IsInputTold text result e (IsReadForFiles lex_bytes yacc_bytes result e)
-IsCarriedOut contents (build lex yacc table_file report version points) result e =
-    IfOk result (IsBuildTold contents version_2 version report e.before e.after)
-    × IfErr result (IsRefusalOfBuild version)
+IsCarriedOut contents (build lex yacc table_file report version expected points) result e =
+    IfOk result (IsBuildTold contents version_2 version report expected e.before e.after)
+    × IfErr result (IsRefusalOfBuild version expected)
     × (e.input_after ≡ e.input_before)
 IsCarriedOut contents (check table_file by) result e =
     IfOk result (IsCheckTold by.form e.before e.after) × IfErr result IsRefusalOfCheck
     × (e.input_after ≡ e.input_before)
-IsCarriedOut contents (explain lex yacc states graph) result e =
-    IfOk result (IsExplanationTold contents states graph e.before e.after) × IfErr result IsOfDevice
+IsCarriedOut contents (explain lex yacc states graph strictness) result e =
+    IfOk result (IsExplanationTold contents lex states graph strictness e.before e.after) × IfErr result IsOfDevice
     × (e.input_after ≡ e.input_before)
 
 -- the exit status of a command that ended so; where it failed also 3, if there is no memory for the line that says why

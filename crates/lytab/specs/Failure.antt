@@ -10,7 +10,7 @@ use Rattle.ly_tables.specs.declared.fault.TableFault.{TableFault}
 use Rattle.ly_tables.specs.declared.fault.TableFault.TheVariants as file
 use Rattle.lytab.specs.declared.failure.Failure.{Failure}
 use Rattle.lytab.specs.declared.failure.Failure.TheVariants.{CannotRead, CannotWrite, FaultyTables, OutOfMemory}
-use Rattle.lytab.specs.declared.failure.Failure.TheVariants.{Refused, Tables, TooLong, Unreadable}
+use Rattle.lytab.specs.declared.failure.Failure.TheVariants.{Refused, Tables, TooLong, Unexpected, Unreadable}
 use Rattle.lytab.specs.declared.files.FileFault.{FileFault}
 use Rattle.lytab.specs.declared.files.FileFault.TheVariants as of_file
 
@@ -61,12 +61,14 @@ abbrev pub table_fault_status : TableFault → ℕ
 table_fault_status file.OutOfMemory = 3
 table_fault_status _ = 2
 
--- 1 where the text is too long, 2 where a file is refused, 3 where a device fails or memory runs out
+-- 1 where the text is too long, or there are other conflicts than there are to be, 2 where a file is refused, 3 where a
+-- device fails or memory runs out
 abbrev pub failure_status : Failure → ℕ
 failure_status (CannotRead path) = 3
 failure_status (Unreadable path reason) = 3
 failure_status (CannotWrite path) = 3
 failure_status (Refused fault line) = refusal_status fault
+failure_status (Unexpected counts expected) = 1
 failure_status (Tables fault) = table_fault_status fault
 failure_status FaultyTables = 2
 failure_status TooLong = 1

@@ -1,10 +1,11 @@
 -- What a failure says of the files that a text is answered by, and of the text.
-use Rattle.std.specs.Prelude.{◌≡◌, ◌≢◌, ℕ, List, [], Option, length}
-use Rattle.ly_base.specs.Limits.{least_of, sizes_in, version_2}
+use Rattle.std.specs.Prelude.{◌≡◌, ◌≢◌, ℕ, List, [], Option, Some, length}
+use Rattle.ly_base.specs.Limits.{Sizes, least_of, sizes_in, version_2}
 use Rattle.ly_base.specs.declared.version.Version.{Version}
 use Rattle.ly_drive.specs.Answering.{IsDriven, IsFaultyOn, IsTooLong}
 use Rattle.ly_generate.specs.Accepted.{IsRefusedFor}
 use Rattle.ly_generate.specs.GenFault.{gen_line}
+use Rattle.ly_generate.specs.Generated.{IsGenerated}
 use Rattle.ly_generate.specs.declared.gen_fault.GenFault.{GenFault}
 use Rattle.ly_generate.specs.declared.gen_fault.GenFault.TheVariants as gen
 use Rattle.ly_lexread.specs.Faults.{IsAtMost, IsTooHeavy}
@@ -12,6 +13,8 @@ use Rattle.ly_lexread.specs.LexText.{IsHeavyText, IsLight, LexText}
 use Rattle.ly_lexread.specs.declared.fault.LexFault.TheVariants as lex_fault
 use Rattle.ly_lexread.specs.declared.file.LexFile.{LexFile}
 use Rattle.ly_position.specs.declared.fault.PosFault.TheVariants.{TooManyPositions}
+use Rattle.ly_report.specs.Counts.{AreCounts}
+use Rattle.ly_report.specs.declared.counts.ConflictCounts.{ConflictCounts}
 use Rattle.ly_subset.specs.declared.fault.SubsetFault.TheVariants.{TooManyStates}
 use Rattle.ly_tables.specs.Refusal.{IsRefusedAs}
 use Rattle.ly_tables.specs.TableSet.{TableSet}
@@ -23,7 +26,7 @@ use Rattle.lytab.specs.declared.answering.Rules.{Rules}
 use Rattle.lytab.specs.declared.answering.Rules.TheVariants as rules
 use Rattle.lytab.specs.declared.failure.Failure.{Failure}
 use Rattle.lytab.specs.declared.failure.Failure.TheVariants.{CannotRead, CannotWrite, FaultyTables, OutOfMemory}
-use Rattle.lytab.specs.declared.failure.Failure.TheVariants.{Refused, Tables, TooLong}
+use Rattle.lytab.specs.declared.failure.Failure.TheVariants.{Refused, Tables, TooLong, Unexpected}
 
 -- The bytes are those of no lex file, or of one that is past the limits.
 abbrev pub IsRefusedLex : List ℕ → GenFault → Type 0
@@ -63,11 +66,24 @@ IsRefusalOfFiles lex yacc given (CannotWrite path) = Unit {0}
 IsRefusalOfFiles lex yacc given OutOfMemory = Unit {0}
 IsRefusalOfFiles lex yacc given _ = ⊥
 
--- where a table file of a version is built of some lex file and some yacc file
-abbrev pub IsRefusalOfBuild : Version → Failure → Type 0
-IsRefusalOfBuild version (Refused fault line) = (lex yacc : List ℕ)
+-- The specification that a lex file and a yacc file say within limits, of which a table set is made, has so many
+-- conflicts; and there are to be so many between a shift and a reduction, and no others.
+pub record HasOtherCounts (limits : Sizes) (version : Version) (expected : Option ℕ) (counts : ConflictCounts)
+    (wanted : ℕ) : Type 0 where
+  pub lex : List ℕ
+  pub yacc : List ℕ
+  pub set : TableSet
+  pub generated : IsGenerated version (least_of limits (sizes_in version)) lex yacc set
+  pub are_counts : AreCounts generated.spec counts
+  pub is_expected : expected ≡ Some wanted
+  pub others : (counts.shift_reduce ≡ wanted) × (counts.reduce_reduce ≡ 0) → ⊥
+
+-- where a table file of a version is built of some lex file and some yacc file, which are to have so many conflicts
+abbrev pub IsRefusalOfBuild : Version → Option ℕ → Failure → Type 0
+IsRefusalOfBuild version expected (Refused fault line) = (lex yacc : List ℕ)
     × IsRefusedFor (least_of version_2 (sizes_in version)) lex yacc fault × (line ≡ gen_line fault lex yacc)
-IsRefusalOfBuild version f = IsOfDevice f
+IsRefusalOfBuild version expected (Unexpected counts wanted) = HasOtherCounts version_2 version expected counts wanted
+IsRefusalOfBuild version expected f = IsOfDevice f
 
 -- where it is said what some table file is made of
 abbrev pub IsRefusalOfCheck : Failure → Type 0

@@ -3,11 +3,12 @@ ghost use Rattle.std.specs.Prelude.{◌≡◌, IfErr, IfOk, OnOk};
 ghost use Rattle.ly_base.specs.Limits.{version_2};
 ghost use Rattle.ly_report.specs.Report.{counts_line};
 ghost use Rattle.lytab.specs.CarriedOut.{wanted_for, IsBuildTold};
+ghost use Rattle.lytab.specs.Completion.{missed_count};
 ghost use Rattle.lytab.specs.Devices.{IsOutputTold};
 ghost use Rattle.lytab.specs.Files.{HasTaken, IsWrittenIf};
 ghost use Rattle.lytab.specs.Refusal.{IsRefusalOfBuild};
 
-use crate::completion::Completion;
+use crate::completion::{Completion, are_expected};
 use crate::failure::Failure;
 use crate::files::{FileFault, read_file, write_file, write_if_named};
 use crate::notes::Notes;
@@ -22,18 +23,19 @@ use std::rt::Files;
 
 /// Writes the table file of a lex file and a yacc file in a version, their report if it is asked for, and to standard
 /// output how many conflicts there are. Both files are read before anything is judged, and nothing is written before it
-/// is known.
+/// is known, nor where there are to be so many conflicts, and there are others.
 pub fn build_tables<'a, F: Files, W: Sink>(
     files: &F,
     alloc: Global,
     paths: Paths<'a>,
     version: Version,
+    expected: Option<usize>,
     output: &mut W,
     notes: &mut Notes,
 ) -> Result<Completion, Failure<'a>>
     ensures built { IfOk result (IsBuildTold ⟦<Counted<F::File> as Sink>⟧.contents version_2 version
-        paths.entry.report (W.contents output.old) (W.contents output.new)) }
-    ensures refused { IfErr result (IsRefusalOfBuild version) }
+        paths.entry.report expected (W.contents output.old) (W.contents output.new)) }
+    ensures refused { IfErr result (IsRefusalOfBuild version expected) }
     ensures devices { IsOutputTold result output.old output.new (W.failures output.old) (W.failures output.new) }
 {
     let lex = read_file(files, alloc, paths.lex, notes)?;
@@ -49,9 +51,22 @@ pub fn build_tables<'a, F: Files, W: Sink>(
             return refused;
         }
     };
+    if let Some(expected) = missed_count(expected, &built.conflicts) {
+        return Err(Failure::Unexpected(built.conflicts, expected));
+    }
     let line = conflicts_line(alloc, &built.conflicts)?;
     write_files(files, alloc, paths, &built, notes)?;
     Completion::Done.said(output, &line)
+}
+
+/// The count that is expected, where there are other conflicts.
+fn missed_count(expected: Option<usize>, conflicts: &ConflictCounts) -> Option<usize>
+    ensures { result ≡ missed_count expected conflicts.now }
+{
+    if are_expected(expected, conflicts) {
+        return None;
+    }
+    expected
 }
 
 /// Whether a report is wanted: where a file is named for it.

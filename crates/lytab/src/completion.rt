@@ -1,16 +1,18 @@
 //! How a command is completed.
-ghost use Rattle.std.specs.Prelude.{◌≡◌, IfErr, IfOk, MatchBool};
+ghost use Rattle.std.specs.Prelude.{◌≡◌, IfErr, IfOk};
 ghost use Rattle.std.specs.Io.KnownBytes.{Appends};
-ghost use Rattle.lytab.specs.Completion.{completion_of_lines, completion_of_outcome, completion_of_tokens};
-ghost use Rattle.lytab.specs.Completion.{completion_status};
+ghost use Rattle.lytab.specs.Completion.{completion_of_findings, completion_of_lines, completion_of_outcome};
+ghost use Rattle.lytab.specs.Completion.{are_expected, completion_of_tokens, completion_status, count_due};
+ghost use Rattle.lytab.specs.Completion.{pass};
 ghost use Rattle.lytab.specs.Devices.{IsOutputTold};
 ghost use Rattle.lytab.specs.Failure.{IsOfDevice};
-ghost use Rattle.lytab.specs.declared.completion.Completion.TheVariants as completion;
 
 use crate::failure::Failure;
 use crate::files::{STANDARD, write_to};
-use ly_engine::{LinesOutcome, Outcome, TokenEnd};
+use ly_engine::{ConflictCounts, LinesOutcome, Outcome, TokenEnd};
+use ly_explain::Findings;
 use ly_print::Sink;
+use ly_words::Strictness;
 
 /// How a command is completed where nothing fails.
 #[derive(Clone, Copy)]
@@ -19,6 +21,8 @@ pub enum Completion {
     Done,
     /// The text is refused, or one of its lines.
     TextRefused,
+    /// The files that are explained are accepted, and don't pass as strictly as they are judged.
+    NotPassed,
     /// The files that are explained are refused.
     FilesRefused,
 }
@@ -54,14 +58,15 @@ impl Completion {
         }
     }
 
-    /// How a command is completed that explains files, which are accepted or refused.
-    pub fn of_files(are_accepted: bool) -> Completion
-        ensures { MatchBool are_accepted (result ≡ completion.Done) (result ≡ completion.FilesRefused) }
+    /// How a command is completed that explains files, where this is found in them if they are accepted, and they are
+    /// judged so strictly.
+    pub fn of_findings(findings: &Option<Findings>, strictness: Strictness) -> Completion
+        ensures { result ≡ completion_of_findings strictness findings.now }
     {
-        if are_accepted {
-            Completion::Done
-        } else {
-            Completion::FilesRefused
+        match findings {
+            Some(findings) if pass(strictness, findings) => Completion::Done,
+            Some(_) => Completion::NotPassed,
+            None => Completion::FilesRefused,
         }
     }
 
@@ -84,8 +89,39 @@ impl Completion {
     {
         match self {
             Completion::Done => 0,
-            Completion::TextRefused => 1,
+            Completion::TextRefused | Completion::NotPassed => 1,
             Completion::FilesRefused => 2,
         }
+    }
+}
+
+/// Whether files in which this is found pass, judged so strictly.
+fn pass(strictness: Strictness, findings: &Findings) -> bool
+    ensures { result ≡ pass strictness findings.now }
+{
+    if strictness.strict && findings.are_doubtful {
+        return false;
+    }
+    are_expected(count_due(strictness), &findings.conflicts)
+}
+
+/// How many conflicts there are to be: the count that is said, or else none where doubts aren't allowed either.
+fn count_due(strictness: Strictness) -> Option<usize>
+    ensures { result ≡ count_due strictness }
+{
+    match strictness.expected {
+        Some(expected) => Some(expected),
+        None if strictness.strict => Some(0),
+        None => None,
+    }
+}
+
+/// Whether there are so many conflicts between a shift and a reduction, and no others, where a count is expected.
+pub fn are_expected(expected: Option<usize>, counts: &ConflictCounts) -> bool
+    ensures { result ≡ are_expected expected counts.now }
+{
+    match expected {
+        Some(expected) => counts.shift_reduce == expected && counts.reduce_reduce == 0,
+        None => true,
     }
 }

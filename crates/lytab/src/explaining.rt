@@ -2,7 +2,7 @@
 ghost use Rattle.std.specs.Prelude.{IfErr, IfOk, OnOk};
 ghost use Rattle.ly_base.specs.Limits.{version_2};
 ghost use Rattle.ly_explain.specs.Explained.{IsExplained};
-ghost use Rattle.lytab.specs.CarriedOut.{IsExplanationTold};
+ghost use Rattle.lytab.specs.CarriedOut.{IsExplanationTold, lex_text};
 ghost use Rattle.lytab.specs.Devices.{IsOutputTold};
 ghost use Rattle.lytab.specs.Failure.{IsOfDevice};
 ghost use Rattle.lytab.specs.Files.{IsWrittenIf};
@@ -13,39 +13,44 @@ use crate::files::{FileFault, read_file, write_if_named};
 use crate::notes::{Notes, reason};
 use crate::shown_path::ShownPath;
 use ly_base::{Limits, OutOfMemory};
-use ly_explain::{Explanation, Named, Wish, explain};
+use ly_explain::{Explanation, Named, Wish, explain, explain_grammar};
 use ly_print::{Counted, Sink};
-use ly_words::ExplainPaths;
+use ly_words::{ExplainPaths, Strictness};
 use std::alloc::Global;
 use std::rt::Files;
 
-/// Writes to standard output what there is to say of a lex file and a yacc file, and, where they are accepted, the
-/// states of their parser and a picture of them if they are asked for. Both files are read before anything is judged.
+/// Writes to standard output what there is to say of a lex file and a yacc file, or of a yacc file alone, and, where
+/// they are accepted, the states of their parser and a picture of them if they are asked for. All files are read before
+/// anything is judged.
+/// How strictly they are judged changes nothing that is written.
 pub fn explain_files<'a, F: Files, W: Sink>(
     files: &F,
     alloc: Global,
     paths: ExplainPaths<'a>,
+    strictness: Strictness,
     output: &mut W,
     notes: &mut Notes,
 ) -> Result<Completion, Failure<'a>>
     ensures said { IfOk result (IsExplanationTold ⟦<Counted<F::File> as Sink>⟧.contents
-        paths.entry.states paths.entry.graph (W.contents output.old)
+        paths.entry.lex paths.entry.states paths.entry.graph strictness (W.contents output.old)
         (W.contents output.new)) }
     ensures failed { IfErr result IsOfDevice }
     ensures devices { IsOutputTold result output.old output.new (W.failures output.old) (W.failures output.new) }
 {
-    let lex = read_or_say_why(files, alloc, paths.lex, notes)?;
+    let lex = read_if_named(files, alloc, paths.lex, notes)?;
     let yacc = read_or_say_why(files, alloc, paths.yacc, notes)?;
     let wish = Wish {
         states: paths.states.is_some(),
         picture: paths.graph.is_some(),
+        grammar_alone: false,
     };
     let explanation = explained(alloc, paths, &lex, &yacc, wish)?;
     write_files(files, alloc, paths, &explanation, notes)?;
-    Completion::of_files(explanation.accepted).said(output, &explanation.text)
+    Completion::of_findings(&explanation.findings, strictness).said(output, &explanation.text)
 }
 
-/// What there is to say of these files, by their names as people see them.
+/// What there is to say of these files, by their names as people see them; of the yacc file alone, where no lex file is
+/// named.
 fn explained(
     alloc: Global,
     paths: ExplainPaths<'_>,
@@ -53,12 +58,32 @@ fn explained(
     yacc: &[u8],
     wish: Wish,
 ) -> Result<Explanation, OutOfMemory>
-    ensures { IfOk result (IsExplained version_2 lex.now yacc.now) }
+    ensures { IfOk result (IsExplained version_2 (lex_text paths.entry.lex lex.now) yacc.now) }
 {
-    let lex_name = ShownPath(paths.lex).text(alloc)?;
     let yacc_name = ShownPath(paths.yacc).text(alloc)?;
-    let (lex, yacc) = (Named::new(&lex_name, lex), Named::new(&yacc_name, yacc));
-    explain(alloc, lex, yacc, &Limits::V2, wish)
+    let yacc = Named::new(&yacc_name, yacc);
+    match paths.lex {
+        Some(path) => {
+            let lex_name = ShownPath(path).text(alloc)?;
+            explain(alloc, Named::new(&lex_name, lex), yacc, &Limits::V2, wish)
+        }
+        None => explain_grammar(alloc, yacc, &Limits::V2, wish),
+    }
+}
+
+/// Reads a file whole, if one is named. What is read where none is, is empty.
+fn read_if_named<'a, F: Files>(
+    files: &F,
+    alloc: Global,
+    path: Option<&'a str>,
+    notes: &mut Notes,
+) -> Result<Vec<u8>, Failure<'a>>
+    ensures { IfErr result IsOfDevice }
+{
+    match path {
+        Some(path) => read_or_say_why(files, alloc, path, notes),
+        None => Ok(Vec::new(alloc)),
+    }
 }
 
 /// Writes the states of the parser and a picture of them, if they are there and asked for.

@@ -8,7 +8,7 @@ use crate::files::{FileFault, STANDARD};
 use crate::shown_path::ShownPath;
 use ly_base::OutOfMemory;
 use ly_drive::{DriveFault, TextFault};
-use ly_engine::GenFault;
+use ly_engine::{ConflictCounts, GenFault};
 use ly_join::JoinFault;
 use ly_report::push_terminal;
 use ly_tables::TableFault;
@@ -16,6 +16,8 @@ use std::alloc::{AllocError, Global};
 use std::io::{self, Write};
 
 const TEXT_REFUSED: u8 = 1;
+
+const UNEXPECTED: u8 = 1;
 
 const REFUSED: u8 = 2;
 
@@ -32,6 +34,9 @@ pub enum Failure<'a> {
     CannotWrite(&'a str),
     /// The lex file, the yacc file, or both together are refused; with the line at fault, where one of them is.
     Refused(GenFault, Option<u64>),
+    /// The lex file and the yacc file have so many conflicts, and there are to be so many between a shift and a
+    /// reduction, and no others.
+    Unexpected(ConflictCounts, usize),
     /// The table file is refused.
     Tables(TableFault),
     /// The tables are at fault on the text.
@@ -127,8 +132,8 @@ pub fn told<E: Write>(alloc: Global, failure: Failure<'_>, faults: &mut E) -> u8
     status_of(&failure)
 }
 
-/// The exit status of a failure: 1 where the text is too long, 2 where a file is refused, 3 where a device fails or
-/// memory runs out.
+/// The exit status of a failure: 1 where the text is too long, or there are other conflicts than there are to be, 2
+/// where a file is refused, 3 where a device fails or memory runs out.
 fn status_of(failure: &Failure<'_>) -> u8
     ensures range { (1 ≤ result) × (result ≤ 3) }
     ensures status { result ≡ failure_status failure.entry.now }
@@ -142,6 +147,7 @@ fn status_of(failure: &Failure<'_>) -> u8
         | Failure::OutOfMemory => DEVICE_OR_MEMORY,
         Failure::Refused(..) | Failure::Tables(_) | Failure::FaultyTables => REFUSED,
         Failure::TooLong => TEXT_REFUSED,
+        Failure::Unexpected(..) => UNEXPECTED,
     }
 }
 
@@ -155,6 +161,7 @@ fn push_line(out: &mut Vec<u8>, failure: &Failure<'_>) -> io::Result<()> {
         }
         Failure::CannotWrite(path) => writeln!(out, "cannot write {}", ShownPath(path)),
         Failure::Refused(fault, line) => push_refusal(out, fault, *line),
+        Failure::Unexpected(counts, expected) => push_unexpected(out, counts, *expected),
         Failure::Tables(fault) => push_table_fault(out, fault),
         Failure::FaultyTables => writeln!(out, "tables: fault 90 TableFault"),
         Failure::TooLong => writeln!(out, "fault 92 TooLong"),
@@ -184,6 +191,15 @@ fn push_refusal(out: &mut Vec<u8>, fault: &GenFault, line: Option<u64>) -> io::R
         _ => {}
     }
     out.write_all(b"\n")
+}
+
+/// Appends how many conflicts there are, and how many there are to be.
+fn push_unexpected(out: &mut Vec<u8>, counts: &ConflictCounts, expected: usize) -> io::Result<()> {
+    let (shifts, reductions) = (counts.shift_reduce, counts.reduce_reduce);
+    writeln!(
+        out,
+        "{shifts} shift/reduce and {reductions} reduce/reduce conflicts, where {expected} and 0 are expected"
+    )
 }
 
 /// Appends the place of a fault: the file, and its line if there is one.

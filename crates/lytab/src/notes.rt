@@ -41,7 +41,7 @@ impl Notes {
             | Command::Lines { by, .. }
             | Command::Try { by, .. }
             | Command::Check { by, .. } => by.points,
-            Command::Explain(_) => false,
+            Command::Explain { .. } => false,
         };
         Notes {
             page: Page::new(alloc),

@@ -26,10 +26,10 @@ use std::rt::Files;
 const BAD_WORDS: u8 = 4;
 
 /// Does what the words ask for, and answers the exit status: 0 for clean tokens, a tree, a build, files that are
-/// explained and accepted, or a help text, 1 where the text is refused, 2 where a lex file, a yacc file or a table file
-/// is refused, 3 where a device fails or memory runs out, 4 where the words are wrong. The answer goes to `output`, and
-/// a line that says what failed to `faults`. What is said of files that are explained is the answer, also where they
-/// are refused.
+/// explained and accepted, or a help text, 1 where the text is refused, or files are accepted and aren't as they are to
+/// be, 2 where a lex file, a yacc file or a table file is refused, 3 where a device fails or memory runs out, 4 where
+/// the words are wrong. The answer goes to `output`, and a line that says what failed to `faults`. What is said of
+/// files that are explained is the answer, also where they are refused.
 ///
 /// What files hold is known to no contract, so what the answer says of them is said for some bytes. Tests alone show
 /// that these are the bytes of the files that the words name, what is written to files and to `faults`, and which
@@ -193,14 +193,19 @@ fn carry_out<'a, F: Files, R: Source + Recall, W: Sink>(
             notes.explain(alloc, lex, yacc, &Limits::V2, &ended);
             ended
         }
-        Command::Build { paths, version, .. } => {
-            build_tables(files, alloc, paths, version, output, notes)
-        }
+        Command::Build {
+            paths,
+            version,
+            expected,
+            ..
+        } => { build_tables(files, alloc, paths, version, expected, output, notes) }
         Command::Check { tables, by } => {
             let ended = check_tables(files, alloc, tables, by.form, output, notes);
             notes.explain_tables(tables, &ended);
             ended
         }
-        Command::Explain(paths) => explain_files(files, alloc, paths, output, notes),
+        Command::Explain { paths, strictness } => {
+            explain_files(files, alloc, paths, strictness, output, notes)
+        }
     }
 }

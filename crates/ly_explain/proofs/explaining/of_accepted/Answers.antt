@@ -3,6 +3,7 @@ use Rattle.ly_join.specs.Scanning.{scanning_of}
 use Rattle.ly_generate.specs.Accepted.{IsRefusedFor, IsUnfitFor}
 use Rattle.ly_generate.proofs.GenFaultLemmas.{err_weaker, ok_weaker, unfit_refused, when_same}
 use Rattle.ly_generate.specs.declared.gen_fault.GenFault.TheVariants.{OutOfMemory}
+use Rattle.ly_explain.proofs.ExplainedLemmas.{explained}
 use Rattle.ly_explain.proofs.explaining.of_accepted.Goals as goal
 
 pub of_read-said-requires-clause-shapes : goal.of_read-said-requires-clause-shapes
@@ -17,12 +18,7 @@ returns-in_err-dfa-clause-refused c = when_same c.from_residual-in_err-dfa.resul
 
 pub returns-clause-formed : goal.returns-clause-formed
 returns-clause-formed c = ok_weaker c.of_read-said.result _ _
-    (λ e fit. record {
-      spec = c.in_ok-given.given.spec;
-      specifies = c.in_ok-given.ensures.says.specifies;
-      useful = fit.0;
-      fit = fit.1;
-    })
+    (λ e fit. explained _ _ _ c.in_ok-given.given.spec c.in_ok-given.ensures.says.specifies e fit.0 fit.1)
     c.of_read-said.ensures.fit
 
 pub returns-clause-refused : goal.returns-clause-refused

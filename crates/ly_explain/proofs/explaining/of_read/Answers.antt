@@ -5,6 +5,7 @@ use Rattle.ly_grammar.specs.Reduction.{KeepsUseful}
 use Rattle.ly_join.specs.Grammar.{Grammar}
 use Rattle.ly_lr0.proofs.LawLemmas.{no_more}
 use Rattle.ly_generate.specs.Accepted.{IsUnfitFor}
+use Rattle.ly_explain.proofs.ExplainedLemmas.{both_ok}
 use Rattle.ly_explain.proofs.explaining.of_read.Goals as goal
 
 pub of_automaton-requires-clause-useful : goal.of_automaton-requires-clause-useful
@@ -18,18 +19,21 @@ returns-clause-fit c =
     let M = c.in_ok-lr0.lr0 in
     let lawful = c.in_ok-lr0.ensures.automaton in
     IfOk-weaker c.of_automaton.result _ _
-    (λ e steady. (
-      M.grammar,
-      record {
-        useful_rules = subst (λ (G : Grammar). KeepsUseful G M.grammar) c.grammar.ensures.grammar
-            (subst (λ (R : Grammar). KeepsUseful c.grammar.result.now R) (sym c.in_ok-lr0.ensures.grammar)
-            c.in_ok-reduced.ensures.ok.keeps);
-        reduced = lawful.reduced;
-        few = no_more M c.args.limits.now.parser_states lawful c.in_ok-lr0.ensures.few;
-        steady = steady;
-      },
+    (λ e both. (
+      (
+        M.grammar,
+        record {
+          useful_rules = subst (λ (G : Grammar). KeepsUseful G M.grammar) c.grammar.ensures.grammar
+              (subst (λ (R : Grammar). KeepsUseful c.grammar.result.now R) (sym c.in_ok-lr0.ensures.grammar)
+              c.in_ok-reduced.ensures.ok.keeps);
+          reduced = lawful.reduced;
+          few = no_more M c.args.limits.now.parser_states lawful c.in_ok-lr0.ensures.few;
+          steady = both.1;
+        },
+      ),
+      both.0,
     ))
-    c.of_automaton.ensures.steady
+    (both_ok c.of_automaton.result _ _ c.of_automaton.ensures.found c.of_automaton.ensures.steady)
 
 pub returns-clause-unfit : goal.returns-clause-unfit
 returns-clause-unfit c = IfErr-weaker c.of_automaton.result

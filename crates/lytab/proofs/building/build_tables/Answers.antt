@@ -1,10 +1,12 @@
-use Rattle.std.proofs.Common.{◌≡◌, IfOk, rules, subst, sym}
+use Rattle.std.proofs.Common.{◌≡◌, ◌∙◌, IfOk, rules, subst, sym}
 use Rattle.std.specs.Io.KnownBytes.{Appends}
 use Rattle.ly_print.specs.declared.counted.Counted.{Counted}
 use Rattle.ly_generate.specs.Parser.{IsReportIf}
 use Rattle.ly_generate.proofs.GenFaultLemmas.{ok_weaker}
 use Rattle.lytab.specs.CarriedOut.{IsBuildTold}
+use Rattle.lytab.specs.Refusal.{HasOtherCounts}
 use Rattle.lytab.specs.declared.completion.Completion.TheVariants.{Done}
+use Rattle.lytab.proofs.CountLemmas.{counts_differ, counts_hold}
 use Rattle.lytab.proofs.building.build_tables.Goals as goal
 
 pub returns-clause-built : goal.returns-clause-built
@@ -16,7 +18,7 @@ returns-clause-built g c =
     search rules in
     subst (λ limits. IfOk c.said.result (IsBuildTold
     (λ (d : Counted g.row.F-File.Denot). g.F.File.Write.contents d.inner)
-    limits c.args.version c.args.paths.report before after))
+    limits c.args.version c.args.paths.report c.args.expected before after))
     c.version_2-limits.ensures
     (ok_weaker c.said.result _ _
     (λ done said. record {
@@ -32,7 +34,24 @@ returns-clause-built g c =
       report_written = c.in_ok-write_files.ensures.report;
       counts = c.in-Ok.built.conflicts;
       are_counts = built.3;
+      as_expected = counts_hold c.args.expected c.in-Ok.built.conflicts (sym c.missed_count.ensures ∙ c.in_default.is);
       line = rw (sym c.in_ok-line.ensures) said.1;
       done = said.0;
     })
     is_said)
+
+pub returns-in-Some-clause-refused : goal.returns-in-Some-clause-refused
+returns-in-Some-clause-refused g c =
+    let built = c.in-Ok.ensures.built in
+    let differ = counts_differ c.args.expected c.in-Ok.built.conflicts _ (sym c.missed_count.ensures ∙ c.in-Some.is) in
+    subst (λ limits. HasOtherCounts limits c.args.version c.args.expected c.in-Ok.built.conflicts c.in-Some.expected)
+    c.version_2-limits.ensures
+    (record {
+      lex = _;
+      yacc = _;
+      set = built.0;
+      generated = built.1;
+      are_counts = built.3;
+      is_expected = differ.0;
+      others = differ.1;
+    })

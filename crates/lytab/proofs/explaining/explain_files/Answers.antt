@@ -1,4 +1,4 @@
-use Rattle.std.proofs.Common.{◌≡◌, IfOk, rules}
+use Rattle.std.proofs.Common.{◌≡◌, ◌∙◌, IfOk, rules}
 use Rattle.std.specs.Io.KnownBytes.{Appends}
 use Rattle.ly_generate.proofs.GenFaultLemmas.{ok_weaker}
 use Rattle.lytab.proofs.explaining.explain_files.Goals as goal
@@ -8,7 +8,7 @@ returns-clause-said g c =
     let explanation = c.in_ok-explanation.explanation in
     let before = g.W.Sink.contents c.args.output.now in
     let after = g.W.Sink.contents c.said.new.output in
-    let is_said : IfOk c.said.result (λ done. (done ≡ c.of_files.result)
+    let is_said : IfOk c.said.result (λ done. (done ≡ c.of_findings.result)
     × Appends before after explanation.text.items) = search rules in
     ok_weaker c.said.result _ _
     (λ done said. record {
@@ -19,6 +19,6 @@ returns-clause-said g c =
       states_written = c.in_ok-write_files.ensures.states;
       picture_written = c.in_ok-write_files.ensures.picture;
       text = said.1;
-      completed = rw said.0 c.of_files.ensures;
+      completed = said.0 ∙ c.of_findings.ensures;
     })
     is_said

@@ -75,7 +75,7 @@ returns-in-Build-clause-carried_out g c =
     rw c.in-Build.is (carried_build
     (λ (d : Counted g.row.F-File.Denot). g.F.File.Write.contents d.inner) (λ s. s.now)
     c.in-Build.paths.lex.now c.in-Build.paths.yacc.now c.in-Build.paths.tables.now c.in-Build.paths.report
-    c.in-Build.version c.in-Build.points c.build_tables.result (record {
+    c.in-Build.version c.in-Build.expected c.in-Build.points c.build_tables.result (record {
       input_before = c.args.input.now;
       input_after = c.args.input.now;
       given = g.R.Source.remaining c.args.input.now;
@@ -90,7 +90,7 @@ returns-in-Explain-clause-carried_out g c =
     let paths = c.in-Explain.paths in
     rw c.in-Explain.is (carried_explain
     (λ (d : Counted g.row.F-File.Denot). g.F.File.Write.contents d.inner) (λ s. s.now)
-    paths.lex.now paths.yacc.now paths.states paths.graph c.explain_files.result (record {
+    paths.lex paths.yacc.now paths.states paths.graph c.in-Explain.strictness c.explain_files.result (record {
       input_before = c.args.input.now;
       input_after = c.args.input.now;
       given = g.R.Source.remaining c.args.input.now;
