@@ -3,7 +3,7 @@
 //! to the same tokens (in the manner of Isradisaikul and Myers 2015). What is found is asked of `ly_examples` before it
 //! is said.
 use crate::bodies::{behind_dot, body_of};
-use crate::drawing::core_of;
+use crate::cores::Cores;
 use crate::growing::Search;
 use crate::pair::{Pair, beginning};
 use crate::reading::Reading;
@@ -41,6 +41,8 @@ pub(crate) struct Ambiguity {
 pub(crate) struct Finder<'a> {
     /// The automaton, which knows the rules of each nonterminal.
     pub(crate) lr0: &'a Lr0<'a>,
+    /// The items of its states.
+    pub(crate) cores: &'a Cores<'a>,
     /// Its grammar.
     pub(crate) grammar: &'a Grammar,
     /// The shortest yields of nonterminals.
@@ -55,11 +57,13 @@ impl<'a> Finder<'a> {
     /// What sentences of an automaton's grammar are sought by.
     pub(crate) fn new(
         alloc: Global,
-        lr0: &'a Lr0<'a>,
+        cores: &'a Cores<'a>,
         yields: &'a Yields,
     ) -> Result<Finder<'a>, AllocError> {
+        let lr0 = cores.lr0();
         Ok(Finder {
             lr0,
+            cores,
             grammar: lr0.reduced().grammar(),
             yields,
             surroundings: Surroundings::of(alloc, lr0)?,
@@ -150,7 +154,7 @@ impl<'a> Finder<'a> {
             return Ok(self.begin_with(alloc, search, conflict.state, one, other)?);
         }
         let ahead = Some(Symbol::Terminal(conflict.terminal));
-        for item in &core_of(alloc, self.lr0, conflict.state)? {
+        for item in &self.cores.items(alloc, conflict.state)? {
             if behind_dot(self.grammar, *item) == ahead {
                 self.begin_with(alloc, search, conflict.state, *item, other)?;
             }

@@ -1,6 +1,7 @@
 //! The claims that are looked at on the way from an action back to the start, each on a beginning of one string.
+use crate::cores::Cores;
 use indexmap::{IndexMap, IndexSet};
-use ly_base::{OutOfMemory, Sym};
+use ly_base::{OutOfMemory, StateNo, Sym};
 use ly_examples::Claim;
 use ly_lr0::Item;
 use std::alloc::{AllocError, Global};
@@ -35,6 +36,8 @@ pub(crate) struct Search {
     pub(crate) found: IndexMap<Claimed, usize>,
     /// The openings of those that were looked at.
     pub(crate) opened: IndexSet<Opening>,
+    /// The items of the state that was asked for last.
+    pub(crate) last: Option<(StateNo, Vec<Item>)>,
 }
 
 impl Search {
@@ -45,6 +48,26 @@ impl Search {
         }
         let (claimed, _) = self.found.get_index(place)?;
         Some(*claimed)
+    }
+
+    /// The items of a state. Claims on one beginning mostly follow one another, so those of the last one are kept.
+    pub(crate) fn items(
+        &mut self,
+        alloc: Global,
+        cores: &Cores<'_>,
+        state: StateNo,
+    ) -> Result<&[Item], AllocError> {
+        let known = match &self.last {
+            Some((last, _)) => *last == state,
+            None => false,
+        };
+        if !known {
+            self.last = Some((state, cores.items(alloc, state)?));
+        }
+        match &self.last {
+            Some((_, items)) => Ok(items),
+            None => Ok(&[]),
+        }
     }
 
     /// Whether a claim depends on an opening that was met before. A new one is met here.

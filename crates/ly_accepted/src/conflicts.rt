@@ -3,12 +3,14 @@ ghost use Rattle.std.specs.Prelude.{Contains};
 ghost use Rattle.ly_resolve.specs.Values.{conflict_from, IsInside};
 
 use crate::ambiguity::{Ambiguity, Finder};
+use crate::cores::Cores;
 use crate::cures::say_cure;
-use crate::groups::{BOUND, Group, groups_of};
+use crate::cut::{say_large, say_symbols};
+use crate::groups::{BOUND, Group, TOLD, groups_of};
 use crate::headings::say_heading;
 use crate::meeting::is_met;
 use crate::places::Places;
-use crate::surveying::{Accepted, say_numbered};
+use crate::surveying::{Accepted, first_of, say_numbered};
 use crate::trees::say_ambiguity;
 use crate::ways::{Drawn, say_ways, say_ways_at};
 use crate::yields::Yields;
@@ -20,14 +22,13 @@ use ly_report::ConflictCounts;
 use ly_resolve::{Action, Conflict, ConflictKind};
 use std::alloc::Global;
 
-/// How many groups of conflicts get an example, at most.
-const EXAMPLES: usize = 500;
-
 /// What conflicts are told by.
 #[derive(Clone, Copy)]
 struct Teller<'a> {
     /// The conflicts, and where examples of them are sought.
     examples: &'a Examples<'a>,
+    /// The items of the states.
+    cores: &'a Cores<'a>,
     /// The shortest yields of nonterminals.
     yields: &'a Yields,
     /// The specification.
@@ -57,6 +58,7 @@ pub(crate) fn say_conflicts(
     let yields = Yields::of(alloc, resolved.lr0().reduced())?;
     let teller = Teller {
         examples: &Examples::new(alloc, resolved)?,
+        cores: &Cores::of(alloc, resolved.lr0())?,
         yields: &yields,
         spec: files.spec,
     };
@@ -72,8 +74,7 @@ impl Teller<'_> {
         files: &Accepted<'_>,
         places: &Places,
     ) -> Result<(), OutOfMemory> {
-        let lr0 = self.examples.resolved().lr0();
-        let mut finder = Finder::new(alloc, lr0, self.yields)?;
+        let mut finder = Finder::new(alloc, self.cores, self.yields)?;
         let groups = groups_of(alloc, self.examples)?;
         say_cure(
             alloc,
@@ -82,7 +83,7 @@ impl Teller<'_> {
             self.examples.resolved().conflicts(),
             &groups,
         )?;
-        for (number, group) in groups.iter().enumerate() {
+        for group in first_of(&groups, TOLD) {
             let Some(first) = group.conflicts.first() else {
                 continue;
             };
@@ -90,10 +91,9 @@ impl Teller<'_> {
                 continue;
             };
             say_heading(alloc, page, files, places, conflict, &group.conflicts)?;
-            if number < EXAMPLES {
-                self.say_example(alloc, page, conflict, group, &mut finder)?;
-            }
+            self.say_example(alloc, page, conflict, group, &mut finder)?;
         }
+        say_untold(page, groups.len().saturating_sub(TOLD));
         Ok(())
     }
 
@@ -138,7 +138,7 @@ impl Teller<'_> {
     ) -> Result<(), OutOfMemory> {
         let spec = self.spec;
         page.say(b"    example:");
-        page.say_symbols(spec, string);
+        say_symbols(page, spec, string);
         page.say(b" . ");
         page.say_terminal(spec, conflict.terminal);
         page.say(b"\n");
@@ -210,7 +210,7 @@ impl Teller<'_> {
     /// What the ways to the actions of a conflict are drawn by.
     fn drawn<'c>(&'c self, conflict: &'c Conflict) -> Drawn<'c> {
         Drawn {
-            lr0: self.examples.resolved().lr0(),
+            cores: self.cores,
             spec: self.spec,
             conflict,
         }
@@ -232,6 +232,19 @@ impl Teller<'_> {
                 Ok(())
             }
         }
+    }
+}
+
+/// Says how many groups of conflicts are left untold, if any are.
+fn say_untold(page: &mut Page, count: usize) {
+    if count > 0 {
+        page.say(b"\n");
+        say_large(page, count as u64);
+        page.say(if count == 1 {
+            b" more group of conflicts isn't told.\n".as_slice()
+        } else {
+            b" more groups of conflicts aren't told.\n"
+        });
     }
 }
 

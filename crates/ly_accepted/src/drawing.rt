@@ -1,6 +1,7 @@
 //! How an action comes about behind a string of symbols: the rules that are under way there.
 use crate::bodies::{behind_dot, rest_of};
 use crate::claims::{Claimed, MOST, Opening, Search, item_of, with_item};
+use crate::cores::Cores;
 use indexmap::{IndexMap, IndexSet};
 use ly_base::{OutOfMemory, StateNo, Sym};
 use ly_examples::Claim;
@@ -20,27 +21,28 @@ pub(crate) struct Drawing<'a> {
     string: &'a [Symbol],
     /// What stands next.
     terminal: Sym,
-    /// For each beginning of the string, the empty one first, the items of its core.
-    cores: Vec<Vec<Item>>,
+    /// The items of the states.
+    cores: &'a Cores<'a>,
+    /// For each beginning of the string, the empty one first, the state to which it leads.
+    states: Vec<StateNo>,
 }
 
 impl<'a> Drawing<'a> {
     /// What is drawn behind this string.
     pub(crate) fn new(
         alloc: Global,
-        lr0: &'a Lr0<'a>,
+        cores: &'a Cores<'a>,
         string: &'a [Symbol],
         terminal: Sym,
     ) -> Result<Drawing<'a>, OutOfMemory> {
-        let mut cores = Vec::new(alloc);
-        push_cores(alloc, lr0, string, &mut cores)?;
-        let reduced = lr0.reduced();
+        let reduced = cores.lr0().reduced();
         Ok(Drawing {
             reduced,
             grammar: reduced.grammar(),
             string,
             terminal,
             cores,
+            states: states_along(alloc, cores.lr0(), string)?,
         })
     }
 
@@ -50,6 +52,7 @@ impl<'a> Drawing<'a> {
         let mut search = Search {
             found: IndexMap::new(alloc),
             opened: IndexSet::new(alloc),
+            last: None,
         };
         let last = Claimed {
             length: self.string.len(),
@@ -88,7 +91,8 @@ impl<'a> Drawing<'a> {
         if search.opens_again(self.opening(claimed))? {
             return Ok(false);
         }
-        Ok(search.has_start(&self.before(alloc, claimed)?, place)?)
+        let before = self.before(alloc, search, claimed)?;
+        Ok(search.has_start(&before, place)?)
     }
 
     /// What a claim on a rule with nothing before its dot is true by depends on alone.
@@ -106,7 +110,12 @@ impl<'a> Drawing<'a> {
     }
 
     /// The claims by which one is true.
-    fn before(&self, alloc: Global, claimed: Claimed) -> Result<Vec<Claimed>, OutOfMemory> {
+    fn before(
+        &self,
+        alloc: Global,
+        search: &mut Search,
+        claimed: Claimed,
+    ) -> Result<Vec<Claimed>, OutOfMemory> {
         let mut found = Vec::new(alloc);
         let Some(item) = item_of(claimed.claim) else {
             return Ok(found);
@@ -120,7 +129,8 @@ impl<'a> Drawing<'a> {
                 let claim = with_item(claimed.claim, item);
                 found.push(Claimed { length, claim })?;
             }
-        } else if let Some(core) = self.cores.get(claimed.length) {
+        } else if let Some(state) = self.states.get(claimed.length) {
+            let core = search.items(alloc, self.cores, *state)?;
             self.push_waiting(&mut found, core, claimed, item)?;
         }
         Ok(found)
@@ -170,40 +180,27 @@ impl<'a> Drawing<'a> {
     }
 }
 
-/// Adds the cores of the states to which the beginnings of a string lead, up to where it leads nowhere.
-fn push_cores(
+/// The states to which the beginnings of a string lead, up to where it leads nowhere.
+fn states_along(
     alloc: Global,
     lr0: &Lr0<'_>,
     string: &[Symbol],
-    cores: &mut Vec<Vec<Item>>,
-) -> Result<(), OutOfMemory> {
+) -> Result<Vec<StateNo>, OutOfMemory> {
+    let mut states = Vec::new(alloc);
     let mut state = StateNo(0);
-    cores.push(core_of(alloc, lr0, state)?)?;
+    states.push(state)?;
     for symbol in string {
         let Some(next) = goto_of(lr0, state, *symbol) else {
             break;
         };
         state = next;
-        cores.push(core_of(alloc, lr0, state)?)?;
+        states.push(state)?;
     }
-    Ok(())
-}
-
-/// The items of a state; none of a number that no state has.
-pub(crate) fn core_of(
-    alloc: Global,
-    lr0: &Lr0<'_>,
-    state: StateNo,
-) -> Result<Vec<Item>, OutOfMemory> {
-    if (state.0 as usize) < lr0.states() {
-        lr0.core(alloc, state)
-    } else {
-        Ok(Vec::new(alloc))
-    }
+    Ok(states)
 }
 
 /// Where a symbol leads from a state; nowhere from a number that no state has.
-fn goto_of(lr0: &Lr0<'_>, state: StateNo, symbol: Symbol) -> Option<StateNo> {
+pub(crate) fn goto_of(lr0: &Lr0<'_>, state: StateNo, symbol: Symbol) -> Option<StateNo> {
     if (state.0 as usize) < lr0.states() {
         lr0.goto(state, symbol)
     } else {

@@ -1,8 +1,9 @@
 //! Which conflicts are told together: those of one state that differ in the terminal alone, and that have examples
 //! alike.
+use indexmap::{IndexMap, IndexSet};
 use ly_base::OutOfMemory;
 use ly_examples::{Example, Examples};
-use ly_resolve::{Conflict, ConflictKind};
+use ly_resolve::{Action, Conflict, ConflictKind};
 use std::alloc::Global;
 
 /// How many demands a search for an example looks at, at most.
@@ -14,6 +15,9 @@ const SEARCHES: usize = 2_000;
 /// Behind how many conflicts with more demands no example is sought any more.
 const ENDLESS: usize = 40;
 
+/// How many groups of conflicts are told, at most.
+pub(crate) const TOLD: usize = 100;
+
 /// Conflicts that are told together.
 #[derive(Drop)]
 pub(crate) struct Group {
@@ -21,6 +25,45 @@ pub(crate) struct Group {
     pub(crate) conflicts: Vec<usize>,
     /// The example of the first of them; nothing where none was sought.
     pub(crate) example: Option<Example>,
+}
+
+/// What the conflicts of a group have in common.
+#[derive(Clone, Copy, PartialEq, Eq, Hash)]
+struct Common {
+    /// Their state.
+    state: u32,
+    /// Their rule.
+    rule: usize,
+    /// The rule that is chosen; none where another action is.
+    chosen: Option<usize>,
+    /// Whether the terminal is refused.
+    is_refused: bool,
+    /// Whether it is a shift that stands against the rule.
+    is_shift: bool,
+    /// What was answered where an example was sought; nothing of a shift, which has one, whether it was found or not.
+    answer: Option<Answer>,
+}
+
+/// What is answered where an example is sought.
+#[derive(Clone, Copy, PartialEq, Eq, Hash)]
+enum Answer {
+    /// There is one.
+    At,
+    /// There is none.
+    Merged,
+    /// None was found.
+    Unknown,
+}
+
+/// The groups so far, and where each stands by what its conflicts have in common.
+#[derive(Drop)]
+struct Groups {
+    /// The groups.
+    list: Vec<Group>,
+    /// Their places.
+    places: IndexMap<Common, usize>,
+    /// What the conflicts of those that are told have in common, whatever was answered.
+    told: IndexSet<Common>,
 }
 
 /// How many examples may still be sought.
@@ -39,28 +82,21 @@ pub(crate) fn groups_of(alloc: Global, examples: &Examples<'_>) -> Result<Vec<Gr
         searches: SEARCHES,
         endless: ENDLESS,
     };
-    let mut groups = Vec::new(alloc);
-    for index in 0..conflicts.len() {
-        let example = if is_shift_of_group(conflicts, &groups, index) {
-            None
-        } else {
+    let mut groups = Groups {
+        list: Vec::new(alloc),
+        places: IndexMap::new(alloc),
+        told: IndexSet::new(alloc),
+    };
+    for (index, conflict) in conflicts.iter().enumerate() {
+        let example = if groups.asks_for(conflict) {
             example_of(alloc, examples, index, &mut patience)?
+        } else {
+            None
         };
-        add(alloc, conflicts, &mut groups, index, example)?;
+        groups.add(alloc, conflict, index, example)?;
     }
-    Ok(groups)
-}
-
-/// Whether the conflict of an index is a shift against a reduction, of which a group has one that differs in the
-/// terminal alone: all of these have examples, so none is sought.
-fn is_shift_of_group(conflicts: &[Conflict], groups: &[Group], index: usize) -> bool {
-    match conflicts.get(index) {
-        Some(conflict) => {
-            conflict.kind == ConflictKind::ShiftReduce
-                && place_of(conflicts, groups, index, &None).is_some()
-        }
-        None => false,
-    }
+    let Groups { list, .. } = groups;
+    Ok(list)
 }
 
 /// The example of the conflict of an index, if one may still be sought.
@@ -84,92 +120,65 @@ fn example_of(
     Ok(Some(example))
 }
 
-/// Adds the conflict of an index to its group, or as a group of its own.
-fn add(
-    alloc: Global,
-    conflicts: &[Conflict],
-    groups: &mut Vec<Group>,
-    index: usize,
-    example: Option<Example>,
-) -> Result<(), OutOfMemory> {
-    if let Some(place) = place_of(conflicts, groups, index, &example)
-        && let Some(group) = groups.get_mut(place)
-    {
-        group.conflicts.push(index)?;
-        return Ok(());
-    }
-    let mut members = Vec::new(alloc);
-    members.push(index)?;
-    groups.push(Group {
-        conflicts: members,
-        example,
-    })?;
-    Ok(())
-}
-
-/// The place of the group to which the conflict of an index belongs, if there is one. Groups of one state stand
-/// together, so no other one is looked at.
-fn place_of(
-    conflicts: &[Conflict],
-    groups: &[Group],
-    index: usize,
-    example: &Option<Example>,
-) -> Option<usize> {
-    for place in (0..groups.len()).rev() {
-        let group = groups.get(place)?;
-        if !are_of_one_state(conflicts, group, index) {
-            return None;
+impl Groups {
+    /// Whether an example of a conflict is sought: one of those that are told, or that may belong to them. Shifts
+    /// against a reduction that differ in the terminal alone have examples all, so one of them is asked.
+    fn asks_for(&self, conflict: &Conflict) -> bool {
+        let common = common_of(conflict, &None);
+        if common.is_shift && self.places.contains_key(&common) {
+            return false;
         }
-        if are_alike(conflicts, group, index, example) {
-            return Some(place);
+        self.list.len() < TOLD || self.told.contains(&common)
+    }
+
+    /// Adds the conflict of an index to its group, or as a group of its own.
+    fn add(
+        &mut self,
+        alloc: Global,
+        conflict: &Conflict,
+        index: usize,
+        example: Option<Example>,
+    ) -> Result<(), OutOfMemory> {
+        let common = common_of(conflict, &example);
+        if let Some(place) = self.places.get(&common).copied()
+            && let Some(group) = self.list.get_mut(place)
+        {
+            group.conflicts.push(index)?;
+            return Ok(());
         }
-    }
-    None
-}
-
-/// The first conflict of a group.
-fn first_of<'c>(conflicts: &'c [Conflict], group: &Group) -> Option<&'c Conflict> {
-    conflicts.get(*group.conflicts.first()?)
-}
-
-/// Whether the conflict of an index is of the state of a group.
-fn are_of_one_state(conflicts: &[Conflict], group: &Group, index: usize) -> bool {
-    match (first_of(conflicts, group), conflicts.get(index)) {
-        (Some(one), Some(other)) => one.state == other.state,
-        _ => false,
-    }
-}
-
-/// Whether the conflict of an index belongs to a group of its state. Shifts have examples, whether one was found or
-/// not.
-fn are_alike(
-    conflicts: &[Conflict],
-    group: &Group,
-    index: usize,
-    example: &Option<Example>,
-) -> bool {
-    match (first_of(conflicts, group), conflicts.get(index)) {
-        (Some(one), Some(other)) => {
-            one.kind == other.kind
-                && one.rule == other.rule
-                && one.choice == other.choice
-                && (one.kind == ConflictKind::ShiftReduce
-                    || are_answers_alike(&group.example, example))
+        self.places.insert(common, self.list.len())?;
+        let mut conflicts = Vec::new(alloc);
+        conflicts.push(index)?;
+        if self.list.len() < TOLD {
+            self.told.insert(common_of(conflict, &None))?;
         }
-        _ => false,
+        self.list.push(Group { conflicts, example })?;
+        Ok(())
     }
 }
 
-/// Whether two answers are of one kind.
-fn are_answers_alike(one: &Option<Example>, other: &Option<Example>) -> bool {
-    match (one, other) {
-        (None, None) => true,
-        (Some(one), Some(other)) => match (one, other) {
-            (Example::At(_), Example::At(_)) => true,
-            (Example::Merged, Example::Merged) => true,
-            (Example::Unknown, Example::Unknown) => true,
-            _ => false,
+/// What a conflict has in common with the others of its group, behind the answer to the search for its example.
+fn common_of(conflict: &Conflict, example: &Option<Example>) -> Common {
+    let is_shift = conflict.kind == ConflictKind::ShiftReduce;
+    Common {
+        state: conflict.state.0,
+        rule: conflict.rule,
+        chosen: match conflict.choice {
+            Action::Reduce(rule) => Some(rule),
+            _ => None,
         },
-        _ => false,
+        is_refused: conflict.choice == Action::Error,
+        is_shift,
+        answer: if is_shift { None } else { answer_of(example) },
+    }
+}
+
+/// What was answered where an example was sought.
+fn answer_of(example: &Option<Example>) -> Option<Answer> {
+    match example {
+        Some(Example::At(_)) => Some(Answer::At),
+        Some(Example::Merged) => Some(Answer::Merged),
+        Some(Example::Unknown) => Some(Answer::Unknown),
+        None => None,
     }
 }

@@ -1,4 +1,5 @@
 //! What stands at the head of a group of conflicts: where they are, what is done, and why precedence doesn't settle it.
+use crate::cut::say_symbols;
 use crate::decided::precedence_of;
 use crate::places::Places;
 use crate::surveying::{Accepted, first_of, say_numbered};
@@ -56,7 +57,7 @@ fn say_place(
         } else {
             prefix.reverse();
             page.say(b", after");
-            page.say_symbols(resolved.spec(), &prefix);
+            say_symbols(page, resolved.spec(), &prefix);
         }
     }
     page.say(b", before");

@@ -1,4 +1,5 @@
 //! Why a rule of the lex file never matches: which rules take what it could.
+use crate::lines::RuleLines;
 use crate::surveying::{Accepted, say_numbered};
 use indexmap::IndexSet;
 use ly_base::{Limits, OutOfMemory};
@@ -27,6 +28,7 @@ pub(crate) fn say_hiding(
     alloc: Global,
     page: &mut Page,
     files: &Accepted<'_>,
+    lines: &RuleLines,
     rule: usize,
 ) -> Result<(), OutOfMemory> {
     page.say(b"this rule never matches: ");
@@ -40,7 +42,7 @@ pub(crate) fn say_hiding(
     } else if hiding.rules.is_empty() {
         page.say(b"it has the empty string alone, and no match is empty\n");
     } else {
-        say_rules(alloc, page, files, &hiding)?;
+        say_rules(alloc, page, lines, &hiding)?;
     }
     Ok(())
 }
@@ -49,21 +51,21 @@ pub(crate) fn say_hiding(
 fn say_rules(
     alloc: Global,
     page: &mut Page,
-    files: &Accepted<'_>,
+    lines: &RuleLines,
     hiding: &Hiding,
 ) -> Result<(), OutOfMemory> {
-    let mut lines = Vec::new(alloc);
+    let mut found = Vec::new(alloc);
     for rule in &hiding.rules {
-        lines.push(files.line_of_lex_rule(*rule))?;
+        found.push(lines.of_rule(*rule))?;
     }
-    lines.sort()?;
-    let count = lines.len();
+    found.sort()?;
+    let count = found.len();
     page.say(if count == 1 {
         b"the rule of line".as_slice()
     } else {
         b"the rules of lines"
     });
-    for (place, line) in lines.iter().enumerate().take(NAMED) {
+    for (place, line) in found.iter().enumerate().take(NAMED) {
         let last = place.saturating_add(1) == count;
         page.say(if place == 0 {
             b" ".as_slice()

@@ -60,7 +60,7 @@ impl Finder<'_> {
         if outmost.rule == 0 {
             return Ok(Some(Vec::new(alloc)));
         }
-        let drawing = Drawing::new(alloc, self.lr0, prefix, terminal)?;
+        let drawing = Drawing::new(alloc, self.cores, prefix, terminal)?;
         let begun = Item {
             rule: outmost.rule,
             dot: 0,

@@ -4,6 +4,7 @@ ghost use Rattle.ly_subset.specs.Automaton.{IsBreadthFirst};
 use crate::decided::is_marked;
 use crate::doubts::MOST;
 use crate::hiding::say_hiding;
+use crate::lines::{Lines, RuleLines};
 use crate::patterns::surprises;
 use crate::surprise_words::say_surprise;
 use crate::surveying::{Accepted, first_of};
@@ -12,7 +13,7 @@ use ly_ere::{EreFault, read_front};
 use ly_examples::unmatched_rules;
 use ly_join::TerminalName;
 use ly_lexread::Returned;
-use ly_page::Page;
+use ly_page::{Named, Page};
 use std::alloc::{AllocError, Global};
 
 /// What doubts about a lex file are told by.
@@ -20,6 +21,8 @@ use std::alloc::{AllocError, Global};
 struct Teller<'a> {
     /// The files.
     files: Accepted<'a>,
+    /// Where the rules of the lex file begin.
+    lines: &'a RuleLines,
 }
 
 /// Says what is doubtful in the lex file, a line each.
@@ -30,7 +33,10 @@ pub(crate) fn say_lex_doubts(
 ) -> Result<(), OutOfMemory>
     requires { IsBreadthFirst files.now.dfa.now }
 {
-    let teller = Teller { files: *files };
+    let teller = Teller {
+        files: *files,
+        lines: &RuleLines::of(alloc, files)?,
+    };
     teller.say_conditions(alloc, page)?;
     teller.say_surprises(alloc, page)?;
     teller.say_indented(page);
@@ -55,18 +61,20 @@ impl Teller<'_> {
                 mark(&mut active, *condition);
             }
         }
+        let mut lines = Lines::of(self.files.lex.bytes);
         for (number, condition) in file.start_conditions.iter().enumerate() {
             let Some(offset) = condition.offset else {
                 continue;
             };
+            let at = lines.locate(offset);
             if !is_marked(&begun, number) {
-                self.say_offset(page, offset);
+                page.say_location_in(self.files.lex, at);
                 page.say(b"no action sets the condition ");
                 page.say(&condition.name);
                 page.say(b"\n");
             }
             if !is_marked(&active, number) {
-                self.say_offset(page, offset);
+                page.say_location_in(self.files.lex, at);
                 page.say(b"no rule is active in the condition ");
                 page.say(&condition.name);
                 page.say(b"\n");
@@ -106,66 +114,53 @@ impl Teller<'_> {
         Ok(known)
     }
 
-    /// Says the place of an offset in the lex file.
-    fn say_offset(&self, page: &mut Page, offset: usize) {
-        page.say_location_in(self.files.lex, locate(self.files.lex.bytes, offset));
-    }
-
     /// Says the place of a rule of the lex file.
     fn say_lex_rule(&self, page: &mut Page, rule: usize) {
-        let line = self.files.line_of_lex_rule(rule);
+        let line = self.lines.of_rule(rule);
         page.say_location_in(self.files.lex, Location { line, column: 1 });
     }
 
     /// Says what in the patterns of the lex file means something else than it may seem to.
     fn say_surprises(&self, alloc: Global, page: &mut Page) -> Result<(), OutOfMemory> {
         let file = self.files.file;
+        let mut lines = Lines::of(self.files.lex.bytes);
         for start in &file.definition_starts {
             let line = line_from(self.files.lex.bytes, *start);
-            let behind = behind_name(line);
-            self.say_surprises_in(
-                alloc,
-                page,
-                *start,
-                line.len().saturating_sub(behind.len()),
-                behind,
-            )?;
+            let at = lines.locate(*start);
+            self.say_surprises_in(alloc, page, line, at, behind_name(line))?;
         }
         for start in &file.rule_starts {
             let line = line_from(self.files.lex.bytes, *start);
-            let behind = behind_conditions(line);
-            self.say_surprises_in(
-                alloc,
-                page,
-                *start,
-                line.len().saturating_sub(behind.len()),
-                behind,
-            )?;
+            let at = lines.locate(*start);
+            self.say_surprises_in(alloc, page, line, at, behind_conditions(line))?;
         }
         Ok(())
     }
 
-    /// Says what is surprising in the pattern at the front of a part of a line, in front of which so many bytes stand.
+    /// Says what is surprising in the pattern at the front of the end of a line, which begins at this location.
     fn say_surprises_in(
         &self,
         alloc: Global,
         page: &mut Page,
-        start: usize,
-        before: usize,
-        part: &[u8],
+        line: &[u8],
+        start: Location,
+        end: &[u8],
     ) -> Result<(), OutOfMemory> {
         let (lex, names) = (self.files.lex, &self.files.file.names);
-        let length = match read_front(alloc, part, names, &Limits::version_2()) {
+        let length = match read_front(alloc, end, names, &Limits::version_2()) {
             Ok((_, length)) => length,
             Err(EreFault::OutOfMemory) => return Err(OutOfMemory),
             Err(EreFault::Refused { .. }) => return Ok(()),
         };
-        for doubtful in &surprises(alloc, names, part.get(..length).unwrap_or_default())? {
-            let offset = start.saturating_add(before).saturating_add(doubtful.offset);
-            let at = locate(lex.bytes, offset);
-            page.say_location_in(lex, at);
+        let before = line.len().saturating_sub(end.len());
+        for doubtful in &surprises(alloc, names, end.get(..length).unwrap_or_default())? {
+            let offset = before.saturating_add(doubtful.offset);
+            let column = start.column.saturating_add(offset as u64);
+            page.say_location_in(lex, Location { column, ..start });
             say_surprise(page, doubtful.surprise);
-            page.say_excerpt(lex, at);
+            // The line by itself, so that it isn't sought from the front of the file.
+            let within = locate(line, offset);
+            page.say_excerpt(Named::new(lex.name, line), within);
         }
         Ok(())
     }
@@ -176,7 +171,7 @@ impl Teller<'_> {
     {
         for rule in &unmatched_rules(alloc, self.files.file.rules.len(), self.files.dfa)? {
             self.say_lex_rule(page, *rule);
-            say_hiding(alloc, page, &self.files, *rule)?;
+            say_hiding(alloc, page, &self.files, self.lines, *rule)?;
         }
         Ok(())
     }

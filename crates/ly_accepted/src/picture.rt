@@ -1,6 +1,7 @@
 //! The parser's automaton as a picture, in the language of Graphviz's `dot`.
 ghost use Rattle.std.specs.Prelude.{◌<◌, length};
 
+use crate::cores::Cores;
 use crate::surveying::{Accepted, say_numbered};
 use ly_base::{OutOfMemory, StateNo};
 use ly_join::{Spec, Symbol};
@@ -18,8 +19,9 @@ pub(crate) fn say_picture(
     let spec = files.spec;
     let lr0 = files.resolved.lr0();
     page.say(b"digraph parser {\n    rankdir=LR;\n    node [shape=box, fontname=\"monospace\"];\n");
+    let cores = Cores::of(alloc, lr0)?;
     for state in 0..lr0.states() {
-        say_box(alloc, page, spec, lr0, StateNo(state as u32))?;
+        say_box(alloc, page, spec, &cores, StateNo(state as u32))?;
     }
     for state in 0..lr0.states() {
         say_arrows(alloc, page, spec, lr0, StateNo(state as u32))?;
@@ -33,14 +35,12 @@ fn say_box(
     alloc: Global,
     page: &mut Page,
     spec: &Spec,
-    lr0: &Lr0<'_>,
+    cores: &Cores<'_>,
     state: StateNo,
-) -> Result<(), OutOfMemory>
-    requires { state.0 < length lr0.now.states }
-{
+) -> Result<(), OutOfMemory> {
     say_numbered(page, b"    ", state.0 as u64, b" [label=\"");
     say_numbered(page, b"", state.0 as u64, b"\\n");
-    for item in &lr0.core(alloc, state)? {
+    for item in &cores.items(alloc, state)? {
         if is_kernel(*item) {
             let mut text = Page::new(alloc);
             text.say_rule(spec, item.rule, Some(item.dot));

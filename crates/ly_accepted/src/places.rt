@@ -1,4 +1,5 @@
 //! Where the rules and the terminals of a yacc file stand.
+use crate::lines::{FRONT, Lines};
 use indexmap::IndexSet;
 use ly_base::{Location, OutOfMemory, Sym, literal, locate};
 use ly_join::{Spec, TerminalName};
@@ -146,9 +147,6 @@ impl Places {
     }
 }
 
-/// Where a file begins.
-const FRONT: Location = Location { line: 1, column: 1 };
-
 /// Where rules stand.
 fn rule_locations(
     alloc: Global,
@@ -156,8 +154,7 @@ fn rule_locations(
     rules: &[RuleOffsets],
 ) -> Result<Vec<Location>, OutOfMemory> {
     let mut locations = Vec::new(alloc);
-    let mut at = FRONT;
-    let mut passed: usize = 0;
+    let mut lines = Lines::of(text);
     let mut last = None;
     for rule in rules {
         let offset = if last == Some(rule.left) {
@@ -165,31 +162,10 @@ fn rule_locations(
         } else {
             rule.left as usize
         };
-        at = location_behind(at, text.get(passed..offset).unwrap_or_default());
-        passed = offset;
         last = Some(rule.left);
-        locations.push(at)?;
+        locations.push(lines.locate(offset))?;
     }
     Ok(locations)
-}
-
-/// Where these bytes end that begin at a location.
-fn location_behind(start: Location, bytes: &[u8]) -> Location {
-    let mut at = start;
-    for byte in bytes {
-        at = if *byte == b'\n' {
-            Location {
-                line: at.line.saturating_add(1),
-                column: 1,
-            }
-        } else {
-            Location {
-                line: at.line,
-                column: at.column.saturating_add(1),
-            }
-        };
-    }
-    at
 }
 
 /// The numbers of the rules that have a `%prec`.

@@ -2,6 +2,7 @@
 ghost use Rattle.std.specs.Prelude.{◌<◌, length};
 
 use crate::decided::is_marked;
+use crate::lines::RuleLines;
 use crate::surveying::{Accepted, say_numbered};
 use ly_base::OutOfMemory;
 use ly_page::Page;
@@ -25,9 +26,10 @@ pub(crate) fn say_scanner(
     for condition in 0..files.file.conditions {
         say_condition(page, dfa, condition);
     }
+    let lines = RuleLines::of(alloc, files)?;
     for state in 0..dfa.len() {
         if let Ok(state) = u32::try_from(state) {
-            say_state(page, files, state);
+            say_state(page, files, &lines, state);
         }
     }
     page.say(b"\n");
@@ -131,13 +133,13 @@ fn say_start(page: &mut Page, where_it_is: &[u8], start: Option<u32>) {
 }
 
 /// Says a state: its rule, and where classes of bytes lead from it.
-fn say_state(page: &mut Page, files: &Accepted<'_>, state: u32)
+fn say_state(page: &mut Page, files: &Accepted<'_>, lines: &RuleLines, state: u32)
     requires { state < length files.now.dfa.now.rules }
 {
     let dfa = files.dfa;
     say_numbered(page, b"\nScanner state ", state as u64, b"\n");
     if let Some(rule) = dfa.rule(state) {
-        let line = files.line_of_lex_rule(rule.0 as usize);
+        let line = lines.of_rule(rule.0 as usize);
         page.say(b"    rule of ");
         page.say(files.lex.name.as_bytes());
         say_numbered(page, b":", line, b"\n");

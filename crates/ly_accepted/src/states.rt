@@ -3,6 +3,8 @@ ghost use Rattle.std.specs.Prelude.{◌<◌, IfSome, length};
 ghost use Rattle.ly_lookahead.specs.Lookaheads.{AreLookaheads, HasSet};
 
 use crate::bodies::body_of;
+use crate::cores::Cores;
+use crate::cut::say_prefix;
 use crate::surveying::{Accepted, say_numbered};
 use ly_base::{OutOfMemory, RuleNo, StateNo, Sym};
 use ly_join::{Spec, Symbol};
@@ -27,6 +29,8 @@ struct Teller<'a> {
     lookaheads: &'a Lookaheads,
     /// The tables, for the default reductions.
     tables: &'a Tables,
+    /// The items of the states, and the strings that lead to them.
+    cores: &'a Cores<'a>,
 }
 
 /// Says each state of the parser.
@@ -42,6 +46,7 @@ pub(crate) fn say_states(
         resolved: files.resolved,
         lookaheads: &lookaheads(alloc, lr0)?,
         tables,
+        cores: &Cores::of(alloc, lr0)?,
     };
     for state in 0..lr0.states() {
         teller.say_state(alloc, page, StateNo(state as u32))?;
@@ -55,16 +60,14 @@ impl Teller<'_> {
         requires state { state.0 < length self.now.resolved.now.automaton.states }
         requires sets { AreLookaheads self.now.resolved.now.automaton self.now.lookaheads.now }
     {
-        let lr0 = self.resolved.lr0();
-        let mut prefix = lr0.prefix(alloc, state)?;
-        prefix.reverse();
+        let prefix = self.cores.prefix(alloc, state)?;
         say_numbered(page, b"State ", state.0 as u64, b"");
-        if !prefix.is_empty() {
+        if !prefix.front.is_empty() {
             page.say(b", after");
-            page.say_symbols(self.spec, &prefix);
+            say_prefix(page, self.spec, &prefix);
         }
         page.say(b"\n");
-        for item in &lr0.core(alloc, state)? {
+        for item in &self.cores.items(alloc, state)? {
             self.say_item(page, state, *item);
         }
         self.say_actions(page, state);
@@ -163,7 +166,9 @@ pub(crate) fn place_of(
         return None;
     }
     let complete = lr0.complete(state);
-    for place in 0..complete.len() {
+    // They rise, so that the first one that is looked at is the rule, however many there are.
+    let first = complete.binary_search(&item.rule).ok()?;
+    for place in first..complete.len() {
         if complete[place] == item.rule {
             return Some(place);
         }

@@ -9,7 +9,7 @@ use crate::places::Places;
 use crate::rules::say_rules;
 use crate::scanner::say_scanner;
 use crate::states::{Tables, say_states};
-use ly_base::{OutOfMemory, locate};
+use ly_base::OutOfMemory;
 use ly_join::Spec;
 use ly_lexread::LexFile;
 use ly_page::{Named, Page};
@@ -69,14 +69,6 @@ pub struct Accepted<'a> {
     pub resolved: &'a Resolved<'a>,
     /// The lines among the rules of the lex file that begin with a blank and aren't empty.
     pub indented: &'a [u64],
-}
-
-impl Accepted<'_> {
-    /// The line of the lex file on which a rule begins, by its number; the first one, where there is no such rule.
-    pub(crate) fn line_of_lex_rule(&self, rule: usize) -> u64 {
-        let start = self.file.rule_starts.get(rule).copied().unwrap_or(0);
-        locate(self.lex.bytes, start).line
-    }
 }
 
 /// Says of two files that are accepted what is doubtful, where their conflicts are, and which rule has which number;

@@ -2,6 +2,7 @@
 use crate::ambiguity::Ambiguity;
 use crate::bodies::body_of;
 use crate::brackets::Style;
+use crate::cut::say_terminals;
 use ly_base::{OutOfMemory, Sym};
 use ly_join::{Spec, Symbol};
 use ly_page::Page;
@@ -22,10 +23,7 @@ pub(crate) fn say_ambiguity(
         page.say(b"    The empty sentence has two trees:\n");
     } else {
         page.say(b"    This sentence has two trees:");
-        for token in &ambiguity.sentence {
-            page.say(b" ");
-            page.say_terminal(spec, *token);
-        }
+        say_terminals(page, spec, &ambiguity.sentence);
         page.say(b"\n");
     }
     let (one, other) = told_apart(alloc, spec, ambiguity)?;

@@ -1,12 +1,13 @@
 //! How the two actions of a conflict come about, each behind a string of symbols, as it is drawn.
 use crate::bodies::{behind_dot, body_of};
 use crate::brackets::{Style, say_way};
-use crate::drawing::{Drawing, core_of};
+use crate::cores::Cores;
+use crate::drawing::Drawing;
 use crate::surveying::say_numbered;
 use ly_base::{OutOfMemory, Sym};
 use ly_examples::Claim;
 use ly_join::{Grammar, Spec, Symbol};
-use ly_lr0::{Item, Lr0};
+use ly_lr0::Item;
 use ly_page::Page;
 use ly_resolve::{Action, Conflict, ConflictKind};
 use std::alloc::Global;
@@ -14,8 +15,8 @@ use std::alloc::Global;
 /// What the ways to the actions of a conflict are drawn by.
 #[derive(Clone, Copy)]
 pub(crate) struct Drawn<'a> {
-    /// The automaton.
-    pub(crate) lr0: &'a Lr0<'a>,
+    /// The items of the states.
+    pub(crate) cores: &'a Cores<'a>,
     /// The specification.
     pub(crate) spec: &'a Spec,
     /// The conflict.
@@ -92,7 +93,7 @@ impl Drawn<'_> {
         string: &[Symbol],
         claim: Claim,
     ) -> Result<Vec<Item>, OutOfMemory> {
-        Drawing::new(alloc, self.lr0, string, self.conflict.terminal)?.way(alloc, claim)
+        Drawing::new(alloc, self.cores, string, self.conflict.terminal)?.way(alloc, claim)
     }
 
     /// A way as it is drawn.
@@ -122,7 +123,7 @@ impl Drawn<'_> {
         match self.reduced_rival() {
             Some(rule) => Ok(self.reduction(rule)),
             None => {
-                let core = core_of(alloc, self.lr0, self.conflict.state)?;
+                let core = self.cores.items(alloc, self.conflict.state)?;
                 Ok(shift(self.spec.grammar(), &core, self.conflict.terminal))
             }
         }

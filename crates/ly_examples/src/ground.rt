@@ -109,10 +109,24 @@ fn push_uses(uses: &mut Lists<Item>, body: &[Symbol], rule: usize) -> Result<(),
 fn lengths_of(alloc: Global, lr0: &Lr0<'_>) -> Result<Vec<usize>, OutOfMemory>
     ensures { IfOk result (λ lengths. length lengths.items ≡ length lr0.now.states) }
 {
-    let mut lengths = Vec::with_capacity(alloc, lr0.states())?;
-    for state in 0..lr0.states() {
-        let length = lr0.prefix(alloc, StateNo(state as u32))?.len();
-        lengths.push(length)?;
-    }
+    let mut lengths = vec![in alloc; 0; lr0.states()]?;
+    set_lengths(lr0, &mut lengths);
     Ok(lengths)
+}
+
+/// Sets how long the prefix of each state is: by one symbol longer than that of the first state that leads to it. They
+/// are 0 before, as that of state 0 is, to which none leads.
+fn set_lengths(lr0: &Lr0<'_>, lengths: &mut [usize])
+    ensures { length lengths.new ≡ length lengths.old }
+{
+    for state in 0..lr0.states() {
+        let behind = lengths.get(state).copied().unwrap_or(0).saturating_add(1);
+        for transition in lr0.transitions(StateNo(state as u32)) {
+            if let Some(length) = lengths.get_mut(transition.target.0 as usize)
+                && *length == 0
+            {
+                *length = behind;
+            }
+        }
+    }
 }

@@ -102,7 +102,7 @@ fn findings_in(
     let lex_file = find_lex_faults(alloc, &mut findings, lex, limits)?;
     let yacc_file = find_yacc_faults(alloc, &mut findings, yacc)?;
     if let (Some(lex_file), Some(yacc_file)) = (lex_file, yacc_file) {
-        find_join_faults(alloc, &mut findings, &lex_file, yacc_file, limits)?;
+        find_join_faults(alloc, &mut findings, &lex_file, &yacc_file, limits)?;
     }
     Ok(findings)
 }

@@ -4,24 +4,28 @@ use crate::join_mending::mend;
 use crate::lex_faults::MendedLex;
 use crate::location::{from_offset, line_start};
 use crate::nearest::nearest;
+use crate::short::Short;
 use crate::yacc_faults::MendedYacc;
 use crate::yacc_offsets::symbol_location;
 use ly_base::{Language, Limits, Location, OutOfMemory, locate};
 use ly_generate::GenFault;
 use ly_join::{JoinFault, join};
 use ly_lexread::Returned;
-use ly_yaccread::{SymbolName, YaccFile};
+use ly_yaccread::{SymbolName, WordSpan, YaccFile, word_spans};
 use std::alloc::Global;
+use std::rc::RcSlice;
 
-/// Two files that are joined again each time that a fault is mended in the second.
+/// Two files that are joined in short again each time that a fault is mended in the second.
 #[derive(Drop)]
 struct Joining<'a> {
-    /// What the lex file says.
+    /// The lex file.
     lex: &'a MendedLex,
-    /// The text of the yacc file.
-    text: Vec<u8>,
-    /// What it says, as far as it is mended.
-    file: YaccFile,
+    /// The yacc file.
+    yacc: &'a MendedYacc,
+    /// Where the words of the yacc file stand.
+    words: Vec<WordSpan>,
+    /// Both in short, as far as they are mended.
+    short: Short<'a>,
     /// The names of which a fault was said.
     said: Vec<Vec<u8>>,
 }
@@ -32,14 +36,14 @@ pub(crate) fn find_join_faults(
     alloc: Global,
     findings: &mut Findings,
     lex: &MendedLex,
-    yacc: MendedYacc,
+    yacc: &MendedYacc,
     limits: &Limits,
 ) -> Result<(), OutOfMemory> {
-    let MendedYacc { text, file } = yacc;
     let mut joining = Joining {
         lex,
-        text,
-        file,
+        yacc,
+        words: word_spans(alloc, &yacc.text)?,
+        short: Short::of(alloc, &lex.actions, &yacc.file)?,
         said: Vec::new(alloc),
     };
     joining.find_faults(alloc, findings, limits)
@@ -56,7 +60,7 @@ impl Joining<'_> {
         findings.begin_next();
         for _ in 0..=MOST {
             match self.next_fault(alloc, limits, findings.is_empty())? {
-                Some(fault) => self.take(alloc, findings, fault)?,
+                Some(fault) => self.take(alloc, findings, &fault)?,
                 None => return Ok(()),
             }
         }
@@ -64,14 +68,14 @@ impl Joining<'_> {
         Ok(())
     }
 
-    /// The first fault that is left. That there are no rules is one only where no other was found.
+    /// The first fault that is left, in short. That there are no rules is one only where no other was found.
     fn next_fault(
         &self,
         alloc: Global,
         limits: &Limits,
         alone: bool,
     ) -> Result<Option<JoinFault>, OutOfMemory> {
-        match join(alloc, &self.lex.file, &self.file, limits).err() {
+        match join(alloc, &self.short.lex, &self.short.yacc, limits).err() {
             Some(JoinFault::LimitPassed { .. }) => Ok(None),
             Some(JoinFault::OutOfMemory) => Err(OutOfMemory),
             Some(JoinFault::NoRules) if !alone => Ok(None),
@@ -79,32 +83,44 @@ impl Joining<'_> {
         }
     }
 
-    /// Adds a fault to what is found, if none of its name was, and mends it.
+    /// Adds a fault in short to what is found, if none of its name was, and mends it.
     fn take(
         &mut self,
         alloc: Global,
         findings: &mut Findings,
-        fault: JoinFault,
+        short: &JoinFault,
     ) -> Result<(), OutOfMemory> {
-        let at = join_location(alloc, self.lex, &self.text, &fault)?;
-        match self.mend(alloc, &fault)? {
+        let fault = self.short.restored(alloc, short)?;
+        let advice = self.note(alloc, &fault)?;
+        mend(alloc, &mut self.short.yacc, short)?;
+        match advice {
             Some(advice) => findings.add(Finding {
+                at: self.location(&fault),
                 fault: GenFault::Join(fault),
-                at,
                 advice,
             }),
             None => Ok(()),
         }
     }
 
-    /// Mends a fault, and answers the advice behind it; none where a fault of its name was said.
-    fn mend(&mut self, alloc: Global, fault: &JoinFault) -> Result<Option<Advice>, OutOfMemory> {
+    /// Notes that a fault of its name is said, and answers the advice behind it; none where one was before.
+    fn note(&mut self, alloc: Global, fault: &JoinFault) -> Result<Option<Advice>, OutOfMemory> {
         let name = Vec::from_slice(alloc, name_of(fault))?;
         let is_new = !self.said.contains(&name);
         self.said.push(name)?;
-        let advice = join_advice(alloc, fault, &self.file, &self.said)?;
-        mend(alloc, &mut self.file, fault)?;
-        Ok(is_new.then_some(advice))
+        if !is_new {
+            return Ok(None);
+        }
+        Ok(Some(join_advice(alloc, fault, &self.yacc.file, &self.said)?))
+    }
+
+    /// Where a fault stands: in front of the file where what it names is not found.
+    fn location(&self, fault: &JoinFault) -> Location {
+        let found = match fault {
+            JoinFault::ReturnUndeclared(name) => returned_location(self.lex, name),
+            _ => symbol_location(&self.yacc.file, &self.words, &self.yacc.text, fault),
+        };
+        found.unwrap_or(Location { line: 1, column: 1 })
     }
 }
 
@@ -120,28 +136,14 @@ fn name_of(fault: &JoinFault) -> &[u8] {
     }
 }
 
-/// Where a fault stands: in front of the file where what it names is not found.
-fn join_location(
-    alloc: Global,
-    lex: &MendedLex,
-    yacc: &[u8],
-    fault: &JoinFault,
-) -> Result<Location, OutOfMemory> {
-    let found = match fault {
-        JoinFault::ReturnUndeclared(name) => returned_location(lex, name),
-        _ => symbol_location(alloc, yacc, fault)?,
-    };
-    Ok(found.unwrap_or(Location { line: 1, column: 1 }))
-}
-
 /// Where the first rule of a lex file that returns a name has it.
 fn returned_location(lex: &MendedLex, name: &[u8]) -> Option<Location> {
     let returns = |action: &ly_lexread::LexAction| match &action.returns {
         Returned::Token(token) => token.as_slice() == name,
         _ => false,
     };
-    let rule = lex.file.actions.iter().position(returns)?;
-    let start = *lex.file.rule_starts.get(rule)?;
+    let rule = lex.actions.iter().position(returns)?;
+    let start = *lex.rule_starts.get(rule)?;
     let before = word_offset(from_offset(&lex.text, start), name)?;
     Some(locate(&lex.text, start.saturating_add(before)))
 }
@@ -224,8 +226,11 @@ fn names_for<'t>(
 
 /// Adds the left sides of the rules of a yacc file.
 fn push_left_sides<'t>(names: &mut Vec<&'t [u8]>, file: &'t YaccFile) -> Result<(), OutOfMemory> {
+    let mut last: Option<&RcSlice<u8>> = None;
     for rule in &file.rules {
-        if names.last() != Some(&rule.left.as_slice()) {
+        let shared = last.is_some_and(|left| RcSlice::ptr_eq(left, &rule.left));
+        last = Some(&rule.left);
+        if !shared && names.last() != Some(&rule.left.as_slice()) {
             names.push(&rule.left)?;
         }
     }

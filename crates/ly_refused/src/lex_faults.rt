@@ -8,7 +8,7 @@ use crate::location::is_newline;
 use crate::text_marks::{has_byte_order_mark, without_marks};
 use ly_base::{Limits, OutOfMemory, locate};
 use ly_generate::GenFault;
-use ly_lexread::{LexFault, LexFaultKind, LexFile, read_lex};
+use ly_lexread::{LexAction, LexFault, LexFaultKind, LexFile, read_lex};
 use std::alloc::Global;
 
 /// A lex file that is read, its faults mended.
@@ -16,8 +16,26 @@ use std::alloc::Global;
 pub(crate) struct MendedLex {
     /// Its bytes, line by line as in the file.
     pub(crate) text: Vec<u8>,
-    /// What they say.
-    pub(crate) file: LexFile,
+    /// The action of each rule; of all that they say this alone is joined.
+    pub(crate) actions: Vec<LexAction>,
+    /// Which byte of them is the first of each rule.
+    pub(crate) rule_starts: Vec<usize>,
+}
+
+impl MendedLex {
+    /// A lex file of these bytes, which say this.
+    fn of(text: Vec<u8>, file: LexFile) -> MendedLex {
+        let LexFile {
+            actions,
+            rule_starts,
+            ..
+        } = file;
+        MendedLex {
+            text,
+            actions,
+            rule_starts,
+        }
+    }
 }
 
 /// Finds the faults of a lex file, and answers it mended, if it can be.
@@ -30,7 +48,7 @@ pub(crate) fn find_lex_faults(
     let mut text = plain_text(alloc, findings, bytes, limits)?;
     for _ in 0..=MOST {
         match read_lex(alloc, &text, limits) {
-            Ok(file) => return Ok(Some(MendedLex { text, file })),
+            Ok(file) => return Ok(Some(MendedLex::of(text, file))),
             Err(LexFault::OutOfMemory) => return Err(OutOfMemory),
             Err(LexFault::Refused { kind, offset }) => {
                 match mend_fault(alloc, findings, &text, kind, offset)? {

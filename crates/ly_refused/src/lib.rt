@@ -24,6 +24,7 @@ mod lex_units;
 mod location;
 mod nearest;
 mod pieces;
+mod short;
 mod telling;
 mod text_marks;
 mod yacc_advice;

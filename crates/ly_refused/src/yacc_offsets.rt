@@ -4,36 +4,38 @@ use crate::location::from_offset;
 use ly_base::{Language, Location, OutOfMemory, after_gap, locate};
 use ly_join::{JoinFault, TerminalName};
 use ly_yaccread::{
-    DeclarationKind, Production, SymbolName, YaccFault, YaccFile, read_yacc, word_spans,
+    DeclarationKind, Production, SymbolName, WordSpan, YaccFault, YaccFile, read_yacc,
 };
 use std::alloc::Global;
 
-/// Where what a fault of both files names stands in a yacc file: first, or where it is named again.
+/// Where what a fault of both files names stands in a yacc file, whose words stand there: first, or where it is named
+/// again.
 pub(crate) fn symbol_location(
-    alloc: Global,
+    file: &YaccFile,
+    words: &[WordSpan],
     text: &[u8],
     fault: &JoinFault,
-) -> Result<Option<Location>, OutOfMemory> {
-    let Some(file) = readable(alloc, text)? else {
-        return Ok(None);
-    };
+) -> Option<Location> {
+    let words = Words { words, text };
     let offset = match fault {
-        JoinFault::NoRules => word_offset(alloc, text, 0, b"", b"%%")?,
-        JoinFault::PrecedenceTwice(terminal) => offset_given_again(&file, terminal),
-        JoinFault::UnknownStart(name) => word_offset(alloc, text, 0, b"%start", name)?,
-        JoinFault::TokenOnLeft(name) => left_side_offset(&file, name),
-        JoinFault::UndefinedSymbol(name) => match offset_of_body_with(&file, name) {
-            Some(body) => word_offset(alloc, text, body, b"", name)?,
-            None => None,
-        },
-        JoinFault::PrecUnknown(name) => match offset_of_body_ranked_by(&file, name) {
-            Some(body) => word_offset(alloc, text, body, b"%prec", name)?,
-            None => None,
-        },
+        JoinFault::NoRules => words.offset_of(0, b"", b"%%"),
+        JoinFault::PrecedenceTwice(terminal) => offset_given_again(file, terminal),
+        JoinFault::UnknownStart(name) => words.offset_of(0, b"%start", name),
+        JoinFault::TokenOnLeft(name) => left_side_offset(file, name),
+        JoinFault::UndefinedSymbol(name) => words.offset_of(
+            offset_of_body_with(file, name)?,
+            b"",
+            name,
+        ),
+        JoinFault::PrecUnknown(name) => words.offset_of(
+            offset_of_body_ranked_by(file, name)?,
+            b"%prec",
+            name,
+        ),
         JoinFault::ReturnUndeclared(_) | JoinFault::LimitPassed { .. } | JoinFault::OutOfMemory =>
             None,
     };
-    Ok(offset.map(|offset| locate(text, offset)))
+    Some(locate(text, offset?))
 }
 
 /// Where the first rule of the start symbol stands in a yacc file.
@@ -142,22 +144,27 @@ fn offset_given_again(file: &YaccFile, terminal: &TerminalName) -> Option<usize>
     None
 }
 
-/// The offset of this word, the first from an offset on, and behind this other one if that is any.
-fn word_offset(
-    alloc: Global,
-    text: &[u8],
-    from: usize,
-    previous: &[u8],
-    word: &[u8],
-) -> Result<Option<usize>, OutOfMemory> {
-    let mut before: &[u8] = b"";
-    for span in &word_spans(alloc, text)? {
-        let found = span.word(text);
-        let behind = previous.is_empty() || before == previous;
-        if span.start >= from && behind && found == word {
-            return Ok(Some(span.start));
+/// The words of a text.
+#[derive(Clone, Copy)]
+struct Words<'t> {
+    /// Where they stand.
+    words: &'t [WordSpan],
+    /// The text.
+    text: &'t [u8],
+}
+
+impl Words<'_> {
+    /// The offset of this word, the first from an offset on, and behind this other one if that is any.
+    fn offset_of(&self, from: usize, previous: &[u8], word: &[u8]) -> Option<usize> {
+        let mut before: &[u8] = b"";
+        for span in self.words {
+            let found = span.word(self.text);
+            let behind = previous.is_empty() || before == previous;
+            if span.start >= from && behind && found == word {
+                return Some(span.start);
+            }
+            before = found;
         }
-        before = found;
+        None
     }
-    Ok(None)
 }

@@ -1,0 +1,216 @@
+//! The items of all states and the strings that lead to them, found in one pass over the states.
+use crate::bodies::behind_dot;
+use crate::drawing::goto_of;
+use indexmap::IndexSet;
+use ly_base::{StateNo, Sym};
+use ly_join::{Grammar, Symbol};
+use ly_lr0::{Item, Lr0};
+use std::alloc::{AllocError, Global};
+
+/// How many symbols of each end of a string are known, at most.
+pub(crate) const END: usize = 100;
+
+/// How each state is come to, and with which items.
+#[derive(Drop)]
+pub(crate) struct Cores<'a> {
+    /// The automaton.
+    lr0: &'a Lr0<'a>,
+    /// Of each state how it is come to first.
+    entries: Vec<Entry>,
+}
+
+/// How a state is come to first.
+#[derive(Drop)]
+struct Entry {
+    /// The last step; none to the first state.
+    link: Option<Link>,
+    /// How many steps there are.
+    depth: usize,
+    /// The state behind the first of them, as many as are known.
+    early: StateNo,
+    /// The items behind the last one.
+    kernel: Vec<Item>,
+}
+
+/// A step to a state.
+#[derive(Clone, Copy)]
+struct Link {
+    /// The state that it leaves.
+    from: StateNo,
+    /// Its symbol.
+    symbol: Symbol,
+}
+
+/// The least string that leads to a state; of a long one the ends.
+#[derive(Drop)]
+pub(crate) struct Prefix {
+    /// Its first symbols; all of them, where none is left out.
+    pub(crate) front: Vec<Symbol>,
+    /// How many are left out behind these.
+    pub(crate) left_out: usize,
+    /// Its last symbols.
+    pub(crate) back: Vec<Symbol>,
+}
+
+impl<'a> Cores<'a> {
+    /// Those of an automaton's states.
+    pub(crate) fn of(alloc: Global, lr0: &'a Lr0<'a>) -> Result<Cores<'a>, AllocError> {
+        let mut entries = Vec::with_capacity(alloc, lr0.states())?;
+        for _ in 0..lr0.states() {
+            entries.push(Entry {
+                link: None,
+                depth: 0,
+                early: StateNo(0),
+                kernel: Vec::new(alloc),
+            })?;
+        }
+        let mut cores = Cores { lr0, entries };
+        if let Some(first) = cores.entries.first_mut() {
+            first.kernel.push(Item { rule: 0, dot: 0 })?;
+        }
+        for state in 0..lr0.states() {
+            cores.leave(alloc, StateNo(state as u32))?;
+        }
+        Ok(cores)
+    }
+
+    /// The automaton.
+    pub(crate) fn lr0(&self) -> &'a Lr0<'a> {
+        self.lr0
+    }
+
+    /// The items of a state, in the order in which they were found; none of a number that no state has.
+    pub(crate) fn items(&self, alloc: Global, state: StateNo) -> Result<Vec<Item>, AllocError> {
+        match self.entries.get(state.0 as usize) {
+            Some(entry) => closed(alloc, self.lr0, &entry.kernel),
+            None => Ok(Vec::new(alloc)),
+        }
+    }
+
+    /// The least string that leads to a state.
+    pub(crate) fn prefix(&self, alloc: Global, state: StateNo) -> Result<Prefix, AllocError> {
+        let (depth, early) = match self.entries.get(state.0 as usize) {
+            Some(entry) => (entry.depth, entry.early),
+            None => (0, StateNo(0)),
+        };
+        let left_out = depth.saturating_sub(2 * END);
+        if left_out == 0 {
+            return Ok(Prefix {
+                front: self.last_steps(alloc, state, depth)?,
+                left_out,
+                back: Vec::new(alloc),
+            });
+        }
+        Ok(Prefix {
+            front: self.last_steps(alloc, early, END)?,
+            left_out,
+            back: self.last_steps(alloc, state, END)?,
+        })
+    }
+
+    /// The symbols of the last steps to a state, so many at most.
+    fn last_steps(
+        &self,
+        alloc: Global,
+        state: StateNo,
+        most: usize,
+    ) -> Result<Vec<Symbol>, AllocError> {
+        let mut symbols = Vec::new(alloc);
+        let mut at = state;
+        for _ in 0..most {
+            let Some(link) = self.entries.get(at.0 as usize).and_then(|entry| entry.link) else {
+                break;
+            };
+            symbols.push(link.symbol)?;
+            at = link.from;
+        }
+        symbols.reverse();
+        Ok(symbols)
+    }
+
+    /// Takes the steps that leave a state.
+    fn leave(&mut self, alloc: Global, from: StateNo) -> Result<(), AllocError> {
+        let (depth, early) = match self.entries.get(from.0 as usize) {
+            Some(entry) => (entry.depth, entry.early),
+            None => return Ok(()),
+        };
+        let grammar = self.lr0.reduced().grammar();
+        for item in &self.items(alloc, from)? {
+            if let Some(symbol) = behind_dot(grammar, *item)
+                && let Some(to) = goto_of(self.lr0, from, symbol)
+                && let Some(entry) = self.entries.get_mut(to.0 as usize)
+            {
+                entry.enter(to, Link { from, symbol }, depth, early);
+                entry.add(
+                    from,
+                    Item {
+                        dot: item.dot.saturating_add(1),
+                        ..*item
+                    },
+                )?;
+            }
+        }
+        Ok(())
+    }
+}
+
+impl Entry {
+    /// Takes a step to the state of a number, the first one, from one that so many steps lead to.
+    fn enter(&mut self, number: StateNo, link: Link, depth: usize, early: StateNo) {
+        if self.link.is_none() {
+            self.link = Some(link);
+            self.depth = depth.saturating_add(1);
+            self.early = if depth < END { number } else { early };
+        }
+    }
+
+    /// Adds an item behind a step from a state, if that is the first one.
+    fn add(&mut self, from: StateNo, item: Item) -> Result<(), AllocError> {
+        if let Some(link) = self.link
+            && link.from == from
+        {
+            self.kernel.push(item)?;
+        }
+        Ok(())
+    }
+}
+
+/// The items that a kernel closes to, its own first.
+fn closed(alloc: Global, lr0: &Lr0<'_>, kernel: &[Item]) -> Result<Vec<Item>, AllocError> {
+    let grammar = lr0.reduced().grammar();
+    let mut items = Vec::from_slice(alloc, kernel)?;
+    let mut entered = IndexSet::new(alloc);
+    for item in kernel {
+        enter(grammar, *item, &mut entered)?;
+    }
+    for place in 0..=grammar.accept().0 as usize {
+        let Some(left) = entered.get_index(place).copied() else {
+            break;
+        };
+        for rule in rules_of(lr0, Sym(left)) {
+            let item = Item {
+                rule: *rule,
+                dot: 0,
+            };
+            items.push(item)?;
+            enter(grammar, item, &mut entered)?;
+        }
+    }
+    Ok(items)
+}
+
+/// Enters the nonterminal behind the dot of an item, if there is one.
+fn enter(grammar: &Grammar, item: Item, entered: &mut IndexSet<u32>) -> Result<(), AllocError> {
+    if let Some(Symbol::Nonterminal(left)) = behind_dot(grammar, item) {
+        entered.insert(left.0)?;
+    }
+    Ok(())
+}
+
+/// The rules of a nonterminal; none of a number that no nonterminal has.
+fn rules_of<'l>(lr0: &'l Lr0<'_>, left: Sym) -> &'l [usize] {
+    if left.0 > lr0.reduced().grammar().accept().0 {
+        return &[];
+    }
+    lr0.rules_of(left)
+}
