@@ -11,7 +11,8 @@ use ly_base::{OutOfMemory, SparseSet, StateNo, Sym};
 use ly_pack::{MachineView, Rows, TableAction};
 use std::alloc::{AllocError, Global};
 
-/// The last run on a terminal from the whole of a stack. Terminals on which the states that it met do the same share it.
+/// The last run on a terminal from the whole of a stack. Terminals on which the states that it met do the same share
+/// it.
 #[derive(Drop)]
 pub(crate) struct LastRun {
     /// The terminal. There is none before the first run.

@@ -129,7 +129,7 @@ impl<'a, A: Rows<TableAction> + Drop, G: Rows<StateNo> + Drop> Running<'a, A, G>
     }
 
     /// Takes a token, as `feed` does; the parse isn't over.
-    #[inline(always)] // likewise
+    #[inline(always)] // so that a token that is read has the registers
     pub(crate) fn go_on(&mut self, token: &Token<'_>, before: &mut Before) -> Answer
         requires goes_on { self.old.over ≡ false }
         requires not_end { token.now.terminal.0 ≢ 0 }

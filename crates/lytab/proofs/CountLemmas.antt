@@ -2,9 +2,15 @@
 use Rattle.std.proofs.Common.{◌≡◌, ◌∙◌, ◌&&◌, ◌==◌, ap, ap₂, Bool, false, is_some, None, Option, refl, Some, sym, true}
 use Rattle.std.proofs.Common.{true≢false, unwrap_or, ℕ}
 use Rattle.std.proofs.lemmas.Bool.{eq-eqb, eqb-true}
+use Rattle.ly_base.specs.declared.version.Version.{Version}
 use Rattle.ly_report.specs.declared.counts.ConflictCounts.{ConflictCounts}
 use Rattle.lytab.specs.CarriedOut.{AreAsExpected}
 use Rattle.lytab.specs.Completion.{are_expected, missed_count}
+use Rattle.lytab.specs.Failure.{IsOfDevice}
+use Rattle.lytab.specs.Refusal.{IsRefusalOfBuild}
+use Rattle.lytab.specs.declared.failure.Failure.{Failure}
+use Rattle.lytab.specs.declared.failure.Failure.TheVariants.{CannotRead, CannotWrite, FaultyTables, OutOfMemory}
+use Rattle.lytab.specs.declared.failure.Failure.TheVariants.{Refused, Tables, TooLong, Unexpected, Unreadable}
 
 both_hold : (counts : ConflictCounts) (n : ℕ) (a b : Bool) → (counts.shift_reduce == n) ≡ a
     → (counts.reduce_reduce == 0) ≡ b → (a && b) ≡ true → AreAsExpected (Some n) counts
@@ -31,6 +37,11 @@ pub counts_differ : (expected : Option ℕ) (counts : ConflictCounts) (wanted : 
 counts_differ None counts wanted some = absurd (true≢false (ap is_some (sym some)))
 counts_differ (Some n) counts wanted some = by (are_expected (Some n) counts) refl
   where
+    all_hold : (counts.shift_reduce ≡ wanted) × (counts.reduce_reduce ≡ 0) → Some n ≡ Some wanted
+        → are_expected (Some n) counts ≡ true
+    all_hold both same = ap₂ (λ a b. a && b)
+        (eq-eqb _ _ (both.0 ∙ sym (ap (λ o. unwrap_or o 0) same))) (eq-eqb _ _ both.1)
+
     by : (x : Bool) → are_expected (Some n) counts ≡ x
         → (Some n ≡ Some wanted) × ((counts.shift_reduce ≡ wanted) × (counts.reduce_reduce ≡ 0) → ⊥)
     by true is =
@@ -41,7 +52,15 @@ counts_differ (Some n) counts wanted some = by (are_expected (Some n) counts) re
         let same : Some n ≡ Some wanted = sym missed ∙ some in
         (same, λ both. absurd (true≢false (sym (all_hold both same) ∙ is)))
 
-    all_hold : (counts.shift_reduce ≡ wanted) × (counts.reduce_reduce ≡ 0) → Some n ≡ Some wanted
-        → are_expected (Some n) counts ≡ true
-    all_hold both same = ap₂ (λ a b. a && b)
-        (eq-eqb _ _ (both.0 ∙ sym (ap (λ o. unwrap_or o 0) same))) (eq-eqb _ _ both.1)
+-- that a device fails or memory runs out is said of each command
+pub device_of_build : (version : Version) (expected : Option ℕ) (f : Failure) → IsOfDevice f
+    → IsRefusalOfBuild version expected f
+device_of_build version expected (CannotRead path) is = tt
+device_of_build version expected (Unreadable path reason) is = tt
+device_of_build version expected (CannotWrite path) is = tt
+device_of_build version expected OutOfMemory is = tt
+device_of_build version expected (Refused fault line) is = absurd is
+device_of_build version expected (Unexpected counts wanted) is = absurd is
+device_of_build version expected (Tables fault) is = absurd is
+device_of_build version expected FaultyTables is = absurd is
+device_of_build version expected TooLong is = absurd is

@@ -1,12 +1,13 @@
-use Rattle.std.proofs.Common.{◌≡◌, ◌∙◌, IfOk, rules, subst, sym}
+use Rattle.std.proofs.Common.{◌≡◌, ◌∙◌, IfErr, IfOk, rules, subst, sym}
 use Rattle.std.specs.Io.KnownBytes.{Appends}
 use Rattle.ly_print.specs.declared.counted.Counted.{Counted}
 use Rattle.ly_generate.specs.Parser.{IsReportIf}
-use Rattle.ly_generate.proofs.GenFaultLemmas.{ok_weaker}
+use Rattle.ly_generate.proofs.GenFaultLemmas.{err_weaker, ok_weaker}
 use Rattle.lytab.specs.CarriedOut.{IsBuildTold}
+use Rattle.lytab.specs.Failure.{IsOfDevice}
 use Rattle.lytab.specs.Refusal.{HasOtherCounts}
 use Rattle.lytab.specs.declared.completion.Completion.TheVariants.{Done}
-use Rattle.lytab.proofs.CountLemmas.{counts_differ, counts_hold}
+use Rattle.lytab.proofs.CountLemmas.{counts_differ, counts_hold, device_of_build}
 use Rattle.lytab.proofs.building.build_tables.Goals as goal
 
 pub returns-clause-built : goal.returns-clause-built
@@ -55,3 +56,8 @@ returns-in-Some-clause-refused g c =
       is_expected = differ.0;
       others = differ.1;
     })
+
+pub returns-clause-refused : goal.returns-clause-refused
+returns-clause-refused g c =
+    let failed : IfErr c.said.result IsOfDevice = search rules in
+    err_weaker c.said.result _ _ (device_of_build c.args.version c.args.expected) failed
