@@ -15,7 +15,7 @@ use Rattle.lytab.specs.Refusal.{IsRefusalOfFiles, IsRefusalOfTables}
 use Rattle.lytab.specs.TableTokens.{IsRefusalOfScanner}
 use Rattle.lytab.specs.declared.failure.Failure.{Failure}
 use Rattle.lytab.specs.declared.failure.Failure.TheVariants.{CannotRead, CannotWrite, FaultyTables, OutOfMemory}
-use Rattle.lytab.specs.declared.failure.Failure.TheVariants.{Refused, Tables, TooLong, Unreadable}
+use Rattle.lytab.specs.declared.failure.Failure.TheVariants.{Refused, Tables, TooLong, Unexpected, Unreadable}
 
 -- a failure isn't of a reader and of a writer
 apart : (f : Failure) → IsOfReader f → IsOfWriter f → ⊥
@@ -23,6 +23,7 @@ apart (CannotRead path) h w = w
 apart (Unreadable path reason) h w = h
 apart (CannotWrite path) h w = h
 apart (Refused fault line) h w = h
+apart (Unexpected counts wanted) h w = h
 apart (Tables fault) h w = h
 apart FaultyTables h w = h
 apart TooLong h w = h
@@ -48,6 +49,7 @@ module _ (tables : List ℕ) (given : Option (List ℕ)) where
   scanner_read (Unreadable path reason) h = absurd h
   scanner_read (CannotWrite path) h = absurd h
   scanner_read (Refused fault line) h = absurd h
+  scanner_read (Unexpected counts wanted) h = absurd h
   scanner_read (Tables fault) h = absurd h
   scanner_read FaultyTables h = absurd h
   scanner_read TooLong h = absurd h
@@ -58,6 +60,7 @@ module _ (tables : List ℕ) (given : Option (List ℕ)) where
   scanner_write (Unreadable path reason) h = absurd h
   scanner_write (CannotWrite path) h = tt
   scanner_write (Refused fault line) h = absurd h
+  scanner_write (Unexpected counts wanted) h = absurd h
   scanner_write (Tables fault) h = absurd h
   scanner_write FaultyTables h = absurd h
   scanner_write TooLong h = absurd h
@@ -83,6 +86,7 @@ module _ (tables : List ℕ) (given : Option (List ℕ)) where
   tables_read (Unreadable path reason) h = absurd h
   tables_read (CannotWrite path) h = absurd h
   tables_read (Refused fault line) h = absurd h
+  tables_read (Unexpected counts wanted) h = absurd h
   tables_read (Tables fault) h = absurd h
   tables_read FaultyTables h = absurd h
   tables_read TooLong h = absurd h
@@ -93,6 +97,7 @@ module _ (tables : List ℕ) (given : Option (List ℕ)) where
   tables_write (Unreadable path reason) h = absurd h
   tables_write (CannotWrite path) h = tt
   tables_write (Refused fault line) h = absurd h
+  tables_write (Unexpected counts wanted) h = absurd h
   tables_write (Tables fault) h = absurd h
   tables_write FaultyTables h = absurd h
   tables_write TooLong h = absurd h
@@ -119,6 +124,7 @@ module _ (lex yacc : List ℕ) (given : Option (List ℕ)) where
   files_read (Unreadable path reason) h = absurd h
   files_read (CannotWrite path) h = absurd h
   files_read (Refused fault line) h = absurd h
+  files_read (Unexpected counts wanted) h = absurd h
   files_read (Tables fault) h = absurd h
   files_read FaultyTables h = absurd h
   files_read TooLong h = absurd h
@@ -129,6 +135,7 @@ module _ (lex yacc : List ℕ) (given : Option (List ℕ)) where
   files_write (Unreadable path reason) h = absurd h
   files_write (CannotWrite path) h = tt
   files_write (Refused fault line) h = absurd h
+  files_write (Unexpected counts wanted) h = absurd h
   files_write (Tables fault) h = absurd h
   files_write FaultyTables h = absurd h
   files_write TooLong h = absurd h

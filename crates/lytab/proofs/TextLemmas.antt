@@ -27,7 +27,7 @@ use Rattle.lytab.specs.declared.answering.Rules.TheVariants as rules
 use Rattle.lytab.specs.declared.completion.Completion.{Completion}
 use Rattle.lytab.specs.declared.failure.Failure.{Failure}
 use Rattle.lytab.specs.declared.failure.Failure.TheVariants.{CannotRead, CannotWrite, FaultyTables, OutOfMemory}
-use Rattle.lytab.specs.declared.failure.Failure.TheVariants.{Refused, Tables, TooLong, Unreadable}
+use Rattle.lytab.specs.declared.failure.Failure.TheVariants.{Refused, Tables, TooLong, Unexpected, Unreadable}
 use Rattle.lytab.specs.declared.files.FileFault.{FileFault}
 
 answers_of_some : {form : AnswerForm} {limits : Sizes} {lex : List ℕ} {given : Option (List ℕ)} {e : End}
@@ -97,6 +97,7 @@ failed_of_some form tables given before after OutOfMemory h = kept_or
     (λ stopped s driven. stopped_of_some form s given before after text.OutOfMemory (stopped s driven)) h
 failed_of_some form tables given before after (Unreadable path reason) h = h
 failed_of_some form tables given before after (Refused fault line) h = h
+failed_of_some form tables given before after (Unexpected counts wanted) h = h
 
 some_stopped : (r : Rules) (given before after : Option (List ℕ)) (f : Failure)
     → AreLinesStoppedBy r given before after f → AreLinesStoppedBy r None before after f
