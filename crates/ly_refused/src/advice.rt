@@ -7,6 +7,8 @@ pub(crate) enum Advice {
     Nothing,
     /// This.
     Words(&'static str),
+    /// This, with names or lines of the file.
+    Made(Vec<u8>),
     /// A name that is near.
     Near(Vec<u8>),
 }
@@ -25,7 +27,7 @@ impl Advice {
             }
             GenFault::Endless { .. } => {
                 Advice::Words(
-                    "a rule as `a : a` is reduced without end: `a` may not derive itself alone",
+                    "rules are reduced without end where what they need may be empty, or derives itself alone",
                 )
             }
             _ => Advice::Nothing,

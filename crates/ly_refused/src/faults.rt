@@ -2,13 +2,14 @@ ghost use Rattle.std.specs.Prelude.{◌≡◌, OnOk, OnErr};
 ghost use Rattle.ly_page.specs.Page.{SaysMore};
 
 use crate::advice::Advice;
+use crate::causes::{Cause, cause_of};
 use crate::exchange::say_exchanged;
 use crate::finding::Findings;
 use crate::join_faults::find_join_faults;
 use crate::lex_faults::find_lex_faults;
 use crate::telling::{say_fault, say_findings};
 use crate::yacc_faults::find_yacc_faults;
-use crate::yacc_offsets::{endless_location, start_location};
+use crate::yacc_offsets::start_location;
 use ly_base::{Limits, OutOfMemory};
 use ly_generate::GenFault;
 use ly_page::{Named, Page};
@@ -48,7 +49,7 @@ pub fn say_lex_faults(
 {
     let mut findings = Findings::new(alloc);
     find_lex_faults(alloc, &mut findings, lex.bytes, limits)?;
-    let told = told(alloc, lex, lex, &findings, fault)?;
+    let told = told(alloc, lex, lex, limits, &findings, fault)?;
     page.say(&told);
     Ok(())
 }
@@ -64,7 +65,7 @@ fn told_faults(
     let mut page = Page::new(alloc);
     if !say_exchanged(alloc, &mut page, lex, yacc, limits)? {
         let findings = findings_in(alloc, lex.bytes, yacc.bytes, limits)?;
-        page.say(&told(alloc, lex, yacc, &findings, fault)?);
+        page.say(&told(alloc, lex, yacc, limits, &findings, fault)?);
     }
     page.finish()
 }
@@ -74,17 +75,24 @@ fn told(
     alloc: Global,
     lex: Named<'_>,
     yacc: Named<'_>,
+    limits: &Limits,
     findings: &Findings,
     fault: &GenFault,
 ) -> Result<Vec<u8>, OutOfMemory> {
     let mut page = Page::new(alloc);
     if findings.is_empty() {
-        let at = match fault {
-            GenFault::Grammar(_) => start_location(alloc, yacc.bytes)?,
-            GenFault::Endless { .. } => endless_location(alloc, yacc.bytes)?,
-            _ => None,
-        };
-        say_fault(&mut page, lex, yacc, fault, at, &Advice::of_whole(fault));
+        match cause_of(alloc, lex.bytes, yacc.bytes, limits, fault)? {
+            Some(Cause { at, advice }) => {
+                say_fault(&mut page, lex, yacc, fault, Some(at), &advice)
+            }
+            None => {
+                let at = match fault {
+                    GenFault::Grammar(_) => start_location(alloc, yacc.bytes)?,
+                    _ => None,
+                };
+                say_fault(&mut page, lex, yacc, fault, at, &Advice::of_whole(fault));
+            }
+        }
     } else {
         say_findings(&mut page, lex, yacc, findings);
     }

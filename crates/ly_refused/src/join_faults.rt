@@ -2,15 +2,17 @@ use crate::advice::Advice;
 use crate::finding::{Finding, Findings, MOST};
 use crate::join_mending::mend;
 use crate::lex_faults::MendedLex;
+use crate::lex_units::{action_start, first_line};
 use crate::location::{from_offset, line_start};
 use crate::nearest::nearest;
+use crate::pieces::behind_piece;
 use crate::short::Short;
 use crate::yacc_faults::MendedYacc;
 use crate::yacc_offsets::symbol_location;
-use ly_base::{Language, Limits, Location, OutOfMemory, locate};
+use ly_base::{Language, Limits, Location, OutOfMemory, after_gap, locate};
 use ly_generate::GenFault;
 use ly_join::{JoinFault, join};
-use ly_lexread::Returned;
+use ly_lexread::{LexAction, Returned};
 use ly_yaccread::{SymbolName, WordSpan, YaccFile, word_spans};
 use std::alloc::Global;
 use std::rc::RcSlice;
@@ -136,29 +138,51 @@ fn name_of(fault: &JoinFault) -> &[u8] {
     }
 }
 
-/// Where the first rule of a lex file that returns a name has it.
+/// Where the first rule of a lex file that returns a name by an action of its own has it.
 fn returned_location(lex: &MendedLex, name: &[u8]) -> Option<Location> {
-    let returns = |action: &ly_lexread::LexAction| match &action.returns {
-        Returned::Token(token) => token.as_slice() == name,
-        _ => false,
-    };
-    let rule = lex.actions.iter().position(returns)?;
-    let start = *lex.rule_starts.get(rule)?;
-    let before = word_offset(from_offset(&lex.text, start), name)?;
-    Some(locate(&lex.text, start.saturating_add(before)))
-}
-
-/// Where a name stands first in a text by itself.
-fn word_offset(text: &[u8], name: &[u8]) -> Option<usize> {
-    let mut in_word = false;
-    for offset in 0..text.len() {
-        let rest = from_offset(text, offset);
-        if !in_word && ends_behind(rest, name) {
-            return Some(offset);
+    for (action, start) in lex.actions.iter().zip(lex.rule_starts.iter()) {
+        let rule = from_offset(&lex.text, *start);
+        let action_text = from_offset(rule, action_start(first_line(rule)));
+        if !action_text.starts_with(b"|") && returns(action, name) {
+            let returned = returned_in(action_text, name)?;
+            return Some(locate(&lex.text, lex.text.len().saturating_sub(returned.len())));
         }
-        in_word = goes_on(rest);
     }
     None
+}
+
+/// Whether an action returns a name.
+fn returns(action: &LexAction, name: &[u8]) -> bool {
+    match &action.returns {
+        Returned::Token(token) => token.as_slice() == name,
+        _ => false,
+    }
+}
+
+/// What an action has from the name on that it returns.
+fn returned_in<'t>(action: &'t [u8], name: &[u8]) -> Option<&'t [u8]> {
+    let mut rest = action;
+    for _ in 0..action.len() {
+        if let Some(returned) = behind_return(rest)
+            && ends_behind(returned, name)
+        {
+            return Some(returned);
+        }
+        rest = behind_piece(rest);
+    }
+    None
+}
+
+/// What a `return` at the front returns: what stands behind it, blanks, comments and an open parenthesis.
+fn behind_return(text: &[u8]) -> Option<&[u8]> {
+    if !ends_behind(text, b"return") {
+        return None;
+    }
+    let behind = after_gap(text.strip_prefix(b"return")?, Language::Lex);
+    Some(match behind.strip_prefix(b"(") {
+        Some(inside) => after_gap(inside, Language::Lex),
+        None => behind,
+    })
 }
 
 /// Whether a text begins with a name that ends there.

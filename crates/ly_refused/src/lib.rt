@@ -9,6 +9,7 @@
 #![tactic(auto)]
 
 mod advice;
+mod causes;
 mod edit;
 mod exchange;
 mod faults;
@@ -24,6 +25,7 @@ mod lex_units;
 mod location;
 mod nearest;
 mod pieces;
+mod roundabout;
 mod short;
 mod telling;
 mod text_marks;

@@ -117,6 +117,11 @@ fn say_advice(page: &mut Page, advice: &Advice) {
             page.say(words.as_bytes());
             page.say(b"\n");
         }
+        Advice::Made(words) => {
+            page.say(MARGIN);
+            page.say(words);
+            page.say(b"\n");
+        }
         Advice::Near(name) => {
             page.say(MARGIN);
             page.say(b"did you mean ");

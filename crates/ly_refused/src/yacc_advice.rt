@@ -27,7 +27,7 @@ pub(crate) fn yacc_advice(
         YaccFaultKind::BadDeclaration => declaration_advice(before, rest),
         YaccFaultKind::BadRule => rule_advice(before, rest),
         YaccFaultKind::BadLiteral => literal_advice(rest),
-        YaccFaultKind::BadAction => action_advice(rest),
+        YaccFaultKind::BadAction => action_advice(before, rest),
         YaccFaultKind::DollarRange => {
             "`$1` is the first symbol of this body: it has fewer than that"
         }
@@ -174,13 +174,15 @@ fn rule_directive_advice(rest: &[u8]) -> &'static str {
 }
 
 /// The advice for what can't stand in an action.
-fn action_advice(rest: &[u8]) -> &'static str {
+fn action_advice(before: &Before, rest: &[u8]) -> &'static str {
     if rest.is_empty() || rest.starts_with(b"|") || rest.starts_with(b"%%") || begins_rule(rest) {
         "close the braces of the action with `}`"
     } else if rest.starts_with(b"}") {
         "the statement of an action ends with a `;`: write `{ $$ = Name($1,$3); }` or `{ $$ = $1; }`"
     } else if rest.starts_with(b";") {
         "a node without children has parentheses too: `{ $$ = Name(); }`"
+    } else if before.at_child && leading_name(rest, Language::Yacc).is_some() {
+        "the children of a node are trees of the body, as `$1`: make a node within it by a rule of its own"
     } else {
         "write `{ $$ = Name($1,$3); }`, `{ $$ = $1; }`, or no action: lytab's actions are not C"
     }

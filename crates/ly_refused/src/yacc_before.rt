@@ -9,6 +9,8 @@ pub(crate) struct Before {
     pub(crate) in_rules: bool,
     /// Whether it is in a body of a rule.
     pub(crate) in_body: bool,
+    /// Whether a child of a node is to stand there: behind `(` or `,` in an action.
+    pub(crate) at_child: bool,
     /// How many braces are open.
     depth: usize,
     /// Where the last directive of the declarations begins.
@@ -25,6 +27,7 @@ impl Before {
         let mut before = Before {
             in_rules: false,
             in_body: false,
+            at_child: false,
             depth: 0,
             directive: None,
             action: None,
@@ -57,6 +60,7 @@ impl Before {
             self
         };
         Before {
+            at_child: before.depth > 0 && (word == b"(".as_slice() || word == b",".as_slice()),
             last: Some(span),
             ..before
         }

@@ -3,9 +3,7 @@ use crate::join_mending::is_name;
 use crate::location::from_offset;
 use ly_base::{Language, Location, OutOfMemory, after_gap, locate};
 use ly_join::{JoinFault, TerminalName};
-use ly_yaccread::{
-    DeclarationKind, Production, SymbolName, WordSpan, YaccFault, YaccFile, read_yacc,
-};
+use ly_yaccread::{DeclarationKind, SymbolName, WordSpan, YaccFault, YaccFile, read_yacc};
 use std::alloc::Global;
 
 /// Where what a fault of both files names stands in a yacc file, whose words stand there: first, or where it is named
@@ -50,33 +48,11 @@ pub(crate) fn start_location(alloc: Global, text: &[u8]) -> Result<Option<Locati
     Ok(offset.map(|offset| locate(text, offset)))
 }
 
-/// Where the first body stands that is its left side alone.
-pub(crate) fn endless_location(
-    alloc: Global,
-    text: &[u8],
-) -> Result<Option<Location>, OutOfMemory> {
-    let Some(file) = readable(alloc, text)? else {
-        return Ok(None);
-    };
-    let Some(body) = endless_body(&file) else {
-        return Ok(None);
-    };
+/// The offset of the first word of a rule's body, or of the word behind it where it is empty.
+pub(crate) fn body_offset(file: &YaccFile, text: &[u8], rule: usize) -> Option<usize> {
+    let body = file.rule_offsets.get(rule)?.body as usize;
     let behind = after_gap(from_offset(text, body), Language::Yacc);
-    Ok(Some(locate(text, text.len().saturating_sub(behind.len()))))
-}
-
-/// The offset of the first body that is its left side alone.
-fn endless_body(file: &YaccFile) -> Option<usize> {
-    let rule = file.rules.iter().position(is_endless)?;
-    Some(file.rule_offsets.get(rule)?.body as usize)
-}
-
-/// Whether the body of a rule is its left side alone.
-fn is_endless(rule: &Production) -> bool {
-    match rule.body.as_slice() {
-        [SymbolName::Name(name)] => name.as_slice() == rule.left.as_slice(),
-        _ => false,
-    }
+    Some(text.len().saturating_sub(behind.len()))
 }
 
 /// What a yacc file says; nothing where it is refused.

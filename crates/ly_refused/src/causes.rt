@@ -1,0 +1,206 @@
+//! Why two files are refused that read well and go together: their grammar has no end.
+use crate::advice::Advice;
+use crate::roundabout::{Step, derived_alone, is_behind_nothing, without_text};
+use crate::yacc_offsets::body_offset;
+use ly_base::{Limits, Location, OutOfMemory, Sym, locate};
+use ly_generate::GenFault;
+use ly_grammar::reduce;
+use ly_join::{Spec, Symbol, join};
+use ly_lexread::read_lex;
+use ly_page::Page;
+use ly_yaccread::{YaccFile, read_yacc};
+use std::alloc::Global;
+
+/// How many lines or nonterminals are named at most.
+const NAMED: usize = 6;
+
+/// A cause as it is said.
+#[derive(Drop)]
+pub(crate) struct Cause {
+    /// Where it stands in the yacc file.
+    pub(crate) at: Location,
+    /// What to write instead.
+    pub(crate) advice: Advice,
+}
+
+/// Two files that are joined.
+#[derive(Drop)]
+struct Joined<'t> {
+    /// The bytes of the yacc file.
+    text: &'t [u8],
+    /// What it says.
+    file: YaccFile,
+    /// What both say.
+    spec: Spec,
+}
+
+/// The cause of a fault that two files have as a whole, where one is found.
+pub(crate) fn cause_of(
+    alloc: Global,
+    lex: &[u8],
+    yacc: &[u8],
+    limits: &Limits,
+    fault: &GenFault,
+) -> Result<Option<Cause>, OutOfMemory> {
+    let (Ok(lex), Ok(file)) = (read_lex(alloc, lex, limits), read_yacc(alloc, yacc)) else {
+        return Ok(None);
+    };
+    let Ok(spec) = join(alloc, &lex, &file, limits) else {
+        return Ok(None);
+    };
+    let joined = Joined {
+        text: yacc,
+        file,
+        spec,
+    };
+    match fault {
+        GenFault::Grammar(_) => joined.without_text(alloc),
+        GenFault::Endless { .. } => joined.without_end(alloc),
+        _ => Ok(None),
+    }
+}
+
+impl Joined<'_> {
+    /// The cause of a start symbol that derives no text.
+    fn without_text(&self, alloc: Global) -> Result<Option<Cause>, OutOfMemory> {
+        let around = without_text(alloc, self.spec.grammar())?;
+        let Some(first) = around.first() else {
+            return Ok(None);
+        };
+        let Some(offset) = self.left_offset(first.rule) else {
+            return Ok(None);
+        };
+        Ok(Some(Cause {
+            at: locate(self.text, offset),
+            advice: Advice::Made(self.needs(alloc, &around)?),
+        }))
+    }
+
+    /// The cause of a parser that reduces without end.
+    fn without_end(&self, alloc: Global) -> Result<Option<Cause>, OutOfMemory> {
+        let Ok(reduced) = reduce(alloc, self.spec.grammar()) else {
+            return Ok(None);
+        };
+        let around = derived_alone(alloc, &reduced)?;
+        if let Some(rule) = around.iter().map(|step| step.rule).min() {
+            let advice = Advice::Made(self.derives_itself(alloc, &around)?);
+            return Ok(self.cause_in_body(rule, advice));
+        }
+        let rules = self.spec.grammar().rules();
+        let hidden = (1..rules.len()).find(|rule| is_behind_nothing(&reduced, *rule));
+        Ok(match hidden {
+            Some(rule) => {
+                self.cause_in_body(
+                    rule,
+                    Advice::Words(
+                        "what stands before the left side in its own body may be empty, and is reduced without end",
+                    ),
+                )
+            }
+            None => None,
+        })
+    }
+
+    /// A cause that is the body of a rule.
+    fn cause_in_body(&self, rule: usize, advice: Advice) -> Option<Cause> {
+        let offset = body_offset(&self.file, self.text, rule.checked_sub(1)?)?;
+        Some(Cause {
+            at: locate(self.text, offset),
+            advice,
+        })
+    }
+
+    /// Where the left side of a rule stands.
+    fn left_offset(&self, rule: usize) -> Option<usize> {
+        let offsets = self.file.rule_offsets.get(rule.checked_sub(1)?)?;
+        Some(offsets.left as usize)
+    }
+
+    /// That each of these nonterminals needs the next one, and the last the first.
+    fn needs(&self, alloc: Global, around: &[Step]) -> Result<Vec<u8>, OutOfMemory> {
+        let mut page = Page::new(alloc);
+        if let [step] = around {
+            page.say(b"each rule of ");
+            self.say_name(&mut page, step.to);
+            page.say(b" needs ");
+            self.say_name(&mut page, step.to);
+            page.say(b" again: one is missing that ends");
+            return page.finish();
+        }
+        for (number, step) in around.iter().take(NAMED).enumerate() {
+            if number > 0 {
+                page.say(b", ");
+            }
+            self.say_name(&mut page, self.left(step.rule));
+            page.say(b" needs ");
+            self.say_name(&mut page, step.to);
+        }
+        if around.len() > NAMED {
+            page.say(b", and so on back to the first");
+        }
+        page.say(b": a rule is missing that ends");
+        page.finish()
+    }
+
+    /// That a nonterminal derives itself by the rules of these steps.
+    fn derives_itself(&self, alloc: Global, around: &[Step]) -> Result<Vec<u8>, OutOfMemory> {
+        let mut page = Page::new(alloc);
+        let least = around.iter().map(|step| step.rule).min().unwrap_or(0);
+        self.say_name(&mut page, self.left(least));
+        page.say(b" derives itself alone, by ");
+        if around.len() == 1 {
+            page.say(b"this rule, which is reduced without end: leave it out");
+        } else {
+            say_lines(&mut page, &self.lines(alloc, around)?);
+            page.say(b", which are reduced without end: leave one of them out");
+        }
+        page.finish()
+    }
+
+    /// The lines on which the bodies of these steps' rules begin, each once, in order.
+    fn lines(&self, alloc: Global, around: &[Step]) -> Result<Vec<u64>, OutOfMemory> {
+        let mut lines = Vec::new(alloc);
+        for step in around {
+            if let Some(cause) = self.cause_in_body(step.rule, Advice::Nothing) {
+                lines.push(cause.at.line)?;
+            }
+        }
+        lines.sort()?;
+        lines.dedup();
+        Ok(lines)
+    }
+
+    /// The left side of a rule.
+    fn left(&self, rule: usize) -> Sym {
+        match self.spec.grammar().rules().get(rule) {
+            Some(rule) => rule.left(),
+            None => self.spec.grammar().accept(),
+        }
+    }
+
+    /// Says the name of a nonterminal.
+    fn say_name(&self, page: &mut Page, number: Sym) {
+        page.say(b"`");
+        page.say_symbol(&self.spec, Symbol::Nonterminal(number));
+        page.say(b"`");
+    }
+}
+
+/// Says lines of which rules are named.
+fn say_lines(page: &mut Page, lines: &[u64]) {
+    page.say(if lines.len() == 1 {
+        b"the rules of line "
+    } else {
+        b"the rules of lines "
+    });
+    for (number, line) in lines.iter().take(NAMED).enumerate() {
+        if number > 0 {
+            let is_last = number.saturating_add(1) == lines.len();
+            page.say(if is_last { b" and " } else { b", " });
+        }
+        page.say_number(*line);
+    }
+    if lines.len() > NAMED {
+        page.say(b" and others");
+    }
+}
