@@ -66,7 +66,7 @@ impl Page {
     }
 
     /// Notes a growth that was refused.
-    fn note(&mut self, said: Result<(), AllocError>)
+    pub(crate) fn note(&mut self, said: Result<(), AllocError>)
         ensures ok { OnOk said (self.new ≡ self.old) }
         ensures refused { OnErr said (self.new ≡ None) }
     {
@@ -93,6 +93,13 @@ impl Page {
             Ok(text) => self.say(&text),
             Err(OutOfMemory) => self.said = Err(OutOfMemory),
         }
+    }
+
+    /// An empty page, for which room is taken from where it is for this one.
+    pub fn beside(&self) -> Page
+        ensures { result ≡ Some [] }
+    {
+        Page::new(self.allocator())
     }
 
     /// Where room is taken from.

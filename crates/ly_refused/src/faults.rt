@@ -2,14 +2,14 @@ ghost use Rattle.std.specs.Prelude.{◌≡◌, OnOk, OnErr};
 ghost use Rattle.ly_page.specs.Page.{SaysMore};
 
 use crate::advice::Advice;
-use crate::exchange::say_exchanged;
+use crate::exchange::{exchange_of, say_exchange};
 use crate::finding::Findings;
 use crate::join_faults::find_join_faults;
 use crate::lex_faults::find_lex_faults;
 use crate::telling::{say_fault, say_findings};
 use crate::yacc_faults::find_yacc_faults;
 use crate::yacc_offsets::{endless_location, start_location};
-use ly_base::{Limits, OutOfMemory};
+use ly_base::{Limits, Location, OutOfMemory};
 use ly_generate::GenFault;
 use ly_page::{Named, Page};
 use std::alloc::Global;
@@ -62,9 +62,12 @@ fn told_faults(
     fault: &GenFault,
 ) -> Result<Vec<u8>, OutOfMemory> {
     let mut page = Page::new(alloc);
-    if !say_exchanged(alloc, &mut page, lex, yacc, limits)? {
-        let findings = findings_in(alloc, lex.bytes, yacc.bytes, limits)?;
-        page.say(&told(alloc, lex, yacc, &findings, fault)?);
+    match exchange_of(alloc, lex.bytes, yacc.bytes, limits)? {
+        Some(exchange) => say_exchange(&mut page, lex, yacc, exchange),
+        None => {
+            let findings = findings_in(alloc, lex.bytes, yacc.bytes, limits)?;
+            page.say(&told(alloc, lex, yacc, &findings, fault)?);
+        }
     }
     page.finish()
 }
@@ -79,11 +82,7 @@ fn told(
 ) -> Result<Vec<u8>, OutOfMemory> {
     let mut page = Page::new(alloc);
     if findings.is_empty() {
-        let at = match fault {
-            GenFault::Grammar(_) => start_location(alloc, yacc.bytes)?,
-            GenFault::Endless { .. } => endless_location(alloc, yacc.bytes)?,
-            _ => None,
-        };
+        let at = location_of_whole(alloc, yacc.bytes, fault)?;
         say_fault(&mut page, lex, yacc, fault, at, &Advice::of_whole(fault));
     } else {
         say_findings(&mut page, lex, yacc, findings);
@@ -91,8 +90,21 @@ fn told(
     page.finish()
 }
 
+/// Where a fault of both files stands, if it has a place.
+pub(crate) fn location_of_whole(
+    alloc: Global,
+    yacc: &[u8],
+    fault: &GenFault,
+) -> Result<Option<Location>, OutOfMemory> {
+    match fault {
+        GenFault::Grammar(_) => start_location(alloc, yacc),
+        GenFault::Endless { .. } => endless_location(alloc, yacc),
+        _ => Ok(None),
+    }
+}
+
 /// What is found in the bytes of both files.
-fn findings_in(
+pub(crate) fn findings_in(
     alloc: Global,
     lex: &[u8],
     yacc: &[u8],
