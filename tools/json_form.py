@@ -229,7 +229,8 @@ def group_lines(group):
     after = f"after{row(group['after'])}" if group["after"] else "at the start"
     count = sum(1 if isinstance(it, str) else it for it in group["before"])
     before = row(group["before"][:12]) + (f" and {count - 12} more" if count > 12 else "")
-    lines = ["", f"In state {group['state']}, {after}, before{before}: {chosen[group['taken']]} taken, rule {rule} is not."]
+    state = f"{placed(group['rules'][-1])}in state {group['state']}, {after}, before{before}"
+    lines = ["", f"{state}: {chosen[group['taken']]} taken, rule {rule} is not."]
     lines += [f"    Rule {it['number']} is {placed(it)}{it['text']}" for it in group["rules"]]
     if group["reason"] is not None:
         lines.append(f"    {group['reason']}")

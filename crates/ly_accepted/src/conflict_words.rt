@@ -99,9 +99,7 @@ fn say_sentence(
     match found {
         Some(ambiguity) => say_ambiguity(alloc, page, spec, ambiguity),
         None => {
-            page.say(
-                b"    No sentence with two trees was found within the bound of the search.\n",
-            );
+            page.say(b"    No sentence with two trees was found within the bound of the search.\n");
             Ok(())
         }
     }

@@ -73,7 +73,12 @@ fn say_about(page: &mut Page, words: &[u8], name: &[u8]) {
 fn say_of_rule(page: &mut Page, files: &Accepted<'_>, kind: &DoubtKind<'_>) {
     match kind {
         DoubtKind::UselessRule(rule) => {
-            say_numbered(page, b"rule ", *rule as u64, b" is of no use: no text has it");
+            say_numbered(
+                page,
+                b"rule ",
+                *rule as u64,
+                b" is of no use: no text has it",
+            );
         }
         DoubtKind::UnreducedRule(rule) => {
             say_numbered(
@@ -92,7 +97,12 @@ fn say_of_rule(page: &mut Page, files: &Accepted<'_>, kind: &DoubtKind<'_>) {
             page.say(b", alone");
         }
         DoubtKind::IdlePrec(rule) => {
-            say_numbered(page, b"the %prec of rule ", *rule as u64, b" decides nothing");
+            say_numbered(
+                page,
+                b"the %prec of rule ",
+                *rule as u64,
+                b" decides nothing",
+            );
         }
         _ => {}
     }
@@ -107,7 +117,12 @@ fn say_of_terminal(page: &mut Page, files: &Accepted<'_>, kind: &DoubtKind<'_>) 
             page.say(b" stands in no rule");
         }
         DoubtKind::MoreUnused(count) => {
-            say_numbered(page, b"", *count as u64, b" terminals more stand in no rule");
+            say_numbered(
+                page,
+                b"",
+                *count as u64,
+                b" terminals more stand in no rule",
+            );
         }
         DoubtKind::UnreturnedTerminal(terminal) => {
             page.say_terminal(spec, *terminal);

@@ -61,11 +61,13 @@ pub(crate) fn doubts_of<'a>(
 impl<'a> Finder<'a> {
     /// Adds a doubt about what stands at a location, or nowhere.
     fn add(&mut self, at: Option<Location>, kind: DoubtKind<'a>) -> Result<(), OutOfMemory> {
-        Ok(self.doubts.push(Doubt {
-            side: Side::Yacc,
-            at,
-            kind,
-        })?)
+        Ok(
+            self.doubts.push(Doubt {
+                side: Side::Yacc,
+                at,
+                kind,
+            })?,
+        )
     }
 
     /// Adds a doubt about the rule of a number.

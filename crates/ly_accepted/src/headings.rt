@@ -12,9 +12,11 @@ use ly_resolve::{Action, Conflict, ConflictKind};
 /// How many terminals of a group are named, at most.
 const NAMED: usize = 12;
 
-/// Says the head of a group of conflicts.
+/// Says the head of a group of conflicts, which begins with the place of the rule that isn't taken.
 pub(crate) fn say_heading(page: &mut Page, files: &Accepted<'_>, places: &Places, told: &Told<'_>) {
     let conflict = &told.conflict;
+    page.say(b"\n");
+    page.say_location_in(files.yacc, places.location_of_rule(conflict.rule));
     say_place(page, files.spec, told);
     say_before(page, files.spec, &told.terminals);
     say_done(page, conflict);
@@ -39,7 +41,7 @@ fn say_rule_of(page: &mut Page, files: &Accepted<'_>, places: &Places, rule: usi
 
 /// Says the state of a group, by its number and its prefix.
 fn say_place(page: &mut Page, spec: &Spec, told: &Told<'_>) {
-    say_numbered(page, b"\nIn state ", told.conflict.state.0 as u64, b"");
+    say_numbered(page, b"in state ", told.conflict.state.0 as u64, b"");
     if told.prefix.front.is_empty() {
         page.say(b", at the start");
     } else {

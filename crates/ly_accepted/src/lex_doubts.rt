@@ -58,11 +58,13 @@ fn first_of_line(line: u64) -> Location {
 impl<'a> Finder<'a> {
     /// Adds a doubt about what stands at a location.
     fn add(&mut self, at: Location, kind: DoubtKind<'a>) -> Result<(), OutOfMemory> {
-        Ok(self.doubts.push(Doubt {
-            side: Side::Lex,
-            at: Some(at),
-            kind,
-        })?)
+        Ok(
+            self.doubts.push(Doubt {
+                side: Side::Lex,
+                at: Some(at),
+                kind,
+            })?,
+        )
     }
 
     /// Finds which conditions no action sets, and in which no rule is active.

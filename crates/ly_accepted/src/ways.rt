@@ -110,7 +110,12 @@ pub(crate) fn drawn_ways(
 }
 
 /// A way as it is drawn.
-fn drawn_way(alloc: Global, spec: &Spec, way: &[Item], style: Style) -> Result<Vec<u8>, OutOfMemory> {
+fn drawn_way(
+    alloc: Global,
+    spec: &Spec,
+    way: &[Item],
+    style: Style,
+) -> Result<Vec<u8>, OutOfMemory> {
     let mut page = Page::new(alloc);
     say_way(alloc, &mut page, spec, way, style)?;
     page.finish()

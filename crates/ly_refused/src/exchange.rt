@@ -7,7 +7,9 @@ use std::alloc::Global;
 
 /// What the words are that files in each other's place are told by.
 pub(crate) const READS_AS_YACC: &[u8] = b"this reads as a yacc file";
+
 pub(crate) const READS_AS_LEX: &[u8] = b"this reads as a lex file";
+
 pub(crate) const ARE_EXCHANGED: &[u8] = b"are both exchanged? the lex file comes first";
 
 /// Files that seem to stand in each other's place.

@@ -136,9 +136,9 @@ abbrev pub is_json : AnswerForm → Bool
 is_json Plain = false
 is_json Json = true
 
--- what there is to say of a lex file and a yacc file, in this form, and whether they are accepted; the states of their parser and a
--- picture of them were written where files are named for them, as far as there are any; and the end tells whether they
--- pass
+-- what there is to say of a lex file and a yacc file, in this form, and whether they are accepted; the states of their
+-- parser and a picture of them were written where files are named for them, as far as there are any; and the end tells
+-- whether they pass
 pub record IsExplanationTold {D A : Type 0} (contents : D → Option (List ℕ))
     (lex_path states_path graph_path : Option A)
     (strictness : Strictness) (form : AnswerForm) (before after : Option (List ℕ)) (c : Completion) : Type 0 where
