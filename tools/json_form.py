@@ -143,8 +143,8 @@ def answer(plain):
     return tree(plain[:-1]) + b"\n"
 
 
-# What `explain --json` says, put into the lines of the text that docs/explain.md describes, as far as they are said by it;
-# and these lines of a text: without the lines that a caret points into, the bytes with which no match begins, and the rules.
+# What `explain --json` says, put into the lines of the text that docs/explain.md describes, as far as it says them; and
+# these lines of a text: without those that a caret points into, bytes with which no match begins, and the rules.
 CARET = re.compile(r"    [ \t]*\^")
 NO_MATCH = re.compile(r"In .* no match begins with .*")
 MERGED = (

@@ -6,7 +6,7 @@ use crate::places::Places;
 use crate::surveying::{Accepted, say_numbered};
 use crate::told::{Readings, Shown, Spot, Told};
 use crate::trees::say_ambiguity;
-use crate::ways::{reduced_rival, say_ways};
+use crate::ways::{Ways, reduced_rival, say_ways};
 use ly_base::OutOfMemory;
 use ly_join::{Spec, Symbol};
 use ly_page::Page;
@@ -35,24 +35,34 @@ pub(crate) fn say_told(
                 }
             }
         }
-        Shown::Merged(ways) => {
-            page.say(
-                b"    No symbols lead to a place where both are possible: only merging the states of an LR(1)\n    \
-                parser makes this conflict.\n",
-            );
-            if let Some(ways) = ways {
-                say_ways(alloc, page, spec, conflict, ways)?;
-            }
-            page.say(
-                b"    No precedence settles it: for one of these places write a nonterminal of its own, with a copy\n    \
-                of the rule.\n",
-            );
-        }
+        Shown::Merged(ways) => say_merged(alloc, page, spec, conflict, ways)?,
         Shown::Unknown(found) => {
             page.say(b"    No example was found within the bound of the search.\n");
             say_sentence(alloc, page, spec, found)?;
         }
     }
+    Ok(())
+}
+
+/// Says that only merging makes a conflict, where each of its rules is possible, and how to settle it.
+fn say_merged(
+    alloc: Global,
+    page: &mut Page,
+    spec: &Spec,
+    conflict: &Conflict,
+    ways: &Option<Ways>,
+) -> Result<(), OutOfMemory> {
+    page.say(
+        b"    No symbols lead to a place where both are possible: only merging the states of an LR(1)\n    \
+        parser makes this conflict.\n",
+    );
+    if let Some(ways) = ways {
+        say_ways(alloc, page, spec, conflict, ways)?;
+    }
+    page.say(
+        b"    No precedence settles it: for one of these places write a nonterminal of its own, with a copy\n    \
+        of the rule.\n",
+    );
     Ok(())
 }
 

@@ -19,7 +19,7 @@ pub(crate) fn file_of<'a>(files: &Accepted<'a>, side: Side) -> Named<'a> {
     }
 }
 
-/// Says a doubt on a line: the file, where it stands there, and what it is. Of a pattern its line follows, with a caret.
+/// Says a doubt on a line: the file, where it stands there, and what it is. Of a pattern its line follows.
 pub(crate) fn say_doubt(page: &mut Page, files: &Accepted<'_>, doubt: &Doubt<'_>) {
     let file = file_of(files, doubt.side);
     match doubt.at {

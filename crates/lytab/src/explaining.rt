@@ -23,8 +23,8 @@ use std::rt::Files;
 /// Writes to standard output what there is to say of a lex file and a yacc file, or of a yacc file alone, and, where
 /// they are accepted, the states of their parser and a picture of them if they are asked for. All files are read before
 /// anything is judged.
-/// How strictly they are judged changes nothing that is written. As JSON the text begins with whether they are accepted,
-/// and with how many conflicts there are.
+/// How strictly they are judged changes nothing that is written. As JSON the text begins with whether they are
+/// accepted, and with how many conflicts there are.
 pub fn explain_files<'a, F: Files, W: Sink>(
     files: &F,
     alloc: Global,
