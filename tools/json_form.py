@@ -141,3 +141,138 @@ def answer(plain):
         behind = expected(plain[token.end() + 1 :])
         return b'{"error":"refused",' + numbers + b"," + leaf(token)[1:-1] + b"," + behind + b"}\n"
     return tree(plain[:-1]) + b"\n"
+
+
+# What `explain --json` says, put into the lines of the text that docs/explain.md describes, as far as it says them; and
+# these lines of a text: without those that a caret points into, bytes with which no match begins, and the rules.
+CARET = re.compile(r"    [ \t]*\^")
+NO_MATCH = re.compile(r"In .* no match begins with .*")
+MERGED = (
+    "    No symbols lead to a place where both are possible: only merging the states of an LR(1)",
+    "    parser makes this conflict.",
+)
+MENDED = (
+    "    No precedence settles it: for one of these places write a nonterminal of its own, with a copy",
+    "    of the rule.",
+)
+
+
+def explained(value):
+    """The lines that an answer of `explain --json` says."""
+    if not value["accepted"]:
+        if value["faults"][-1]["name"] == "ExchangedFiles":
+            return exchanged_lines(value["faults"])
+        lines = [line for fault in value["faults"] for line in fault_lines(fault)]
+        if value["more"]:
+            lines.append("there may be more faults behind these")
+        return lines
+    counts = value["counts"]
+    sizes = [counted(counts[name], name[:-1]) for name in ("rules", "terminals", "nonterminals", "states")]
+    lines = [f"accepted: {', '.join(sizes)}."]
+    lines += [placed(doubt) + doubt["text"] for doubt in value["doubts"]]
+    if not value["doubts"] and not value["conflicts"]:
+        lines.append("No doubts.")
+    lines += ["", f"Conflicts: {counts['shift_reduce']} shift/reduce, {counts['reduce_reduce']} reduce/reduce."]
+    groups = len(value["conflicts"]) + value["untold"]
+    if value["cure"]:
+        cure = value["cure"]
+        lines.append(f"A precedence for {cure['token']} settles {cure['groups']} of these {counted(groups, 'group')}.")
+    for group in value["conflicts"]:
+        lines += group_lines(group)
+    if value["untold"]:
+        told = "group of conflicts isn't" if value["untold"] == 1 else "groups of conflicts aren't"
+        lines += ["", f"{value['untold']:,} more {told} told."]
+    return lines
+
+
+def text_lines(text):
+    """The lines of a text of `explain` that its JSON says too."""
+    lines = text.decode().split("\n")[:-1]
+    dropped = {at for at, line in enumerate(lines) if CARET.fullmatch(line)}
+    lines = [line for at, line in enumerate(lines) if at not in dropped and at + 1 not in dropped]
+    if "Rules:" in lines:
+        lines = lines[: lines.index("Rules:") - 1]
+        lines[0] = lines[0][lines[0].rindex("accepted: ") :]
+    return [line for line in lines if not NO_MATCH.fullmatch(line)]
+
+
+def counted(count, name):
+    return f"{count} {name if count == 1 else name + 's'}"
+
+
+def placed(it):
+    """A file, and where something stands there."""
+    return f"{it['file']}: " if it["line"] is None else f"{it['file']}:{it['line']}:{it['column']}: "
+
+
+def fault_lines(fault):
+    advice = [] if fault["advice"] is None else [f"    {fault['advice']}"]
+    what = "" if fault["what"] is None else f" {fault['what']}"
+    number = "" if fault["number"] is None else f"{fault['number']} "
+    return [f"{placed(fault)}{number}{fault['name']}{what}: {fault['text']}"] + advice
+
+
+def exchanged_lines(faults):
+    """Both files, or one, and behind them what each is told."""
+    advice = {fault["advice"] for fault in faults}
+    return [placed(fault) + fault["text"] for fault in faults] + [f"    {it}" for it in advice]
+
+
+def row(names):
+    """Names, a space before each, and how many are left out."""
+    return "".join(f" {it}" if isinstance(it, str) else f" .. {it:,} more .." for it in names)
+
+
+def group_lines(group):
+    rule = group["rules"][-1]["number"]
+    chosen = {"shift": "the shift is", "rule": f"rule {group['rules'][0]['number']} is", "nothing": "nothing is"}
+    after = f"after{row(group['after'])}" if group["after"] else "at the start"
+    count = sum(1 if isinstance(it, str) else it for it in group["before"])
+    before = row(group["before"][:12]) + (f" and {count - 12} more" if count > 12 else "")
+    state = f"{placed(group['rules'][-1])}in state {group['state']}, {after}, before{before}"
+    lines = ["", f"{state}: {chosen[group['taken']]} taken, rule {rule} is not."]
+    lines += [f"    Rule {it['number']} is {placed(it)}{it['text']}" for it in group["rules"]]
+    if group["reason"] is not None:
+        lines.append(f"    {group['reason']}")
+    return lines + shown_lines(group)
+
+
+def shown_lines(group):
+    """How a conflict comes about."""
+    lines, ahead = [], f" . {group['before'][0]}"
+    if group["search"] == "found":
+        lines.append(f"    example:{row(group['example'])}{ahead}")
+        if group["tokens"] != group["example"]:
+            lines.append(f"    tokens: {row(group['tokens'])}{ahead}")
+        if not group["met"]:
+            lines.append("    The parser, as its other conflicts are settled, doesn't come there by these tokens.")
+        if group["ways"] is None:
+            numbers = [it["number"] for it in group["rules"]]
+            return lines + [f"    Rule {numbers[0]} and rule {numbers[1]} are the same: leave one of them out."]
+    if group["search"] == "merged":
+        lines += MERGED
+    if group["search"] == "ended":
+        lines.append("    No example was found within the bound of the search.")
+    lines += way_lines(group)
+    if group["search"] == "merged":
+        return lines + list(MENDED)
+    return lines + sentence_lines(group) if group["search"] != "unsought" else lines
+
+
+def way_lines(group):
+    if group["ways"] is None:
+        return []
+    numbers = [it["number"] for it in group["rules"]]
+    labels = [f"rule {it}:" for it in numbers[-2:]]
+    if group["kind"] == "shift/reduce":
+        labels = ["shift:", f"rule {numbers[-1]}:"]
+    return [f"    {label:8}{way and ' ' + way}" for label, way in zip(labels, group["ways"])]
+
+
+def sentence_lines(group):
+    if group["sentence"] is None:
+        return ["    No sentence with two trees was found within the bound of the search."]
+    first = "    The empty sentence has two trees:"
+    if group["sentence"]:
+        first = f"    This sentence has two trees:{row(group['sentence'])}"
+    return [first] + [f"       {tree and ' ' + tree}" for tree in group["trees"]]

@@ -77,11 +77,11 @@ impl<'a> Finder<'a> {
         &mut self,
         alloc: Global,
         conflict: &Conflict,
-        at: Option<&Ways>,
+        at: Option<(&[Symbol], &Ways)>,
     ) -> Result<Option<Ambiguity>, OutOfMemory> {
-        if let Some(ways) = at {
+        if let Some((string, ways)) = at {
             let mut search = Search::new(alloc, conflict)?;
-            self.begin_whole(alloc, &mut search, conflict, ways)?;
+            self.begin_whole(alloc, &mut search, conflict, string, ways)?;
             let found = self.search(alloc, &mut search, MOST_WHOLE)?;
             if found.is_some() {
                 return Ok(found);
@@ -119,9 +119,10 @@ impl<'a> Finder<'a> {
         alloc: Global,
         search: &mut Search,
         conflict: &Conflict,
+        string: &[Symbol],
         ways: &Ways,
     ) -> Result<(), OutOfMemory> {
-        let mut string = Vec::from_slice(alloc, &ways.string)?;
+        let mut string = Vec::from_slice(alloc, string)?;
         string.reverse();
         let mut states = Vec::new(alloc);
         states.push(StateNo(0))?;

@@ -48,7 +48,7 @@ struct Side {
 }
 
 /// Draws the rules of a way: a bracket where one begins below another, the symbols before the dots, and at the end a
-/// dot and what stands behind it in each rule, from the inmost one on; then the line ends. Of no way nothing is said.
+/// dot and what stands behind it in each rule, from the inmost one on. Of no way nothing is said.
 /// Of many symbols on a side of the dot the middle is counted alone, and the brackets that begin there aren't said.
 pub(crate) fn say_way(
     alloc: Global,
@@ -58,7 +58,6 @@ pub(crate) fn say_way(
     style: Style,
 ) -> Result<(), OutOfMemory> {
     if way.is_empty() {
-        page.say(b"\n");
         return Ok(());
     }
     let mut side = Side::new(alloc);
@@ -85,7 +84,6 @@ pub(crate) fn say_way(
     page.say(if opened { b"." } else { b" ." });
     let rests = rests_of(alloc, spec, &under, side.symbols, style)?;
     rests.say(page, spec);
-    page.say(b"\n");
     Ok(())
 }
 

@@ -2,19 +2,19 @@
 ghost use Rattle.std.specs.Prelude.{Contains};
 ghost use Rattle.ly_resolve.specs.Values.{conflict_from, IsInside};
 
-use crate::ambiguity::{Ambiguity, Finder};
+use crate::ambiguity::Finder;
+use crate::conflict_json::say_conflict;
+use crate::conflict_words::{say_told, say_untold};
 use crate::cores::Cores;
-use crate::cures::say_cure;
-use crate::cut::{say_large, say_symbols};
+use crate::cures::{Cure, best_cure, say_cure};
 use crate::groups::{BOUND, Group, TOLD, groups_of};
-use crate::headings::say_heading;
 use crate::meeting::is_met;
 use crate::places::Places;
-use crate::surveying::{Accepted, first_of, say_numbered};
-use crate::trees::say_ambiguity;
-use crate::ways::{Drawn, say_ways, say_ways_at};
+use crate::surveying::{Accepted, Wish, first_of, say_numbered};
+use crate::told::{Readings, Shown, Spot, Told};
+use crate::ways::Drawn;
 use crate::yields::Yields;
-use ly_base::OutOfMemory;
+use ly_base::{OutOfMemory, Sym};
 use ly_examples::{Example, Examples};
 use ly_join::{Grammar, Spec, Symbol};
 use ly_page::Page;
@@ -35,25 +35,21 @@ struct Teller<'a> {
     spec: &'a Spec,
 }
 
-/// Says how many conflicts there are, and each with an example. Those of one state that differ in the terminal alone,
-/// and that have examples alike, are a group, which is told together.
+/// Says how many conflicts there are, and each with an example; or as JSON the members of an object that say so. Those
+/// of one state that differ in the terminal alone, and that have examples alike, are a group, which is told together.
 pub(crate) fn say_conflicts(
     alloc: Global,
     page: &mut Page,
     files: &Accepted<'_>,
     places: &Places,
+    wish: Wish,
 ) -> Result<(), OutOfMemory> {
     let resolved = files.resolved;
-    let counts = ConflictCounts::of(resolved);
-    say_numbered(
-        page,
-        b"\nConflicts: ",
-        counts.shift_reduce as u64,
-        b" shift/reduce, ",
-    );
-    say_numbered(page, b"", counts.reduce_reduce as u64, b" reduce/reduce.\n");
-    if resolved.conflicts().is_empty() {
-        return Ok(());
+    if !wish.json {
+        say_counts(page, ConflictCounts::of(resolved));
+        if resolved.conflicts().is_empty() {
+            return Ok(());
+        }
     }
     let yields = Yields::of(alloc, resolved.lr0().reduced())?;
     let teller = Teller {
@@ -62,149 +58,195 @@ pub(crate) fn say_conflicts(
         yields: &yields,
         spec: files.spec,
     };
-    teller.say_all(alloc, page, files, places)
+    let groups = groups_of(alloc, teller.examples)?;
+    let cure = best_cure(alloc, files.spec, resolved.conflicts(), &groups)?;
+    if wish.json {
+        teller.say_json(alloc, page, files, places, &groups)?;
+        say_rest(page, files.spec, cure, groups.len().saturating_sub(TOLD));
+        return Ok(());
+    }
+    if let Some(cure) = cure {
+        say_cure(page, files.spec, cure, groups.len());
+    }
+    teller.say_all(alloc, page, files, places, &groups)
+}
+
+/// Says how many conflicts there are of each kind.
+fn say_counts(page: &mut Page, counts: ConflictCounts) {
+    let before = b" shift/reduce, ";
+    say_numbered(page, b"\nConflicts: ", counts.shift_reduce as u64, before);
+    say_numbered(page, b"", counts.reduce_reduce as u64, b" reduce/reduce.\n");
+}
+
+/// Says as JSON which token's precedence settles the most groups, and how many groups more aren't told.
+fn say_rest(page: &mut Page, spec: &Spec, cure: Option<Cure>, untold: usize) {
+    page.say_json_key(b"cure");
+    match cure {
+        Some(cure) => {
+            page.say(b"{\"token\":");
+            let mut name = page.beside();
+            name.say_terminal(spec, cure.terminal);
+            page.say_json_page(name);
+            page.say_json_number(b"groups", cure.settled as u64);
+            page.say(b"}");
+        }
+        None => page.say(b"null"),
+    }
+    page.say_json_number(b"untold", untold as u64);
 }
 
 impl Teller<'_> {
-    /// Says all conflicts, group by group.
+    /// Says all groups of conflicts.
     fn say_all(
         &self,
         alloc: Global,
         page: &mut Page,
         files: &Accepted<'_>,
         places: &Places,
+        groups: &[Group],
     ) -> Result<(), OutOfMemory> {
         let mut finder = Finder::new(alloc, self.cores, self.yields)?;
-        let groups = groups_of(alloc, self.examples)?;
-        say_cure(
-            alloc,
-            page,
-            self.spec,
-            self.examples.resolved().conflicts(),
-            &groups,
-        )?;
-        for group in first_of(&groups, TOLD) {
-            let Some(first) = group.conflicts.first() else {
-                continue;
-            };
-            let Some(conflict) = self.examples.conflict(*first) else {
-                continue;
-            };
-            say_heading(alloc, page, files, places, conflict, &group.conflicts)?;
-            self.say_example(alloc, page, conflict, group, &mut finder)?;
+        for group in first_of(groups, TOLD) {
+            if let Some(told) = self.told(alloc, group, &mut finder)? {
+                say_told(alloc, page, files, places, &told)?;
+            }
         }
         say_untold(page, groups.len().saturating_sub(TOLD));
         Ok(())
     }
 
-    /// Says the example of a group of conflicts, of which this is the first, or that there is none.
-    fn say_example(
+    /// Says all groups of conflicts as a member of a JSON object.
+    fn say_json(
         &self,
         alloc: Global,
         page: &mut Page,
-        conflict: &Conflict,
-        group: &Group,
+        files: &Accepted<'_>,
+        places: &Places,
+        groups: &[Group],
+    ) -> Result<(), OutOfMemory> {
+        let mut finder = Finder::new(alloc, self.cores, self.yields)?;
+        page.say_json_key(b"conflicts");
+        page.say(b"[");
+        for (place, group) in first_of(groups, TOLD).iter().enumerate() {
+            if let Some(told) = self.told(alloc, group, &mut finder)? {
+                page.say(if place > 0 { b"," } else { b"" });
+                say_conflict(alloc, page, files, places, &told)?;
+            }
+        }
+        page.say(b"]");
+        Ok(())
+    }
+
+    /// A group of conflicts, as it is told.
+    fn told<'g>(
+        &self,
+        alloc: Global,
+        group: &'g Group,
         finder: &mut Finder<'_>,
-    ) -> Result<(), OutOfMemory>
+    ) -> Result<Option<Told<'g>>, OutOfMemory> {
+        let Some(first) = group.conflicts.first() else {
+            return Ok(None);
+        };
+        let Some(conflict) = self.examples.conflict(*first) else {
+            return Ok(None);
+        };
+        Ok(Some(Told {
+            conflict: *conflict,
+            terminals: self.terminals(alloc, &group.conflicts)?,
+            prefix: self.cores.prefix(alloc, conflict.state)?,
+            shown: self.shown(alloc, conflict, group, finder)?,
+        }))
+    }
+
+    /// The terminals of the conflicts of these indices.
+    fn terminals(&self, alloc: Global, group: &[usize]) -> Result<Vec<Sym>, OutOfMemory> {
+        let conflicts = self.examples.resolved().conflicts();
+        let mut terminals = Vec::new(alloc);
+        for index in group {
+            if let Some(conflict) = conflicts.get(*index) {
+                terminals.push(conflict.terminal)?;
+            }
+        }
+        Ok(terminals)
+    }
+
+    /// What is known of how the conflicts of a group come about, of which this is the first.
+    fn shown<'g>(
+        &self,
+        alloc: Global,
+        conflict: &Conflict,
+        group: &'g Group,
+        finder: &mut Finder<'_>,
+    ) -> Result<Shown<'g>, OutOfMemory>
         requires inside { IsInside self.now.examples.now.automaton conflict.now }
         requires conflict { Contains self.now.examples.now.conflicts
             (conflict_from self.now.examples.now.automaton conflict.now) }
     {
         match &group.example {
-            Some(Example::At(string)) => {
-                self.say_string(alloc, page, conflict, string)?;
-                if self.say_same(page, conflict) {
-                    return Ok(());
-                }
-                let ways = say_ways_at(alloc, page, &self.drawn(conflict), string)?;
-                self.say_sentence(alloc, page, finder.find(alloc, conflict, Some(&ways))?)
-            }
-            Some(Example::Merged) => self.say_merged(alloc, page, conflict, &group.conflicts),
-            Some(Example::Unknown) => {
-                page.say(b"    No example was found within the bound of the search.\n");
-                self.say_sentence(alloc, page, finder.find(alloc, conflict, None)?)
-            }
-            None => Ok(()),
+            Some(Example::At(string)) => Ok(Shown::At(self.spot(alloc, conflict, string, finder)?)),
+            Some(Example::Merged) => self.merged(alloc, conflict, &group.conflicts),
+            Some(Example::Unknown) => Ok(Shown::Unknown(finder.find(alloc, conflict, None)?)),
+            None => Ok(Shown::Unsought),
         }
     }
 
-    /// Says a string of symbols at which both actions are possible, and the shortest tokens of it.
-    fn say_string(
+    /// What is known of a string behind which both actions of a conflict are possible.
+    fn spot<'g>(
         &self,
         alloc: Global,
-        page: &mut Page,
+        conflict: &Conflict,
+        string: &'g [Symbol],
+        finder: &mut Finder<'_>,
+    ) -> Result<Spot<'g>, OutOfMemory> {
+        let derived = self.yields.derive(alloc, self.spec.grammar(), string)?;
+        let is_met = !derived.whole
+            || is_met(alloc, self.examples.resolved(), conflict, &derived.tokens)?;
+        let readings = self.readings(alloc, conflict, string, finder)?;
+        Ok(Spot {
+            string,
+            derived,
+            is_met,
+            readings,
+        })
+    }
+
+    /// How both actions of a conflict come about behind a string.
+    fn readings(
+        &self,
+        alloc: Global,
         conflict: &Conflict,
         string: &[Symbol],
-    ) -> Result<(), OutOfMemory> {
-        let spec = self.spec;
-        page.say(b"    example:");
-        say_symbols(page, spec, string);
-        page.say(b" . ");
-        page.say_terminal(spec, conflict.terminal);
-        page.say(b"\n");
-        if has_nonterminal(string) {
-            page.say(b"    tokens: ");
-            self.yields.say(alloc, page, spec, string)?;
-            page.say(b" . ");
-            page.say_terminal(spec, conflict.terminal);
-            page.say(b"\n");
+        finder: &mut Finder<'_>,
+    ) -> Result<Readings, OutOfMemory> {
+        if is_between_same(self.spec.grammar(), conflict) {
+            return Ok(Readings::Same);
         }
-        let derived = self.yields.derive(alloc, spec.grammar(), string)?;
-        if derived.whole && !is_met(alloc, self.examples.resolved(), conflict, &derived.tokens)? {
-            page.say(
-                b"    The parser, as its other conflicts are settled, doesn't come there by these tokens.\n",
-            );
-        }
-        Ok(())
+        let ways = self.drawn(conflict).ways(alloc, string, string)?;
+        let found = finder.find(alloc, conflict, Some((string, &ways)))?;
+        Ok(Readings::Ways(ways, found))
     }
 
-    /// Says that a conflict is between two rules that are the same, and answers whether it is.
-    fn say_same(&self, page: &mut Page, conflict: &Conflict) -> bool {
-        if let (ConflictKind::ReduceReduce, Action::Reduce(rule)) = (conflict.kind, conflict.choice)
-            && are_same(self.spec.grammar(), rule, conflict.rule)
-        {
-            say_numbered(page, b"    Rule ", rule as u64, b" and rule ");
-            say_numbered(
-                page,
-                b"",
-                conflict.rule as u64,
-                b" are the same: leave one of them out.\n",
-            );
-            return true;
-        }
-        false
-    }
-
-    /// Says that only merging makes the conflicts of these indices, where each of their rules is possible, and how to
-    /// settle them.
-    fn say_merged(
+    /// Where each rule of a conflict is possible, if only merging makes the conflicts of these indices.
+    fn merged<'g>(
         &self,
         alloc: Global,
-        page: &mut Page,
         conflict: &Conflict,
         group: &[usize],
-    ) -> Result<(), OutOfMemory>
+    ) -> Result<Shown<'g>, OutOfMemory>
         requires inside { IsInside self.now.examples.now.automaton conflict.now }
         requires conflict { Contains self.now.examples.now.conflicts
             (conflict_from self.now.examples.now.automaton conflict.now) }
     {
         if !self.examples.none_has_one(alloc, group, BOUND)? {
-            return Ok(());
+            return Ok(Shown::Unsought);
         }
-        page.say(
-            b"    No symbols lead to a place where both are possible: only merging the states of an LR(1)\n    \
-            parser makes this conflict.\n",
-        );
         let one = self.examples.of_choice(alloc, conflict, BOUND)?;
         let other = self.examples.of_rule(alloc, conflict, BOUND)?;
         if let (Some(one), Some(other)) = (one, other) {
-            say_ways(alloc, page, &self.drawn(conflict), &one, &other)?;
+            let ways = self.drawn(conflict).ways(alloc, &one, &other)?;
+            return Ok(Shown::Merged(Some(ways)));
         }
-        page.say(
-            b"    No precedence settles it: for one of these places write a nonterminal of its own, with a copy\n    \
-            of the rule.\n",
-        );
-        Ok(())
+        Ok(Shown::Merged(None))
     }
 
     /// What the ways to the actions of a conflict are drawn by.
@@ -215,47 +257,16 @@ impl Teller<'_> {
             conflict,
         }
     }
-
-    /// Says a sentence with two trees, or that none was found.
-    fn say_sentence(
-        &self,
-        alloc: Global,
-        page: &mut Page,
-        found: Option<Ambiguity>,
-    ) -> Result<(), OutOfMemory> {
-        match found {
-            Some(ambiguity) => say_ambiguity(alloc, page, self.spec, &ambiguity),
-            None => {
-                page.say(
-                    b"    No sentence with two trees was found within the bound of the search.\n",
-                );
-                Ok(())
-            }
-        }
-    }
 }
 
-/// Says how many groups of conflicts are left untold, if any are.
-fn say_untold(page: &mut Page, count: usize) {
-    if count > 0 {
-        page.say(b"\n");
-        say_large(page, count as u64);
-        page.say(if count == 1 {
-            b" more group of conflicts isn't told.\n".as_slice()
-        } else {
-            b" more groups of conflicts aren't told.\n"
-        });
-    }
-}
-
-/// Whether a nonterminal is among symbols.
-fn has_nonterminal(symbols: &[Symbol]) -> bool {
-    for symbol in symbols {
-        if let Symbol::Nonterminal(_) = symbol {
-            return true;
+/// Whether a conflict is between two rules that are the same.
+fn is_between_same(grammar: &Grammar, conflict: &Conflict) -> bool {
+    match (conflict.kind, conflict.choice) {
+        (ConflictKind::ReduceReduce, Action::Reduce(rule)) => {
+            are_same(grammar, rule, conflict.rule)
         }
+        _ => false,
     }
-    false
 }
 
 /// Whether two rules have the same left side and the same body.

@@ -11,14 +11,22 @@ use std::alloc::Global;
 /// How many groups a precedence settles at least that is said.
 const LEAST: usize = 2;
 
-/// Says by which token's precedence the most groups of conflicts are settled, if it is more than one.
-pub(crate) fn say_cure(
+/// A token whose precedence settles groups of conflicts.
+#[derive(Clone, Copy)]
+pub(crate) struct Cure {
+    /// The token.
+    pub(crate) terminal: Sym,
+    /// How many groups are settled.
+    pub(crate) settled: usize,
+}
+
+/// The token whose precedence settles the most groups of conflicts, if it is more than one.
+pub(crate) fn best_cure(
     alloc: Global,
-    page: &mut Page,
     spec: &Spec,
     conflicts: &[Conflict],
     groups: &[Group],
-) -> Result<(), OutOfMemory> {
+) -> Result<Option<Cure>, OutOfMemory> {
     let mut counts: Vec<usize> = vec![in alloc; 0; spec.terminals().len()]?;
     for group in groups {
         if let Some(terminal) = cure_of(spec, conflicts, group)
@@ -30,25 +38,25 @@ pub(crate) fn say_cure(
     let mut best = None;
     let mut most = LEAST;
     for (terminal, count) in counts.iter().enumerate() {
-        if *count >= most {
-            best = Some(terminal);
+        if *count >= most
+            && let Ok(number) = u32::try_from(terminal)
+        {
+            best = Some(Cure {
+                terminal: Sym(number),
+                settled: *count,
+            });
             most = count.saturating_add(1);
         }
     }
-    if let Some(terminal) = best
-        && let Ok(number) = u32::try_from(terminal)
-    {
-        page.say(b"A precedence for ");
-        page.say_terminal(spec, Sym(number));
-        say_numbered(
-            page,
-            b" settles ",
-            most.saturating_sub(1) as u64,
-            b" of these ",
-        );
-        page.say_count(groups.len(), b"group.\n", b"groups.\n");
-    }
-    Ok(())
+    Ok(best)
+}
+
+/// Says how many of so many groups a token's precedence settles.
+pub(crate) fn say_cure(page: &mut Page, spec: &Spec, cure: Cure, groups: usize) {
+    page.say(b"A precedence for ");
+    page.say_terminal(spec, cure.terminal);
+    say_numbered(page, b" settles ", cure.settled as u64, b" of these ");
+    page.say_count(groups, b"group.\n", b"groups.\n");
 }
 
 /// The token whose precedence settles each conflict of a group, if there is one.

@@ -1,9 +1,9 @@
 //! Why a rule of the lex file never matches: which rules take what it could.
+use crate::doubt::Hiding;
 use crate::lines::RuleLines;
-use crate::surveying::{Accepted, say_numbered};
+use crate::surveying::Accepted;
 use indexmap::IndexSet;
 use ly_base::{Limits, OutOfMemory};
-use ly_page::Page;
 use ly_position::{PosFault, positions};
 use ly_subset::{Dfa, SubsetFault, subsets};
 use std::alloc::Global;
@@ -11,80 +11,38 @@ use std::alloc::Global;
 /// How many pairs of states are looked at, at most.
 const MOST: usize = 2_000;
 
-/// How many rules are named, at most.
-const NAMED: usize = 5;
-
 /// What takes the strings of a rule.
 #[derive(Drop)]
-struct Hiding {
+struct Winners {
     /// The rules that do, in the order in which they were met.
     rules: IndexSet<usize>,
     /// Whether all strings were looked at.
     whole: bool,
 }
 
-/// Says why a rule of the lex file never matches.
-pub(crate) fn say_hiding(
+/// Why a rule of the lex file never matches.
+pub(crate) fn hiding_of(
     alloc: Global,
-    page: &mut Page,
     files: &Accepted<'_>,
     lines: &RuleLines,
     rule: usize,
-) -> Result<(), OutOfMemory> {
-    page.say(b"this rule never matches: ");
+) -> Result<Hiding, OutOfMemory> {
     let Some(own) = scanner_of(alloc, files, rule)? else {
-        page.say(b"earlier rules take all that it could\n");
-        return Ok(());
+        return Ok(Hiding::Earlier);
     };
-    let hiding = winners(alloc, &own, files.dfa)?;
-    if !hiding.whole {
-        page.say(b"earlier rules take all that it could\n");
-    } else if hiding.rules.is_empty() {
-        page.say(b"it has the empty string alone, and no match is empty\n");
-    } else {
-        say_rules(alloc, page, lines, &hiding)?;
+    let winners = winners(alloc, &own, files.dfa)?;
+    if !winners.whole {
+        return Ok(Hiding::Earlier);
     }
-    Ok(())
-}
-
-/// Says by their lines which rules take all that a rule could.
-fn say_rules(
-    alloc: Global,
-    page: &mut Page,
-    lines: &RuleLines,
-    hiding: &Hiding,
-) -> Result<(), OutOfMemory> {
+    if winners.rules.is_empty() {
+        return Ok(Hiding::EmptyAlone);
+    }
     let mut found = Vec::new(alloc);
-    for rule in &hiding.rules {
+    for rule in &winners.rules {
         found.push(lines.of_rule(*rule))?;
     }
     found.sort()?;
-    let count = found.len();
-    page.say(if count == 1 {
-        b"the rule of line".as_slice()
-    } else {
-        b"the rules of lines"
-    });
-    for (place, line) in found.iter().enumerate().take(NAMED) {
-        let last = place.saturating_add(1) == count;
-        page.say(if place == 0 {
-            b" ".as_slice()
-        } else if last {
-            b" and "
-        } else {
-            b", "
-        });
-        page.say_number(*line);
-    }
-    if count > NAMED {
-        say_numbered(page, b" and ", (count - NAMED) as u64, b" more");
-    }
-    page.say(if count == 1 {
-        b" takes all that it could\n".as_slice()
-    } else {
-        b" take all that it could\n"
-    });
-    Ok(())
+    Ok(Hiding::Lines(found))
 }
 
 /// The scanner of one rule alone; none where that is too large.
@@ -116,8 +74,8 @@ fn scanner_of(
 }
 
 /// The rules that win where a rule has a string, by its own scanner and that of all rules.
-fn winners(alloc: Global, own: &Dfa, all: &Dfa) -> Result<Hiding, OutOfMemory> {
-    let mut hiding = Hiding {
+fn winners(alloc: Global, own: &Dfa, all: &Dfa) -> Result<Winners, OutOfMemory> {
+    let mut winners = Winners {
         rules: IndexSet::new(alloc),
         whole: true,
     };
@@ -134,15 +92,15 @@ fn winners(alloc: Global, own: &Dfa, all: &Dfa) -> Result<Hiding, OutOfMemory> {
     }
     for place in 0..MOST {
         let Some(pair) = pairs.get_index(place).copied() else {
-            return Ok(hiding);
+            return Ok(winners);
         };
-        hiding.look_behind(own, all, pair, &mut pairs)?;
+        winners.look_behind(own, all, pair, &mut pairs)?;
     }
-    hiding.whole = pairs.len() <= MOST;
-    Ok(hiding)
+    winners.whole = pairs.len() <= MOST;
+    Ok(winners)
 }
 
-impl Hiding {
+impl Winners {
     /// Looks at the states to which a byte leads from two states.
     fn look_behind(
         &mut self,

@@ -2,51 +2,73 @@
 ghost use Rattle.ly_subset.specs.Automaton.{IsBreadthFirst};
 
 use crate::decided::is_marked;
+use crate::doubt::{Doubt, DoubtKind, Side};
 use crate::doubts::MOST;
-use crate::hiding::say_hiding;
+use crate::hiding::hiding_of;
 use crate::lines::{Lines, RuleLines};
 use crate::patterns::surprises;
-use crate::surprise_words::say_surprise;
 use crate::surveying::{Accepted, first_of};
-use ly_base::{Language, Limits, Location, OutOfMemory, is_blank, leading_name, locate};
+use ly_base::{Language, Limits, Location, OutOfMemory, is_blank, leading_name};
 use ly_ere::{EreFault, read_front};
 use ly_examples::unmatched_rules;
 use ly_join::TerminalName;
 use ly_lexread::Returned;
-use ly_page::{Named, Page};
 use std::alloc::{AllocError, Global};
 
-/// What doubts about a lex file are told by.
-#[derive(Clone, Copy)]
-struct Teller<'a> {
+/// What finds doubts about a lex file.
+#[derive(Drop)]
+struct Finder<'a> {
     /// The files.
     files: Accepted<'a>,
-    /// Where the rules of the lex file begin.
-    lines: &'a RuleLines,
+    /// Those that are found.
+    doubts: Vec<Doubt<'a>>,
 }
 
-/// Says what is doubtful in the lex file, a line each.
-pub(crate) fn say_lex_doubts(
+/// What is doubtful in the lex file.
+pub(crate) fn lex_doubts<'a>(
     alloc: Global,
-    page: &mut Page,
-    files: &Accepted<'_>,
-) -> Result<(), OutOfMemory>
-    requires { IsBreadthFirst files.now.dfa.now }
+    files: Accepted<'a>,
+) -> Result<Vec<Doubt<'a>>, OutOfMemory>
+    requires { IsBreadthFirst files.dfa.now }
 {
-    let teller = Teller {
-        files: *files,
-        lines: &RuleLines::of(alloc, files)?,
+    let lines = RuleLines::of(alloc, &files)?;
+    let unmatched = unmatched_rules(alloc, files.file.rules.len(), files.dfa)?;
+    let mut finder = Finder {
+        files,
+        doubts: Vec::new(alloc),
     };
-    teller.say_conditions(alloc, page)?;
-    teller.say_surprises(alloc, page)?;
-    teller.say_indented(page);
-    teller.say_unmatched(alloc, page)?;
-    teller.say_unknown_literals(alloc, page)
+    finder.find_conditions(alloc)?;
+    finder.find_surprises(alloc)?;
+    finder.find_indented()?;
+    for rule in &unmatched {
+        let hiding = hiding_of(alloc, &finder.files, &lines, *rule)?;
+        let line = lines.of_rule(*rule);
+        finder.add(first_of_line(line), DoubtKind::UnmatchedRule(hiding))?;
+    }
+    finder.find_unnamed_literals(alloc, &lines)?;
+    let Finder { doubts, .. } = finder;
+    Ok(doubts)
 }
 
-impl Teller<'_> {
-    /// Says which conditions no action sets, and in which no rule is active.
-    fn say_conditions(&self, alloc: Global, page: &mut Page) -> Result<(), OutOfMemory> {
+/// Where a line begins.
+fn first_of_line(line: u64) -> Location {
+    Location { line, column: 1 }
+}
+
+impl<'a> Finder<'a> {
+    /// Adds a doubt about what stands at a location.
+    fn add(&mut self, at: Location, kind: DoubtKind<'a>) -> Result<(), OutOfMemory> {
+        Ok(
+            self.doubts.push(Doubt {
+                side: Side::Lex,
+                at: Some(at),
+                kind,
+            })?,
+        )
+    }
+
+    /// Finds which conditions no action sets, and in which no rule is active.
+    fn find_conditions(&mut self, alloc: Global) -> Result<(), OutOfMemory> {
         let file = self.files.file;
         let count = file.start_conditions.len();
         let mut begun = vec![in alloc; false; count]?;
@@ -68,36 +90,33 @@ impl Teller<'_> {
             };
             let at = lines.locate(offset);
             if !is_marked(&begun, number) {
-                page.say_location_in(self.files.lex, at);
-                page.say(b"no action sets the condition ");
-                page.say(&condition.name);
-                page.say(b"\n");
+                self.add(at, DoubtKind::UnsetCondition(&condition.name))?;
             }
             if !is_marked(&active, number) {
-                page.say_location_in(self.files.lex, at);
-                page.say(b"no rule is active in the condition ");
-                page.say(&condition.name);
-                page.say(b"\n");
+                self.add(at, DoubtKind::IdleCondition(&condition.name))?;
             }
         }
         Ok(())
     }
 
-    /// Says which literals are returned that the yacc file doesn't name.
-    fn say_unknown_literals(&self, alloc: Global, page: &mut Page) -> Result<(), OutOfMemory> {
+    /// Finds which literals are returned that the yacc file doesn't name.
+    fn find_unnamed_literals(
+        &mut self,
+        alloc: Global,
+        lines: &RuleLines,
+    ) -> Result<(), OutOfMemory> {
         let known = self.literals(alloc)?;
-        let mut said = 0;
+        let mut found = 0;
         for (rule, action) in self.files.file.actions.iter().enumerate() {
             if let Returned::Literal(byte) = action.returns
                 && !is_marked(&known, byte as usize)
-                && said < MOST
+                && found < MOST
             {
-                self.say_lex_rule(page, rule);
-                page.say_byte(byte);
-                page.say(b" is returned, and ");
-                page.say(self.files.yacc.name.as_bytes());
-                page.say(b" doesn't name it\n");
-                said = said.saturating_add(1);
+                self.add(
+                    first_of_line(lines.of_rule(rule)),
+                    DoubtKind::UnnamedLiteral(byte),
+                )?;
+                found = found.saturating_add(1);
             }
         }
         Ok(())
@@ -114,39 +133,32 @@ impl Teller<'_> {
         Ok(known)
     }
 
-    /// Says the place of a rule of the lex file.
-    fn say_lex_rule(&self, page: &mut Page, rule: usize) {
-        let line = self.lines.of_rule(rule);
-        page.say_location_in(self.files.lex, Location { line, column: 1 });
-    }
-
-    /// Says what in the patterns of the lex file means something else than it may seem to.
-    fn say_surprises(&self, alloc: Global, page: &mut Page) -> Result<(), OutOfMemory> {
-        let file = self.files.file;
-        let mut lines = Lines::of(self.files.lex.bytes);
+    /// Finds what in the patterns of the lex file means something else than it may seem to.
+    fn find_surprises(&mut self, alloc: Global) -> Result<(), OutOfMemory> {
+        let (file, text) = (self.files.file, self.files.lex.bytes);
+        let mut lines = Lines::of(text);
         for start in &file.definition_starts {
-            let line = line_from(self.files.lex.bytes, *start);
+            let line = line_from(text, *start);
             let at = lines.locate(*start);
-            self.say_surprises_in(alloc, page, line, at, behind_name(line))?;
+            self.find_surprises_in(alloc, line, at, behind_name(line))?;
         }
         for start in &file.rule_starts {
-            let line = line_from(self.files.lex.bytes, *start);
+            let line = line_from(text, *start);
             let at = lines.locate(*start);
-            self.say_surprises_in(alloc, page, line, at, behind_conditions(line))?;
+            self.find_surprises_in(alloc, line, at, behind_conditions(line))?;
         }
         Ok(())
     }
 
-    /// Says what is surprising in the pattern at the front of the end of a line, which begins at this location.
-    fn say_surprises_in(
-        &self,
+    /// Finds what is surprising in the pattern at the front of the end of a line, which begins at this location.
+    fn find_surprises_in(
+        &mut self,
         alloc: Global,
-        page: &mut Page,
-        line: &[u8],
+        line: &'a [u8],
         start: Location,
         end: &[u8],
     ) -> Result<(), OutOfMemory> {
-        let (lex, names) = (self.files.lex, &self.files.file.names);
+        let names = &self.files.file.names;
         let length = match read_front(alloc, end, names, &Limits::version_2()) {
             Ok((_, length)) => length,
             Err(EreFault::OutOfMemory) => return Err(OutOfMemory),
@@ -156,36 +168,22 @@ impl Teller<'_> {
         for doubtful in &surprises(alloc, names, end.get(..length).unwrap_or_default())? {
             let offset = before.saturating_add(doubtful.offset);
             let column = start.column.saturating_add(offset as u64);
-            page.say_location_in(lex, Location { column, ..start });
-            say_surprise(page, doubtful.surprise);
-            // The line by itself, so that it isn't sought from the front of the file.
-            let within = locate(line, offset);
-            page.say_excerpt(Named::new(lex.name, line), within);
-        }
-        Ok(())
-    }
-
-    /// Says which rules of the lex file never match.
-    fn say_unmatched(&self, alloc: Global, page: &mut Page) -> Result<(), OutOfMemory>
-        requires { IsBreadthFirst self.now.files.dfa.now }
-    {
-        for rule in &unmatched_rules(alloc, self.files.file.rules.len(), self.files.dfa)? {
-            self.say_lex_rule(page, *rule);
-            say_hiding(alloc, page, &self.files, self.lines, *rule)?;
-        }
-        Ok(())
-    }
-
-    /// Says which lines among the rules of the lex file aren't used.
-    fn say_indented(&self, page: &mut Page) {
-        for line in first_of(self.files.indented, MOST) {
-            let at = Location {
-                line: *line,
-                column: 1,
+            let kind = DoubtKind::Surprise {
+                surprise: doubtful.surprise,
+                line,
+                offset,
             };
-            page.say_location_in(self.files.lex, at);
-            page.say(b"this line begins with a blank, and so is no rule: it is not used\n");
+            self.add(Location { column, ..start }, kind)?;
         }
+        Ok(())
+    }
+
+    /// Finds which lines among the rules of the lex file aren't used.
+    fn find_indented(&mut self) -> Result<(), OutOfMemory> {
+        for line in first_of(self.files.indented, MOST) {
+            self.add(first_of_line(*line), DoubtKind::IndentedLine)?;
+        }
+        Ok(())
     }
 }
 

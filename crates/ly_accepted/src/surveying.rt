@@ -1,13 +1,16 @@
 ghost use Rattle.std.specs.Prelude.{IfOk};
-ghost use Rattle.ly_accepted.specs.Findings.{AreFoundIn};
+ghost use Rattle.ly_accepted.specs.Findings.{AreFoundIn, IsInForm};
 ghost use Rattle.ly_subset.specs.Automaton.{IsBreadthFirst};
 
 use crate::conflicts::say_conflicts;
-use crate::doubts::say_doubts;
+use crate::doubt::Doubt;
+use crate::doubt_words::say_doubt;
+use crate::doubts::doubts_of;
+use crate::form::{say_json, text_in_form};
 use crate::picture::say_picture;
 use crate::places::Places;
 use crate::rules::say_rules;
-use crate::scanner::say_scanner;
+use crate::scanner::{say_other_bytes, say_scanner};
 use crate::states::{Tables, say_states};
 use ly_base::OutOfMemory;
 use ly_join::Spec;
@@ -27,12 +30,14 @@ pub struct Wish {
     pub picture: bool,
     /// Whether nothing is to be said of the lex file, since it stands for none.
     pub grammar_alone: bool,
+    /// Whether what is said is to be JSON in the place of English.
+    pub json: bool,
 }
 
 /// What is said of two files.
 #[derive(Debug, Drop)]
 pub struct Explanation {
-    /// The text, in English.
+    /// The text, in English or as JSON.
     pub text: Vec<u8>,
     /// The states of the parser, where they are asked for and the files are accepted.
     pub states: Option<Vec<u8>>,
@@ -82,47 +87,59 @@ pub fn survey(
     wish: Wish,
 ) -> Result<Explanation, OutOfMemory>
     requires { IsBreadthFirst files.dfa.now }
-    ensures { IfOk result (AreFoundIn files.entry.resolved.now.spec) }
+    ensures found { IfOk result (AreFoundIn files.entry.resolved.now.spec) }
+    ensures form { IfOk result (λ e. IsInForm wish.json e.findings e.text.items) }
 {
-    let (text, are_doubtful) = text_of(alloc, &files, wish)?;
+    let (said, are_doubtful) = said_of(alloc, &files, wish)?;
+    let findings = Some(Findings {
+        conflicts: ConflictCounts::of(files.resolved),
+        are_doubtful,
+    });
     Ok(Explanation {
-        text,
+        text: text_in_form(alloc, wish.json, &findings, said)?,
         states: states_if(alloc, &files, tables, wish)?,
         picture: picture_if(alloc, &files, wish.picture)?,
-        findings: Some(Findings {
-            conflicts: ConflictCounts::of(files.resolved),
-            are_doubtful,
-        }),
+        findings,
     })
 }
 
 /// What is doubtful, where the conflicts are, and which rule has which number; and whether anything is doubtful.
-fn text_of(alloc: Global, files: &Accepted<'_>, wish: Wish) -> Result<(Vec<u8>, bool), OutOfMemory>
+fn said_of(alloc: Global, files: &Accepted<'_>, wish: Wish) -> Result<(Vec<u8>, bool), OutOfMemory>
     requires { IsBreadthFirst files.now.dfa.now }
 {
     let places = Places::of(alloc, files.yacc.bytes)?;
+    let doubts = doubts_of(alloc, *files, &places, wish)?;
     let mut page = Page::new(alloc);
-    let said = say_all(alloc, &mut page, files, &places, wish);
-    drop(places);
-    let are_doubtful = said?;
-    Ok((page.finish()?, are_doubtful))
+    if wish.json {
+        say_json(alloc, &mut page, files, &places, &doubts, wish)?;
+    } else {
+        say_all(alloc, &mut page, files, &places, &doubts, wish)?;
+    }
+    Ok((page.finish()?, !doubts.is_empty()))
 }
 
-/// Says all that, by where symbols and rules stand, and answers whether anything is doubtful.
+/// Says all that in English, by where symbols and rules stand, and by what is doubtful.
 fn say_all(
     alloc: Global,
     page: &mut Page,
     files: &Accepted<'_>,
     places: &Places,
+    doubts: &[Doubt<'_>],
     wish: Wish,
-) -> Result<bool, OutOfMemory>
-    requires { IsBreadthFirst files.now.dfa.now }
-{
+) -> Result<(), OutOfMemory> {
     say_sizes(page, files, wish);
-    let are_doubtful = say_doubts(alloc, page, files, places, wish)?;
-    say_conflicts(alloc, page, files, places)?;
+    for doubt in doubts {
+        say_doubt(page, files, doubt);
+    }
+    if doubts.is_empty() && files.resolved.conflicts().is_empty() {
+        page.say(b"No doubts.\n");
+    }
+    if !wish.grammar_alone {
+        say_other_bytes(alloc, page, files)?;
+    }
+    say_conflicts(alloc, page, files, places, wish)?;
     say_rules(page, files, places);
-    Ok(are_doubtful)
+    Ok(())
 }
 
 /// The states of the scanner, where there is a lex file, and of the parser, where they are asked for.

@@ -36,7 +36,7 @@ pub(crate) fn say_ambiguity(
 }
 
 /// Two trees, with names where brackets alone don't tell them apart, and where there are no tokens.
-fn told_apart(
+pub(crate) fn told_apart(
     alloc: Global,
     spec: &Spec,
     ambiguity: &Ambiguity,

@@ -23,67 +23,27 @@ pub(crate) struct Drawn<'a> {
     pub(crate) conflict: &'a Conflict,
 }
 
-/// How the two actions of a conflict come about behind a string.
+/// How the two actions of a conflict come about.
 #[derive(Drop)]
 pub(crate) struct Ways {
-    /// The string, its first symbol first.
-    pub(crate) string: Vec<Symbol>,
     /// The way to the shift, or to the rule that is chosen.
     pub(crate) one: Vec<Item>,
     /// The way to the rule of the conflict.
     pub(crate) other: Vec<Item>,
 }
 
-/// Says how both actions come about, each behind a string of its own.
-pub(crate) fn say_ways(
-    alloc: Global,
-    page: &mut Page,
-    drawn: &Drawn<'_>,
-    one: &[Symbol],
-    other: &[Symbol],
-) -> Result<(), OutOfMemory> {
-    let one = drawn.way(alloc, one, drawn.rival(alloc)?)?;
-    let other = drawn.way(alloc, other, drawn.reduction(drawn.conflict.rule))?;
-    drawn.say(alloc, page, &one, &other)
-}
-
-/// Says how both actions come about behind the same string, and answers it.
-pub(crate) fn say_ways_at(
-    alloc: Global,
-    page: &mut Page,
-    drawn: &Drawn<'_>,
-    string: &[Symbol],
-) -> Result<Ways, OutOfMemory> {
-    let one = drawn.way(alloc, string, drawn.rival(alloc)?)?;
-    let other = drawn.way(alloc, string, drawn.reduction(drawn.conflict.rule))?;
-    drawn.say(alloc, page, &one, &other)?;
-    Ok(Ways {
-        string: Vec::from_slice(alloc, string)?,
-        one,
-        other,
-    })
-}
-
 impl Drawn<'_> {
-    /// Says two ways. Brackets have the names of left sides where both look alike without them.
-    fn say(
+    /// How both actions come about, each behind a string of its own.
+    pub(crate) fn ways(
         &self,
         alloc: Global,
-        page: &mut Page,
-        one: &[Item],
-        other: &[Item],
-    ) -> Result<(), OutOfMemory> {
-        let plain = self.words(alloc, one, Style::Brackets)?;
-        let alike = plain == self.words(alloc, other, Style::Brackets)?;
-        let style = if alike { Style::Names } else { Style::Brackets };
-        match self.reduced_rival() {
-            Some(rule) => say_label(page, rule),
-            None => page.say(b"    shift:  "),
-        }
-        page.say(&self.words(alloc, one, style)?);
-        say_label(page, self.conflict.rule);
-        page.say(&self.words(alloc, other, style)?);
-        Ok(())
+        one: &[Symbol],
+        other: &[Symbol],
+    ) -> Result<Ways, OutOfMemory> {
+        Ok(Ways {
+            one: self.way(alloc, one, self.rival(alloc)?)?,
+            other: self.way(alloc, other, self.reduction(self.conflict.rule))?,
+        })
     }
 
     /// The way to a claim behind a string.
@@ -96,21 +56,6 @@ impl Drawn<'_> {
         Drawing::new(alloc, self.cores, string, self.conflict.terminal)?.way(alloc, claim)
     }
 
-    /// A way as it is drawn.
-    fn words(&self, alloc: Global, way: &[Item], style: Style) -> Result<Vec<u8>, OutOfMemory> {
-        let mut page = Page::new(alloc);
-        say_way(alloc, &mut page, self.spec, way, style)?;
-        page.finish()
-    }
-
-    /// The rule that stands against that of the conflict; none where a shift does.
-    fn reduced_rival(&self) -> Option<usize> {
-        match (self.conflict.kind, self.conflict.choice) {
-            (ConflictKind::ReduceReduce, Action::Reduce(rule)) => Some(rule),
-            _ => None,
-        }
-    }
-
     /// What is claimed where a reduction by a rule is possible.
     fn reduction(&self, rule: usize) -> Claim {
         let dot = body_of(self.spec.grammar(), rule).len();
@@ -120,7 +65,7 @@ impl Drawn<'_> {
     /// What is claimed for what stands against the rule of the conflict: of a shift, by the first item that has the
     /// terminal behind its dot.
     fn rival(&self, alloc: Global) -> Result<Claim, OutOfMemory> {
-        match self.reduced_rival() {
+        match reduced_rival(self.conflict) {
             Some(rule) => Ok(self.reduction(rule)),
             None => {
                 let core = self.cores.items(alloc, self.conflict.state)?;
@@ -138,6 +83,63 @@ fn shift(grammar: &Grammar, core: &[Item], terminal: Sym) -> Claim {
         }
     }
     Claim::Settled
+}
+
+/// The rule that stands against that of a conflict; none where a shift does.
+pub(crate) fn reduced_rival(conflict: &Conflict) -> Option<usize> {
+    match (conflict.kind, conflict.choice) {
+        (ConflictKind::ReduceReduce, Action::Reduce(rule)) => Some(rule),
+        _ => None,
+    }
+}
+
+/// Both ways as they are drawn. Brackets have the names of left sides where both look alike without them.
+pub(crate) fn drawn_ways(
+    alloc: Global,
+    spec: &Spec,
+    ways: &Ways,
+) -> Result<(Vec<u8>, Vec<u8>), OutOfMemory> {
+    let one = drawn_way(alloc, spec, &ways.one, Style::Brackets)?;
+    let other = drawn_way(alloc, spec, &ways.other, Style::Brackets)?;
+    if one != other {
+        return Ok((one, other));
+    }
+    let one = drawn_way(alloc, spec, &ways.one, Style::Names)?;
+    let other = drawn_way(alloc, spec, &ways.other, Style::Names)?;
+    Ok((one, other))
+}
+
+/// A way as it is drawn.
+fn drawn_way(
+    alloc: Global,
+    spec: &Spec,
+    way: &[Item],
+    style: Style,
+) -> Result<Vec<u8>, OutOfMemory> {
+    let mut page = Page::new(alloc);
+    say_way(alloc, &mut page, spec, way, style)?;
+    page.finish()
+}
+
+/// Says how both actions of a conflict come about.
+pub(crate) fn say_ways(
+    alloc: Global,
+    page: &mut Page,
+    spec: &Spec,
+    conflict: &Conflict,
+    ways: &Ways,
+) -> Result<(), OutOfMemory> {
+    let (one, other) = drawn_ways(alloc, spec, ways)?;
+    match reduced_rival(conflict) {
+        Some(rule) => say_label(page, rule),
+        None => page.say(b"    shift:  "),
+    }
+    page.say(&one);
+    page.say(b"\n");
+    say_label(page, conflict.rule);
+    page.say(&other);
+    page.say(b"\n");
+    Ok(())
 }
 
 /// Says which rule it is that a reduction is drawn of.

@@ -122,28 +122,20 @@ impl Yields {
         }
         Ok(derived)
     }
-
-    /// Says the shortest yield of symbols, a space before each token. Of a long one nothing is said behind three dots.
-    pub(crate) fn say(
-        &self,
-        alloc: Global,
-        page: &mut Page,
-        spec: &Spec,
-        symbols: &[Symbol],
-    ) -> Result<(), OutOfMemory> {
-        let derived = self.derive(alloc, spec.grammar(), symbols)?;
-        for token in &derived.tokens {
-            page.say(b" ");
-            page.say_terminal(spec, *token);
-        }
-        if !derived.whole {
-            page.say(b" ..");
-        }
-        Ok(())
-    }
 }
 
 impl Derived {
+    /// Says the tokens, a space before each. Of a long row nothing is said behind dots.
+    pub(crate) fn say(&self, page: &mut Page, spec: &Spec) {
+        for token in &self.tokens {
+            page.say(b" ");
+            page.say_terminal(spec, *token);
+        }
+        if !self.whole {
+            page.say(b" ..");
+        }
+    }
+
     /// Takes a symbol on: a terminal is a token, and of a nonterminal the body of the shortest rule is ahead now.
     fn derive(
         &mut self,

@@ -1,5 +1,5 @@
 ghost use Rattle.std.specs.Prelude.{◌≡◌, IfErr, IfOk};
-ghost use Rattle.ly_accepted.specs.Findings.{AreFoundIn};
+ghost use Rattle.ly_accepted.specs.Findings.{AreFoundIn, IsInForm};
 ghost use Rattle.ly_base.specs.Limits.{least_of, sizes_in, Sizes};
 ghost use Rattle.ly_base.specs.declared.version.Version.TheVariants.{V2};
 ghost use Rattle.ly_emit.specs.Tables.{AreShapesWithin};
@@ -9,7 +9,7 @@ ghost use Rattle.ly_lr0.specs.Automaton as parser;
 ghost use Rattle.ly_subset.specs.Automaton.{IsBreadthFirst};
 ghost use Rattle.ly_explain.specs.Explained.{IsExplained, IsFitFor, no_rules};
 
-use ly_accepted::{Accepted, Explanation, Tables, Wish, survey};
+use ly_accepted::{Accepted, Explanation, Tables, Wish, survey, text_in_form};
 use ly_base::{Limits, OutOfMemory, Version};
 use ly_generate::{GenFault, Specification, parser_tables, read_specification, settle};
 use ly_grammar::reduce;
@@ -18,7 +18,7 @@ use ly_lexread::LexFile;
 use ly_lr0::{Lr0, automaton};
 use ly_minim::minimise;
 use ly_page::{Named, Page};
-use ly_refused::{indented_lines, say_faults};
+use ly_refused::{indented_lines, say_faults, say_json_faults};
 use ly_resolve::Resolved;
 use ly_subset::Dfa;
 use std::alloc::Global;
@@ -49,23 +49,43 @@ pub fn explain(
     limits: &Limits,
     wish: Wish,
 ) -> Result<Explanation, OutOfMemory>
-    ensures { IfOk result (IsExplained (least_of limits.now (sizes_in V2)) lex.entry.bytes.now yacc.entry.bytes.now) }
+    ensures explained { IfOk result
+        (IsExplained (least_of limits.now (sizes_in V2)) lex.entry.bytes.now yacc.entry.bytes.now) }
+    ensures form { IfOk result (λ e. IsInForm wish.json e.findings e.text.items) }
 {
     let limits = limits.within(Version::V2);
     match of_accepted(alloc, lex, yacc, &limits, wish) {
         Ok(explanation) => Ok(explanation),
         Err(GenFault::OutOfMemory) => Err(OutOfMemory),
         Err(fault) => {
-            let mut page = Page::new(alloc);
-            say_faults(alloc, &mut page, lex, yacc, &limits, &fault)?;
+            let said = said_of_refused(alloc, lex, yacc, &limits, &fault, wish.json)?;
             Ok(Explanation {
-                text: page.finish()?,
+                text: text_in_form(alloc, wish.json, &None, said)?,
                 states: None,
                 picture: None,
                 findings: None,
             })
         }
     }
+}
+
+/// What is said of two files that are refused for this fault.
+fn said_of_refused(
+    alloc: Global,
+    lex: Named<'_>,
+    yacc: Named<'_>,
+    limits: &Limits,
+    fault: &GenFault,
+    json: bool,
+) -> Result<Vec<u8>, OutOfMemory> {
+    let mut page = Page::new(alloc);
+    if json {
+        say_json_faults(alloc, &mut page, lex, yacc, limits, fault)?;
+        page.say(b",\"doubts\":[],\"conflicts\":[],\"cure\":null,\"untold\":0}\n");
+    } else {
+        say_faults(alloc, &mut page, lex, yacc, limits, fault)?;
+    }
+    page.finish()
 }
 
 /// A lex file without rules, which stands for one that isn't there.
@@ -81,13 +101,15 @@ pub fn explain_grammar(
     limits: &Limits,
     wish: Wish,
 ) -> Result<Explanation, OutOfMemory>
-    ensures { IfOk result
+    ensures explained { IfOk result
         (IsExplained (least_of limits.now (sizes_in V2)) no_rules yacc.entry.bytes.now) }
+    ensures form { IfOk result (λ e. IsInForm wish.json e.findings e.text.items) }
 {
     let wish = Wish {
         states: wish.states,
         picture: wish.picture,
         grammar_alone: true,
+        json: wish.json,
     };
     explain(alloc, Named::new("", NO_RULES), yacc, limits, wish)
 }
@@ -101,6 +123,7 @@ fn of_accepted(
     wish: Wish,
 ) -> Result<Explanation, GenFault>
     ensures formed { IfOk result (IsExplained limits.now lex.entry.bytes.now yacc.entry.bytes.now) }
+    ensures form { IfOk result (λ e. IsInForm wish.json e.findings e.text.items) }
     ensures refused { IfErr result (IsRefusedFor limits.now lex.entry.bytes.now yacc.entry.bytes.now) }
 {
     let given = read_specification(alloc, lex.bytes, yacc.bytes, limits)?;
@@ -134,6 +157,7 @@ fn of_read(
     requires shapes { AreShapesWithin read.spec.now }
     requires order { IsBreadthFirst read.dfa.now }
     ensures fit { IfOk result (IsFitFor limits.now read.entry.spec.now) }
+    ensures form { IfOk result (λ e. IsInForm wish.json e.findings e.text.items) }
     ensures unfit { IfErr result (IsUnfitFor limits.now read.entry.spec.now) }
 {
     let reduced = reduce(alloc, read.spec.grammar())?;
@@ -153,6 +177,7 @@ fn of_automaton(
     requires lawful { parser.IsLr0Automaton lr0.now }
     requires useful { KeepsUseful read.spec.now.grammar lr0.now.grammar }
     ensures found { IfOk result (AreFoundIn read.entry.spec.now) }
+    ensures form { IfOk result (λ e. IsInForm wish.json e.findings e.text.items) }
     ensures steady { IfOk result (λ _. HasSteadyTables read.entry.spec.now lr0.now.grammar) }
     ensures unfit { IfErr result (λ fault. (limits : Sizes) → IsUnfitFor limits read.entry.spec.now fault) }
 {
@@ -174,7 +199,8 @@ fn told(
 ) -> Result<Explanation, OutOfMemory>
     requires order { IsBreadthFirst read.dfa.now }
     requires same { resolved.now.spec ≡ read.spec.now }
-    ensures { IfOk result (AreFoundIn read.entry.spec.now) }
+    ensures found { IfOk result (AreFoundIn read.entry.spec.now) }
+    ensures form { IfOk result (λ e. IsInForm wish.json e.findings e.text.items) }
 {
     let indented = indented_lines(alloc, read.lex.bytes)?;
     let files = Accepted {

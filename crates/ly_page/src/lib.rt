@@ -5,6 +5,7 @@
 #![tactic(auto)]
 
 mod excerpt;
+mod json;
 mod named;
 mod page;
 

@@ -5,13 +5,14 @@ ghost use Rattle.ly_print.specs.Text.{literal, name_of};
 ghost use Rattle.ly_join.specs.Grammar.{symbol_of, terminal as symbol_at};
 ghost use Rattle.ly_join.specs.Terminals.{terminal_from};
 ghost use Rattle.ly_report.specs.Report.{symbol_name, terminal_name};
+ghost use Rattle.ly_page.specs.Json.{json_words};
 ghost use Rattle.ly_page.specs.Page.{body_words, counted, line_of, location_in, numbered_words, quoted_words, Says};
 ghost use Rattle.ly_page.specs.Page.{SaysMore, SaysPrinted, spaced_words, symbol_words};
 
 use crate::named::Named;
 use ly_base::{Location, OutOfMemory, Sym};
 use ly_join::{Spec, Symbol, TerminalName};
-use ly_print::{Terminal, push_escaped, push_name};
+use ly_print::{Terminal, push_escaped, push_json_name, push_json_string, push_name};
 use ly_report::push_terminal;
 use std::alloc::{AllocError, Global};
 use std::fmt::Display;
@@ -66,7 +67,7 @@ impl Page {
     }
 
     /// Notes a growth that was refused.
-    fn note(&mut self, said: Result<(), AllocError>)
+    pub(crate) fn note(&mut self, said: Result<(), AllocError>)
         ensures ok { OnOk said (self.new ≡ self.old) }
         ensures refused { OnErr said (self.new ≡ None) }
     {
@@ -93,6 +94,13 @@ impl Page {
             Ok(text) => self.say(&text),
             Err(OutOfMemory) => self.said = Err(OutOfMemory),
         }
+    }
+
+    /// An empty page, for which room is taken from where it is for this one.
+    pub fn beside(&self) -> Page
+        ensures { result ≡ Some [] }
+    {
+        Page::new(self.allocator())
     }
 
     /// Where room is taken from.
@@ -148,6 +156,20 @@ impl Page {
             self.note(said);
         }
         self.say(b"'");
+    }
+
+    /// Bytes as a JSON string: a text where they are UTF-8, and else each byte as the character of its number.
+    pub fn say_json(&mut self, bytes: &[u8])
+        ensures { Says self.old (json_words bytes.now) self.new }
+    {
+        if self.said.is_ok() {
+            let said = if str::from_utf8(bytes).is_ok() {
+                push_json_string(&mut self.text, bytes)
+            } else {
+                push_json_name(&mut self.text, bytes)
+            };
+            self.note(said);
+        }
     }
 
     /// The name of a file, and a line of it.

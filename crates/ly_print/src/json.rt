@@ -36,6 +36,18 @@ pub fn push_json_name(out: &mut Vec<u8>, name: &[u8]) -> Result<(), AllocError>
     Ok(())
 }
 
+/// Appends bytes as a JSON string, which is a text where they are UTF-8.
+///
+/// It fails where memory runs out. How much was appended by then is left open.
+pub fn push_json_string(out: &mut Vec<u8>, bytes: &[u8]) -> Result<(), AllocError>
+    ensures { OnOk result (out.new.items ≡ out.old.items ++ json_string bytes.now) }
+{
+    out.push(b'"')?;
+    push_string_body(out, bytes)?;
+    out.push(b'"')?;
+    Ok(())
+}
+
 /// Appends what a token consists of as a member of a JSON object: `"text":` and a string where it is UTF-8, or else
 /// `"bytes":` and a list of its bytes' numbers.
 ///
@@ -44,9 +56,8 @@ pub fn push_json_content(out: &mut Vec<u8>, text: &[u8]) -> Result<(), AllocErro
     ensures { OnOk result (out.new.items ≡ out.old.items ++ json_content text.now) }
 {
     if is_utf8(text) {
-        out.extend_from_slice(b"\"text\":\"")?;
-        push_string_body(out, text)?;
-        out.push(b'"')?;
+        out.extend_from_slice(b"\"text\":")?;
+        push_json_string(out, text)?;
     } else {
         out.extend_from_slice(b"\"bytes\":[")?;
         push_numbers(out, text)?;

@@ -43,6 +43,11 @@ impl Advice {
         })
     }
 
+    /// Whether nothing is said.
+    pub(crate) fn is_nothing(&self) -> bool {
+        matches!(self, Advice::Nothing)
+    }
+
     /// Whether it is the same words, or none.
     pub(crate) fn is_like(&self, other: &Advice) -> bool {
         match (self, other) {

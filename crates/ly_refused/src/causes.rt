@@ -1,7 +1,7 @@
 //! Why two files are refused that read well and go together: their grammar has no end.
 use crate::advice::Advice;
 use crate::roundabout::{Step, derived_alone, is_behind_nothing, without_text};
-use crate::yacc_offsets::body_offset;
+use crate::yacc_offsets::{body_offset, start_location};
 use ly_base::{Limits, Location, OutOfMemory, Sym, locate};
 use ly_generate::GenFault;
 use ly_grammar::reduce;
@@ -14,11 +14,11 @@ use std::alloc::Global;
 /// How many lines or nonterminals are named at most.
 const NAMED: usize = 6;
 
-/// A cause as it is said.
+/// The cause of a fault as it is said.
 #[derive(Drop)]
 pub(crate) struct Cause {
-    /// Where it stands in the yacc file.
-    pub(crate) at: Location,
+    /// Where it stands in the yacc file, if it has a place.
+    pub(crate) at: Option<Location>,
     /// What to write instead.
     pub(crate) advice: Advice,
 }
@@ -34,14 +34,38 @@ struct Joined<'t> {
     spec: Spec,
 }
 
-/// The cause of a fault that two files have as a whole, where one is found.
+/// The cause of a fault that two files have as a whole.
 pub(crate) fn cause_of(
     alloc: Global,
     lex: &[u8],
     yacc: &[u8],
     limits: &Limits,
     fault: &GenFault,
+) -> Result<Cause, OutOfMemory> {
+    if let Some(cause) = grammar_cause(alloc, lex, yacc, limits, fault)? {
+        return Ok(cause);
+    }
+    let at = match fault {
+        GenFault::Grammar(_) => start_location(alloc, yacc)?,
+        _ => None,
+    };
+    Ok(Cause {
+        at,
+        advice: Advice::of_whole(fault),
+    })
+}
+
+/// The cause of a grammar without end, where one is found.
+fn grammar_cause(
+    alloc: Global,
+    lex: &[u8],
+    yacc: &[u8],
+    limits: &Limits,
+    fault: &GenFault,
 ) -> Result<Option<Cause>, OutOfMemory> {
+    if !matches!(fault, GenFault::Grammar(_) | GenFault::Endless { .. }) {
+        return Ok(None);
+    }
     let (Ok(lex), Ok(file)) = (read_lex(alloc, lex, limits), read_yacc(alloc, yacc)) else {
         return Ok(None);
     };
@@ -71,7 +95,7 @@ impl Joined<'_> {
             return Ok(None);
         };
         Ok(Some(Cause {
-            at: locate(self.text, offset),
+            at: Some(locate(self.text, offset)),
             advice: Advice::Made(self.needs(alloc, &around)?),
         }))
     }
@@ -103,11 +127,16 @@ impl Joined<'_> {
 
     /// A cause that is the body of a rule.
     fn cause_in_body(&self, rule: usize, advice: Advice) -> Option<Cause> {
-        let offset = body_offset(&self.file, self.text, rule.checked_sub(1)?)?;
         Some(Cause {
-            at: locate(self.text, offset),
+            at: Some(self.body_location(rule)?),
             advice,
         })
+    }
+
+    /// Where the body of a rule begins.
+    fn body_location(&self, rule: usize) -> Option<Location> {
+        let offset = body_offset(&self.file, self.text, rule.checked_sub(1)?)?;
+        Some(locate(self.text, offset))
     }
 
     /// Where the left side of a rule stands.
@@ -161,8 +190,8 @@ impl Joined<'_> {
     fn lines(&self, alloc: Global, around: &[Step]) -> Result<Vec<u64>, OutOfMemory> {
         let mut lines = Vec::new(alloc);
         for step in around {
-            if let Some(cause) = self.cause_in_body(step.rule, Advice::Nothing) {
-                lines.push(cause.at.line)?;
+            if let Some(at) = self.body_location(step.rule) {
+                lines.push(at.line)?;
             }
         }
         lines.sort()?;

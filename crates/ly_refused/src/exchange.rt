@@ -5,34 +5,63 @@ use ly_page::{MARGIN, Named, Page};
 use ly_yaccread::{YaccFault, read_yacc};
 use std::alloc::Global;
 
-/// Says that both files seem to be exchanged, where neither is what it stands for and one of them is what the other
-/// stands for, and answers whether that is so.
-pub(crate) fn say_exchanged(
+/// What the words are that files in each other's place are told by.
+pub(crate) const READS_AS_YACC: &[u8] = b"this reads as a yacc file";
+
+pub(crate) const READS_AS_LEX: &[u8] = b"this reads as a lex file";
+
+pub(crate) const ARE_EXCHANGED: &[u8] = b"are both exchanged? the lex file comes first";
+
+/// Files that seem to stand in each other's place.
+#[derive(Clone, Copy)]
+pub(crate) struct Exchange {
+    /// Whether the first one reads as a yacc file.
+    pub(crate) first_is_yacc: bool,
+    /// Whether the second one reads as a lex file.
+    pub(crate) second_is_lex: bool,
+}
+
+/// How both files seem to be exchanged, where neither is what it stands for and one of them is what the other stands
+/// for.
+pub(crate) fn exchange_of(
     alloc: Global,
-    page: &mut Page,
-    lex: Named<'_>,
-    yacc: Named<'_>,
+    lex: &[u8],
+    yacc: &[u8],
     limits: &Limits,
-) -> Result<bool, OutOfMemory> {
-    if is_lex(alloc, lex.bytes, limits)? || is_yacc(alloc, yacc.bytes)? {
-        return Ok(false);
+) -> Result<Option<Exchange>, OutOfMemory> {
+    if is_lex(alloc, lex, limits)? || is_yacc(alloc, yacc)? {
+        return Ok(None);
     }
-    let first_is_yacc = is_yacc(alloc, lex.bytes)?;
-    let second_is_lex = is_lex(alloc, yacc.bytes, limits)?;
-    if first_is_yacc {
-        page.say(lex.name.as_bytes());
-        page.say(b": this reads as a yacc file\n");
+    let exchange = Exchange {
+        first_is_yacc: is_yacc(alloc, lex)?,
+        second_is_lex: is_lex(alloc, yacc, limits)?,
+    };
+    if exchange.first_is_yacc || exchange.second_is_lex {
+        Ok(Some(exchange))
+    } else {
+        Ok(None)
     }
-    if second_is_lex {
-        page.say(yacc.name.as_bytes());
-        page.say(b": this reads as a lex file\n");
+}
+
+/// Says that both files seem to be exchanged.
+pub(crate) fn say_exchange(page: &mut Page, lex: Named<'_>, yacc: Named<'_>, exchange: Exchange) {
+    if exchange.first_is_yacc {
+        say_of_file(page, lex, READS_AS_YACC);
     }
-    let are_exchanged = first_is_yacc || second_is_lex;
-    if are_exchanged {
-        page.say(MARGIN);
-        page.say(b"are both exchanged? the lex file comes first\n");
+    if exchange.second_is_lex {
+        say_of_file(page, yacc, READS_AS_LEX);
     }
-    Ok(are_exchanged)
+    page.say(MARGIN);
+    page.say(ARE_EXCHANGED);
+    page.say(b"\n");
+}
+
+/// Says words of a file on a line.
+fn say_of_file(page: &mut Page, file: Named<'_>, words: &[u8]) {
+    page.say(file.name.as_bytes());
+    page.say(b": ");
+    page.say(words);
+    page.say(b"\n");
 }
 
 /// Whether bytes are those of a lex file.

@@ -1,15 +1,13 @@
 ghost use Rattle.std.specs.Prelude.{◌≡◌, OnOk, OnErr};
 ghost use Rattle.ly_page.specs.Page.{SaysMore};
 
-use crate::advice::Advice;
 use crate::causes::{Cause, cause_of};
-use crate::exchange::say_exchanged;
+use crate::exchange::{exchange_of, say_exchange};
 use crate::finding::Findings;
 use crate::join_faults::find_join_faults;
 use crate::lex_faults::find_lex_faults;
 use crate::telling::{say_fault, say_findings};
 use crate::yacc_faults::find_yacc_faults;
-use crate::yacc_offsets::start_location;
 use ly_base::{Limits, OutOfMemory};
 use ly_generate::GenFault;
 use ly_page::{Named, Page};
@@ -63,9 +61,12 @@ fn told_faults(
     fault: &GenFault,
 ) -> Result<Vec<u8>, OutOfMemory> {
     let mut page = Page::new(alloc);
-    if !say_exchanged(alloc, &mut page, lex, yacc, limits)? {
-        let findings = findings_in(alloc, lex.bytes, yacc.bytes, limits)?;
-        page.say(&told(alloc, lex, yacc, limits, &findings, fault)?);
+    match exchange_of(alloc, lex.bytes, yacc.bytes, limits)? {
+        Some(exchange) => say_exchange(&mut page, lex, yacc, exchange),
+        None => {
+            let findings = findings_in(alloc, lex.bytes, yacc.bytes, limits)?;
+            page.say(&told(alloc, lex, yacc, limits, &findings, fault)?);
+        }
     }
     page.finish()
 }
@@ -81,18 +82,8 @@ fn told(
 ) -> Result<Vec<u8>, OutOfMemory> {
     let mut page = Page::new(alloc);
     if findings.is_empty() {
-        match cause_of(alloc, lex.bytes, yacc.bytes, limits, fault)? {
-            Some(Cause { at, advice }) => {
-                say_fault(&mut page, lex, yacc, fault, Some(at), &advice)
-            }
-            None => {
-                let at = match fault {
-                    GenFault::Grammar(_) => start_location(alloc, yacc.bytes)?,
-                    _ => None,
-                };
-                say_fault(&mut page, lex, yacc, fault, at, &Advice::of_whole(fault));
-            }
-        }
+        let Cause { at, advice } = cause_of(alloc, lex.bytes, yacc.bytes, limits, fault)?;
+        say_fault(&mut page, lex, yacc, fault, at, &advice);
     } else {
         say_findings(&mut page, lex, yacc, findings);
     }
@@ -100,7 +91,7 @@ fn told(
 }
 
 /// What is found in the bytes of both files.
-fn findings_in(
+pub(crate) fn findings_in(
     alloc: Global,
     lex: &[u8],
     yacc: &[u8],

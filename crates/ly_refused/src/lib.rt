@@ -13,6 +13,7 @@ mod causes;
 mod edit;
 mod exchange;
 mod faults;
+mod faults_json;
 mod finding;
 mod indented;
 mod join_faults;
@@ -37,4 +38,5 @@ mod yacc_offsets;
 mod yacc_units;
 
 pub use faults::{say_faults, say_lex_faults};
+pub use faults_json::say_json_faults;
 pub use indented::indented_lines;

@@ -42,7 +42,7 @@ pub(crate) fn say_fault(
 }
 
 /// Whether a fault is one of the lex file.
-fn is_of_lex(fault: &GenFault) -> bool {
+pub(crate) fn is_of_lex(fault: &GenFault) -> bool {
     matches!(
         fault,
         GenFault::Lex(_)
@@ -64,20 +64,30 @@ fn say_heading(page: &mut Page, fault: &GenFault) {
         page.say(b" ");
     }
     page.say(fault.name().as_bytes());
-    match fault {
-        GenFault::Join(fault) => say_at_fault(page, fault),
-        GenFault::Endless { name, .. } => {
-            page.say(b" before ");
-            page.say(name);
-        }
-        _ => {}
+    let mut what = page.beside();
+    say_what(&mut what, fault);
+    if what.len() > 0 {
+        page.say(b" ");
+        page.say_page(what);
     }
     page.say(b": ");
     say_words(page, fault);
 }
 
+/// Says what is at fault, if the words of a fault don't say so.
+pub(crate) fn say_what(page: &mut Page, fault: &GenFault) {
+    match fault {
+        GenFault::Join(fault) => say_at_fault(page, fault),
+        GenFault::Endless { name, .. } => {
+            page.say(b"before ");
+            page.say(name);
+        }
+        _ => {}
+    }
+}
+
 /// Says what a fault is.
-fn say_words(page: &mut Page, fault: &GenFault) {
+pub(crate) fn say_words(page: &mut Page, fault: &GenFault) {
     match fault {
         GenFault::Lex(fault) => page.say_words(fault),
         GenFault::Yacc(fault) => page.say_words(fault),
@@ -92,41 +102,32 @@ fn say_at_fault(page: &mut Page, fault: &JoinFault) {
         | JoinFault::TokenOnLeft(name)
         | JoinFault::UnknownStart(name)
         | JoinFault::ReturnUndeclared(name)
-        | JoinFault::PrecUnknown(name) => {
-            page.say(b" ");
-            page.say(name);
-        }
-        JoinFault::PrecedenceTwice(terminal) => {
-            page.say(b" ");
-            page.say_terminal_name(terminal);
-        }
-        JoinFault::LimitPassed { which } => {
-            page.say(b" ");
-            page.say(which.name().as_bytes());
-        }
+        | JoinFault::PrecUnknown(name) => page.say(name),
+        JoinFault::PrecedenceTwice(terminal) => page.say_terminal_name(terminal),
+        JoinFault::LimitPassed { which } => page.say(which.name().as_bytes()),
         JoinFault::NoRules | JoinFault::OutOfMemory => {}
     }
 }
 
-/// Says what to write instead.
+/// Says what to write instead, on a line.
 fn say_advice(page: &mut Page, advice: &Advice) {
+    if !advice.is_nothing() {
+        page.say(MARGIN);
+        say_advice_words(page, advice);
+        page.say(b"\n");
+    }
+}
+
+/// Says what to write instead.
+pub(crate) fn say_advice_words(page: &mut Page, advice: &Advice) {
     match advice {
         Advice::Nothing => {}
-        Advice::Words(words) => {
-            page.say(MARGIN);
-            page.say(words.as_bytes());
-            page.say(b"\n");
-        }
-        Advice::Made(words) => {
-            page.say(MARGIN);
-            page.say(words);
-            page.say(b"\n");
-        }
+        Advice::Words(words) => page.say(words.as_bytes()),
+        Advice::Made(words) => page.say(words),
         Advice::Near(name) => {
-            page.say(MARGIN);
             page.say(b"did you mean ");
             page.say(name);
-            page.say(b"?\n");
+            page.say(b"?");
         }
     }
 }

@@ -17,5 +17,5 @@ said (Try lex yacc text by) = try lex.now yacc.now (option_map (λ s. s.now) tex
 said (RunPlaced table_file text points) = run_placed table_file.now (option_map (λ s. s.now) text) points
 said (TryPlaced lex yacc text points) = try_placed lex.now yacc.now (option_map (λ s. s.now) text) points
 said (Check table_file by) = check table_file.now by
-said (Explain paths strictness) = explain (option_map (λ s. s.now) paths.lex) paths.yacc.now
-    (option_map (λ s. s.now) paths.states) (option_map (λ s. s.now) paths.graph) strictness
+said (Explain paths strictness form) = explain (option_map (λ s. s.now) paths.lex) paths.yacc.now
+    (option_map (λ s. s.now) paths.states) (option_map (λ s. s.now) paths.graph) strictness form

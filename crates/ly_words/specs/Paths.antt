@@ -34,7 +34,7 @@ name_of (try lex yacc text by) = codes "try"
 name_of (run_placed table_file text points) = codes "run"
 name_of (try_placed lex yacc text points) = codes "try"
 name_of (check table_file by) = codes "check"
-name_of (explain lex yacc states graph strictness) = codes "explain"
+name_of (explain lex yacc states graph strictness form) = codes "explain"
 
 -- the words that stand behind the command's name in this order
 abbrev pub operands_of : Request → List Text
@@ -47,12 +47,12 @@ operands_of (try lex yacc text by) = lex ∷ yacc ∷ as_list text
 operands_of (run_placed table_file text points) = table_file ∷ as_list text
 operands_of (try_placed lex yacc text points) = lex ∷ yacc ∷ as_list text
 operands_of (check table_file by) = table_file ∷ []
-operands_of (explain lex yacc states graph strictness) = as_list lex ++ yacc ∷ []
+operands_of (explain lex yacc states graph strictness form) = as_list lex ++ yacc ∷ []
 
 -- the files beside these that are written
 abbrev pub written_of : Request → List Text
 written_of (build lex yacc table_file report version expected points) = as_list report
-written_of (explain lex yacc states graph strictness) = as_list states ++ as_list graph
+written_of (explain lex yacc states graph strictness form) = as_list states ++ as_list graph
 written_of _ = []
 
 -- the version that is said is the one that is meant, which is the second where none is said; a build points at nothing
@@ -101,13 +101,13 @@ flags_of (try lex yacc text by) count = answering_words by
 flags_of (run_placed table_file text points) count = codes "--places" ∷ pointing_words points
 flags_of (try_placed lex yacc text points) count = codes "--places" ∷ pointing_words points
 flags_of (check table_file by) count = answering_words by
-flags_of (explain lex yacc states graph strictness) count =
-    alone_words lex ++ (strict_words strictness.strict ++ count_words count)
+flags_of (explain lex yacc states graph strictness form) count =
+    alone_words lex ++ (form_words form ++ (strict_words strictness.strict ++ count_words count))
 
 -- how many conflicts there are to be
 abbrev pub expected_of : Request → Option ℕ
 expected_of (build lex yacc table_file report version expected points) = expected
-expected_of (explain lex yacc states graph strictness) = strictness.expected
+expected_of (explain lex yacc states graph strictness form) = strictness.expected
 expected_of _ = None
 
 -- the count that is said is the one that is expected
@@ -118,9 +118,9 @@ IsCount request count = (expected_by count ≡ Some (expected_of request)) × Ar
 abbrev pub StandAlone : Request → Option Text → Option Version → Type 0
 StandAlone (build lex yacc table_file report version expected points) count format =
     (count ≡ None) ⊎ ((report ≡ None) × (format ≡ None))
-StandAlone (explain None yacc states graph strictness) count format = (states ≡ None) × (graph ≡ None)
-StandAlone (explain (Some lex) yacc states graph strictness) count format =
-    ((strictness.strict ≡ false) × (count ≡ None)) ⊎ ((states ≡ None) × (graph ≡ None))
+StandAlone (explain None yacc states graph strictness form) count format = (states ≡ None) × (graph ≡ None)
+StandAlone (explain (Some lex) yacc states graph strictness form) count format =
+    ((strictness.strict ≡ false) × (count ≡ None) × (form ≡ Plain)) ⊎ ((states ≡ None) × (graph ≡ None))
 StandAlone _ count format = Unit {0}
 
 -- how a version is said
@@ -135,14 +135,14 @@ option_words name value = option_map (λ v. name ∷ v ∷ []) value
 -- the first option of a command, if it is said
 abbrev pub first_option : Request → Option (List Text)
 first_option (build lex yacc table_file report version expected points) = option_words (codes "--report") report
-first_option (explain lex yacc states graph strictness) = option_words (codes "--states") states
+first_option (explain lex yacc states graph strictness form) = option_words (codes "--states") states
 first_option _ = None
 
 -- the second option, where this version is said
 abbrev pub second_option : Request → Option Version → Option (List Text)
 second_option (build lex yacc table_file report version expected points) format =
     option_words (codes "--format") (option_map number_of format)
-second_option (explain lex yacc states graph strictness) format = option_words (codes "--graph") graph
+second_option (explain lex yacc states graph strictness form) format = option_words (codes "--graph") graph
 second_option _ format = None
 
 -- the words of an option behind so many groups of words, or nothing

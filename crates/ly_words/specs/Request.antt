@@ -2,6 +2,7 @@
 use Rattle.std.specs.Prelude.{Bool, Option, ℕ}
 use Rattle.clap.specs.Words.{Text}
 use Rattle.ly_base.specs.declared.version.Version.{Version}
+use Rattle.ly_print.specs.declared.answer_form.AnswerForm.{AnswerForm}
 use Rattle.ly_words.specs.declared.command.Answering.{Answering}
 use Rattle.ly_words.specs.declared.command.Strictness.{Strictness}
 
@@ -18,4 +19,5 @@ pub data Request : Type 0 where
   run_placed : (tables : Text) → (text : Option Text) → (points : Bool) → Request
   try_placed : (lex yacc : Text) → (text : Option Text) → (points : Bool) → Request
   check : (tables : Text) → (by : Answering) → Request
-  explain : (lex : Option Text) → (yacc : Text) → (states graph : Option Text) → (strictness : Strictness) → Request
+  explain : (lex : Option Text) → (yacc : Text) → (states graph : Option Text) → (strictness : Strictness)
+      → (form : AnswerForm) → Request

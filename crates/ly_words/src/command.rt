@@ -99,6 +99,8 @@ pub enum Command<'a> {
         paths: ExplainPaths<'a>,
         /// How strictly the files are judged.
         strictness: Strictness,
+        /// How this is answered.
+        form: AnswerForm,
     },
 }
 

@@ -2,8 +2,8 @@ ghost use Rattle.std.specs.Prelude.{◌≡◌, IfErr, IfOk, IsSome, OnOk, Some, 
 ghost use Rattle.std.specs.Prelude.{MatchResult, string_bytes, true};
 ghost use Rattle.clap.specs.Words.{first_value, found_of, kind_of, subcommand_rows_of};
 ghost use Rattle.ly_words.specs.CommandLine.{answering_by, build_by, check_by, count_by, strictness_by, expected_by};
-ghost use Rattle.ly_words.specs.CommandLine.{explain_by, is_said, line_faults, line_takes, request_by, request_of};
-ghost use Rattle.ly_words.specs.CommandLine.{run_by, subcommand_in, tokens_by, try_by, version_by, Mean};
+ghost use Rattle.ly_words.specs.CommandLine.{explain_by, form_by, is_said, line_faults, line_takes, request_by};
+ghost use Rattle.ly_words.specs.CommandLine.{request_of, run_by, subcommand_in, tokens_by, try_by, version_by, Mean};
 ghost use Rattle.ly_words.specs.Command.{said};
 ghost use Rattle.ly_words.specs.Request.{Request};
 
@@ -31,8 +31,8 @@ const NO_LINES: &str = "error: the argument '--lines' cannot be used with '--pla
 /// `build LEX YACC TABLES [--report FILE] [--format 1|2] [--expect COUNT] [--where]`,
 /// `run TABLES [TEXT] [--lines] [--json] [--places] [--where]`,
 /// `try LEX YACC [TEXT] [--json] [--places] [--where]`, `check TABLES [--json] [--where]` or
-/// `explain LEX YACC [--states FILE] [--graph FILE] [--strict] [--expect COUNT]`, or this with `--yacc YACC` for both
-/// files. `--places` means JSON, also without `--json`.
+/// `explain LEX YACC [--json] [--states FILE] [--graph FILE] [--strict] [--expect COUNT]`, or this with `--yacc YACC`
+/// for both files. `--places` means JSON, also without `--json`.
 ///
 /// `Help` comes where a help text or the version is asked for, `Bad` where `clap` refuses the words for another reason,
 /// they ask for another version of a table file, for a count that is no number, for lines with places, or for one file
@@ -118,12 +118,19 @@ fn answering_in(values: &ArgMatches<'_>) -> Answering
     ensures { result ≡ answering_by (first_value (found_of values.now)) }
 {
     Answering {
-        form: if is_said(values, "JSON") {
-            AnswerForm::Json
-        } else {
-            AnswerForm::Plain
-        },
+        form: form_in(values),
         points: is_said(values, "WHERE"),
+    }
+}
+
+/// The form in which something is answered, by the flag of JSON.
+fn form_in(values: &ArgMatches<'_>) -> AnswerForm
+    ensures { result ≡ form_by (first_value (found_of values.now)) }
+{
+    if is_said(values, "JSON") {
+        AnswerForm::Json
+    } else {
+        AnswerForm::Plain
     }
 }
 
@@ -252,6 +259,7 @@ fn explain_in<'a>(values: &ArgMatches<'a>) -> Option<Command<'a>>
     let states = values.get_str("STATES");
     let graph = values.get_str("GRAPH");
     let strictness = strictness_in(values)?;
+    let form = form_in(values);
     match (is_said(values, "GRAMMAR"), second) {
         (false, Some(yacc)) => Some(Command::Explain {
             paths: ExplainPaths {
@@ -261,6 +269,7 @@ fn explain_in<'a>(values: &ArgMatches<'a>) -> Option<Command<'a>>
                 graph,
             },
             strictness,
+            form,
         }),
         (true, None) => Some(Command::Explain {
             paths: ExplainPaths {
@@ -270,6 +279,7 @@ fn explain_in<'a>(values: &ArgMatches<'a>) -> Option<Command<'a>>
                 graph,
             },
             strictness,
+            form,
         }),
         _ => None,
     }

@@ -147,6 +147,7 @@ fn explain_line<'a>(alloc: Global) -> Result<Command<'a>, AllocError>
 {
     explain_paths(alloc)?
         .arg(alone(alloc))?
+        .arg(json(alloc))?
         .arg(strict(alloc))?
         .arg(expect(alloc))
 }

@@ -138,7 +138,7 @@ failed_first contents (try lex yacc text by) fault e same kept = (
 failed_first contents (build lex yacc table_file report version expected points) fault e same kept =
     (tt, fails_build version expected fault, same)
 failed_first contents (check table_file by) fault e same kept = (tt, fails_check fault, same)
-failed_first contents (explain lex yacc states graph strictness) fault e same kept = (tt, fails_device fault, same)
+failed_first contents (explain lex yacc states graph strictness form) fault e same kept = (tt, fails_device fault, same)
 
 pub failed_with : {R D : Type 0} (contents : D → Option (List ℕ)) (request : Request) (fault : FileFault) (e : Ends R)
     (r : Result Completion Failure) → IsErrAnd r (λ f. f ≡ failure_of_file fault) → e.input_after ≡ e.input_before
@@ -312,15 +312,17 @@ text_named f None bytes = refl
 text_named f (Some path) bytes = refl
 
 explanation_told : {A B D : Type 0} (f : A → B) (contents : D → Option (List ℕ)) (lex states graph : Option A)
-    (strictness : Strictness) (before after : Option (List ℕ)) (c : Completion)
-    → IsExplanationTold contents lex states graph strictness before after c
-    → IsExplanationTold contents (option_map f lex) (option_map f states) (option_map f graph) strictness before after c
-explanation_told f contents lex states graph strictness before after c h = record {
+    (strictness : Strictness) (form : AnswerForm) (before after : Option (List ℕ)) (c : Completion)
+    → IsExplanationTold contents lex states graph strictness form before after c
+    → IsExplanationTold contents (option_map f lex) (option_map f states) (option_map f graph) strictness form before
+    after c
+explanation_told f contents lex states graph strictness form before after c h = record {
   lex = h.lex;
   yacc = h.yacc;
   explanation = h.explanation;
   explained = subst (λ bytes. IsExplained version_2 bytes h.yacc h.explanation) (sym (text_named f lex h.lex))
       h.explained;
+  in_form = h.in_form;
   states_written = written_mapped f contents states h.explanation.states h.states_written;
   picture_written = written_mapped f contents graph h.explanation.picture h.picture_written;
   text = h.text;
@@ -336,13 +338,13 @@ if_build_told f contents limits version path expected before after (Ok c) h =
 if_build_told f contents limits version path expected before after (Err g) h = h
 
 if_explanation_told : {A B D : Type 0} (f : A → B) (contents : D → Option (List ℕ)) (lex states graph : Option A)
-    (strictness : Strictness) (before after : Option (List ℕ)) (r : Result Completion Failure)
-    → IfOk r (IsExplanationTold contents lex states graph strictness before after)
-    → IfOk r (IsExplanationTold contents (option_map f lex) (option_map f states) (option_map f graph) strictness before
-    after)
-if_explanation_told f contents lex states graph strictness before after (Ok c) h =
-    explanation_told f contents lex states graph strictness before after c h
-if_explanation_told f contents lex states graph strictness before after (Err g) h = h
+    (strictness : Strictness) (form : AnswerForm) (before after : Option (List ℕ)) (r : Result Completion Failure)
+    → IfOk r (IsExplanationTold contents lex states graph strictness form before after)
+    → IfOk r (IsExplanationTold contents (option_map f lex) (option_map f states) (option_map f graph) strictness form
+    before after)
+if_explanation_told f contents lex states graph strictness form before after (Ok c) h =
+    explanation_told f contents lex states graph strictness form before after c h
+if_explanation_told f contents lex states graph strictness form before after (Err g) h = h
 
 pub carried_build : {A R D : Type 0} (contents : D → Option (List ℕ)) (f : A → List ℕ) (lex yacc tables : List ℕ)
     (path : Option A) (version : Version) (expected : Option ℕ) (points : Bool) (r : Result Completion Failure)
@@ -353,12 +355,14 @@ carried_build contents f lex yacc tables path version expected points r e told r
     (if_build_told f contents version_2 version path expected e.before e.after r told, refused, same)
 
 pub carried_explain : {A R D : Type 0} (contents : D → Option (List ℕ)) (f : A → List ℕ) (lex : Option A)
-    (yacc : List ℕ) (states graph : Option A) (strictness : Strictness) (r : Result Completion Failure) (e : Ends R)
-    → IfOk r (IsExplanationTold contents lex states graph strictness e.before e.after) → IfErr r IsOfDevice
+    (yacc : List ℕ) (states graph : Option A) (strictness : Strictness) (form : AnswerForm)
+    (r : Result Completion Failure) (e : Ends R)
+    → IfOk r (IsExplanationTold contents lex states graph strictness form e.before e.after) → IfErr r IsOfDevice
     → e.input_after ≡ e.input_before
-    → IsCarriedOut contents (explain (option_map f lex) yacc (option_map f states) (option_map f graph) strictness) r e
-carried_explain contents f lex yacc states graph strictness r e told failed same =
-    (if_explanation_told f contents lex states graph strictness e.before e.after r told, failed, same)
+    → IsCarriedOut contents
+    (explain (option_map f lex) yacc (option_map f states) (option_map f graph) strictness form) r e
+carried_explain contents f lex yacc states graph strictness form r e told failed same =
+    (if_explanation_told f contents lex states graph strictness form e.before e.after r told, failed, same)
 
 -- what is told of a device is told of what is known of it
 left_or_failed : {W : Type 0} (known : W → Option (List ℕ)) (old new : W) (before after : ℕ) (f : Failure)
@@ -388,7 +392,7 @@ told_of_known known (try_placed lex yacc text points) r old new before after h =
     known_told known r old new before after h
 told_of_known known (try lex yacc text by) r old new before after h = known_told known r old new before after h
 told_of_known known (check tables by) r old new before after h = known_told known r old new before after h
-told_of_known known (explain lex yacc states graph strictness) r old new before after h =
+told_of_known known (explain lex yacc states graph strictness form) r old new before after h =
     known_told known r old new before after h
 
 -- a command that failed before it did anything
@@ -404,7 +408,7 @@ kept_told (run_placed tables text points) f old count = record { failed = inl (r
 kept_told (try_placed lex yacc text points) f old count = record { failed = inl (refl, refl); held = tt }
 kept_told (try lex yacc text by) f old count = record { failed = inl (refl, refl); held = tt }
 kept_told (check tables by) f old count = record { failed = inl (refl, refl); held = tt }
-kept_told (explain lex yacc states graph strictness) f old count = record { failed = inl (refl, refl); held = tt }
+kept_told (explain lex yacc states graph strictness form) f old count = record { failed = inl (refl, refl); held = tt }
 
 -- what is told of standard output where lines were answered
 pub lines_told : (r : Result Completion Failure) (before after : ℕ) → AreWritesTold r before after

@@ -1,7 +1,7 @@
 -- What a command has written, or why it failed, and what it read of standard input. Of what the files of its words hold
 -- nothing is known, so it is said for some bytes.
-use Rattle.std.specs.Prelude.{◌≡◌, ◌⊎◌, ◌++◌, ℕ, IfErr, IfOk, List, MatchResult}
-use Rattle.std.specs.Prelude.{None, OnOk, Option, Result, Some, codes, length}
+use Rattle.std.specs.Prelude.{◌≡◌, ◌⊎◌, ◌++◌, ℕ, Bool, IfErr, IfOk, List, MatchResult}
+use Rattle.std.specs.Prelude.{None, OnOk, Option, Result, Some, codes, false, length, true}
 use Rattle.std.specs.Fmt.{decimal}
 use Rattle.std.specs.Io.KnownBytes.{Appends, IsAtEnd}
 use Rattle.std.specs.declared.alloc.Global.{Global}
@@ -19,6 +19,7 @@ use Rattle.ly_print.specs.declared.answer_form.AnswerForm.TheVariants.{Json, Pla
 use Rattle.ly_report.specs.Counts.{AreCounts}
 use Rattle.ly_report.specs.Report.{counts_line}
 use Rattle.ly_report.specs.declared.counts.ConflictCounts.{ConflictCounts}
+use Rattle.ly_accepted.specs.Findings.{IsInForm}
 use Rattle.ly_accepted.specs.declared.surveying.Explanation.{Explanation}
 use Rattle.ly_tables.specs.TableSet.{TableSet}
 use Rattle.ly_tables.specs.TableText.{TableText}
@@ -130,16 +131,22 @@ abbrev pub lex_text : {A : Type 0} → Option A → List ℕ → List ℕ
 lex_text (Some path) bytes = bytes
 lex_text None bytes = no_rules
 
--- what there is to say of a lex file and a yacc file, and whether they are accepted; the states of their parser and a
--- picture of them were written where files are named for them, as far as there are any; and the end tells whether they
--- pass
+-- whether an answer is written as JSON
+abbrev pub is_json : AnswerForm → Bool
+is_json Plain = false
+is_json Json = true
+
+-- what there is to say of a lex file and a yacc file, in this form, and whether they are accepted; the states of their
+-- parser and a picture of them were written where files are named for them, as far as there are any; and the end tells
+-- whether they pass
 pub record IsExplanationTold {D A : Type 0} (contents : D → Option (List ℕ))
     (lex_path states_path graph_path : Option A)
-    (strictness : Strictness) (before after : Option (List ℕ)) (c : Completion) : Type 0 where
+    (strictness : Strictness) (form : AnswerForm) (before after : Option (List ℕ)) (c : Completion) : Type 0 where
   pub lex : List ℕ
   pub yacc : List ℕ
   pub explanation : Explanation
   pub explained : IsExplained version_2 (lex_text lex_path lex) yacc explanation
+  pub in_form : IsInForm (is_json form) explanation.findings explanation.text.items
   pub states_written : IsWrittenIf contents states_path explanation.states
   pub picture_written : IsWrittenIf contents graph_path explanation.picture
   pub text : Appends before after explanation.text.items
@@ -206,8 +213,9 @@ IsCarriedOut contents (build lex yacc table_file report version expected points)
 IsCarriedOut contents (check table_file by) result e =
     IfOk result (IsCheckTold by.form e.before e.after) × IfErr result IsRefusalOfCheck
     × (e.input_after ≡ e.input_before)
-IsCarriedOut contents (explain lex yacc states graph strictness) result e =
-    IfOk result (IsExplanationTold contents lex states graph strictness e.before e.after) × IfErr result IsOfDevice
+IsCarriedOut contents (explain lex yacc states graph strictness form) result e =
+    IfOk result (IsExplanationTold contents lex states graph strictness form e.before e.after)
+    × IfErr result IsOfDevice
     × (e.input_after ≡ e.input_before)
 
 -- the exit status of a command that ended so; where it failed also 3, if there is no memory for the line that says why

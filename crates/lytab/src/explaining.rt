@@ -1,8 +1,9 @@
 //! The command `explain`.
-ghost use Rattle.std.specs.Prelude.{IfErr, IfOk, OnOk};
+ghost use Rattle.std.specs.Prelude.{◌≡◌, IfErr, IfOk, OnOk};
+ghost use Rattle.ly_accepted.specs.Findings.{IsInForm};
 ghost use Rattle.ly_base.specs.Limits.{version_2};
 ghost use Rattle.ly_explain.specs.Explained.{IsExplained};
-ghost use Rattle.lytab.specs.CarriedOut.{IsExplanationTold, lex_text};
+ghost use Rattle.lytab.specs.CarriedOut.{IsExplanationTold, is_json, lex_text};
 ghost use Rattle.lytab.specs.Devices.{IsOutputTold};
 ghost use Rattle.lytab.specs.Failure.{IsOfDevice};
 ghost use Rattle.lytab.specs.Files.{IsWrittenIf};
@@ -14,7 +15,7 @@ use crate::notes::{Notes, reason};
 use crate::shown_path::ShownPath;
 use ly_base::{Limits, OutOfMemory};
 use ly_explain::{Explanation, Named, Wish, explain, explain_grammar};
-use ly_print::{Counted, Sink};
+use ly_print::{AnswerForm, Counted, Sink};
 use ly_words::{ExplainPaths, Strictness};
 use std::alloc::Global;
 use std::rt::Files;
@@ -22,17 +23,19 @@ use std::rt::Files;
 /// Writes to standard output what there is to say of a lex file and a yacc file, or of a yacc file alone, and, where
 /// they are accepted, the states of their parser and a picture of them if they are asked for. All files are read before
 /// anything is judged.
-/// How strictly they are judged changes nothing that is written.
+/// How strictly they are judged changes nothing that is written. As JSON the text begins with whether they are
+/// accepted, and with how many conflicts there are.
 pub fn explain_files<'a, F: Files, W: Sink>(
     files: &F,
     alloc: Global,
     paths: ExplainPaths<'a>,
     strictness: Strictness,
+    form: AnswerForm,
     output: &mut W,
     notes: &mut Notes,
 ) -> Result<Completion, Failure<'a>>
     ensures said { IfOk result (IsExplanationTold ⟦<Counted<F::File> as Sink>⟧.contents
-        paths.entry.lex paths.entry.states paths.entry.graph strictness (W.contents output.old)
+        paths.entry.lex paths.entry.states paths.entry.graph strictness form (W.contents output.old)
         (W.contents output.new)) }
     ensures failed { IfErr result IsOfDevice }
     ensures devices { IsOutputTold result output.old output.new (W.failures output.old) (W.failures output.new) }
@@ -43,10 +46,21 @@ pub fn explain_files<'a, F: Files, W: Sink>(
         states: paths.states.is_some(),
         picture: paths.graph.is_some(),
         grammar_alone: false,
+        json: is_json(form),
     };
     let explanation = explained(alloc, paths, &lex, &yacc, wish)?;
     write_files(files, alloc, paths, &explanation, notes)?;
     Completion::of_findings(&explanation.findings, strictness).said(output, &explanation.text)
+}
+
+/// Whether an answer is written as JSON.
+fn is_json(form: AnswerForm) -> bool
+    ensures { result ≡ is_json form }
+{
+    match form {
+        AnswerForm::Plain => false,
+        AnswerForm::Json => true,
+    }
 }
 
 /// What there is to say of these files, by their names as people see them; of the yacc file alone, where no lex file is
@@ -58,7 +72,8 @@ fn explained(
     yacc: &[u8],
     wish: Wish,
 ) -> Result<Explanation, OutOfMemory>
-    ensures { IfOk result (IsExplained version_2 (lex_text paths.entry.lex lex.now) yacc.now) }
+    ensures explained { IfOk result (IsExplained version_2 (lex_text paths.entry.lex lex.now) yacc.now) }
+    ensures form { IfOk result (λ e. IsInForm wish.json e.findings e.text.items) }
 {
     let yacc_name = ShownPath(paths.yacc).text(alloc)?;
     let yacc = Named::new(&yacc_name, yacc);

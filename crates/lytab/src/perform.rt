@@ -204,8 +204,10 @@ fn carry_out<'a, F: Files, R: Source + Recall, W: Sink>(
             notes.explain_tables(tables, &ended);
             ended
         }
-        Command::Explain { paths, strictness } => {
-            explain_files(files, alloc, paths, strictness, output, notes)
-        }
+        Command::Explain {
+            paths,
+            strictness,
+            form,
+        } => { explain_files(files, alloc, paths, strictness, form, output, notes) }
     }
 }

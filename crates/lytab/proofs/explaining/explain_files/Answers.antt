@@ -1,5 +1,6 @@
-use Rattle.std.proofs.Common.{◌≡◌, ◌∙◌, IfOk, rules}
+use Rattle.std.proofs.Common.{◌≡◌, ◌∙◌, IfOk, rules, subst}
 use Rattle.std.specs.Io.KnownBytes.{Appends}
+use Rattle.ly_accepted.specs.Findings.{IsInForm}
 use Rattle.ly_generate.proofs.GenFaultLemmas.{ok_weaker}
 use Rattle.lytab.proofs.explaining.explain_files.Goals as goal
 
@@ -15,7 +16,9 @@ returns-clause-said g c =
       lex = _;
       yacc = _;
       explanation = explanation;
-      explained = c.in_ok-explanation.ensures;
+      explained = c.in_ok-explanation.ensures.explained;
+      in_form = subst (λ json. IsInForm json explanation.findings explanation.text.items) c.is_json.ensures
+          c.in_ok-explanation.ensures.form;
       states_written = c.in_ok-write_files.ensures.states;
       picture_written = c.in_ok-write_files.ensures.picture;
       text = said.1;

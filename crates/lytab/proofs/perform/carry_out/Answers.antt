@@ -90,7 +90,8 @@ returns-in-Explain-clause-carried_out g c =
     let paths = c.in-Explain.paths in
     rw c.in-Explain.is (carried_explain
     (λ (d : Counted g.row.F-File.Denot). g.F.File.Write.contents d.inner) (λ s. s.now)
-    paths.lex paths.yacc.now paths.states paths.graph c.in-Explain.strictness c.explain_files.result (record {
+    paths.lex paths.yacc.now paths.states paths.graph c.in-Explain.strictness c.in-Explain.form
+    c.explain_files.result (record {
       input_before = c.args.input.now;
       input_after = c.args.input.now;
       given = g.R.Source.remaining c.args.input.now;
