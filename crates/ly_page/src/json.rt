@@ -1,5 +1,6 @@
-ghost use Rattle.std.specs.Prelude.{◌≡◌, ◌++◌, IfOk};
+ghost use Rattle.std.specs.Prelude.{◌≡◌, ◌≤◌, ◌++◌, IfOk, drop, length};
 ghost use Rattle.std.specs.Fmt.{decimal};
+ghost use Rattle.std.specs.Str.{is_utf8};
 ghost use Rattle.ly_page.specs.Json.{json_words, key_words};
 ghost use Rattle.ly_page.specs.Page.{Says, SaysMore};
 
@@ -55,10 +56,24 @@ fn json_of(alloc: Global, bytes: &[u8]) -> Result<Vec<u8>, AllocError>
     ensures { IfOk result (λ string. string.items ≡ json_words bytes.now) }
 {
     let mut out = Vec::new(alloc);
-    if str::from_utf8(bytes).is_err() {
+    if !is_utf8(bytes) {
         push_json_name(&mut out, bytes)?;
         return Ok(out);
     }
     push_json_content(&mut out, bytes)?;
-    Vec::from_slice(alloc, out.get(TEXT_KEY.len()..).unwrap_or_default())
+    Vec::from_slice(alloc, behind_key(&out))
+}
+
+/// Whether bytes are UTF-8.
+fn is_utf8(bytes: &[u8]) -> bool
+    ensures { result ≡ is_utf8 bytes.now }
+{
+    str::from_utf8(bytes).is_ok()
+}
+
+/// What stands behind the key of a text.
+fn behind_key(member: &[u8]) -> &[u8]
+    ensures { 7 ≤ length member.now → result.now ≡ drop 7 member.now }
+{
+    member.get(TEXT_KEY.len()..).unwrap_or_default()
 }
