@@ -30,7 +30,7 @@ pub(crate) fn hiding_of(
     let Some(own) = scanner_of(alloc, files, rule)? else {
         return Ok(Hiding::Earlier);
     };
-    let winners = winners(alloc, &own, files.dfa)?;
+    let winners = winners_beside(alloc, &own, files.dfa)?;
     if !winners.whole {
         return Ok(Hiding::Earlier);
     }
@@ -74,7 +74,7 @@ fn scanner_of(
 }
 
 /// The rules that win where a rule has a string, by its own scanner and that of all rules.
-fn winners(alloc: Global, own: &Dfa, all: &Dfa) -> Result<Winners, OutOfMemory> {
+fn winners_beside(alloc: Global, own: &Dfa, all: &Dfa) -> Result<Winners, OutOfMemory> {
     let mut winners = Winners {
         rules: IndexSet::new(alloc),
         whole: true,

@@ -12,7 +12,7 @@ ghost use Rattle.ly_page.specs.Page.{SaysMore, SaysPrinted, spaced_words, symbol
 use crate::named::Named;
 use ly_base::{Location, OutOfMemory, Sym};
 use ly_join::{Spec, Symbol, TerminalName};
-use ly_print::{Terminal, push_escaped, push_json_name, push_json_string, push_name};
+use ly_print::{Terminal, is_utf8, push_escaped, push_json_name, push_json_string, push_name};
 use ly_report::push_terminal;
 use std::alloc::{AllocError, Global};
 use std::fmt::Display;
@@ -163,7 +163,7 @@ impl Page {
         ensures { Says self.old (json_words bytes.now) self.new }
     {
         if self.said.is_ok() {
-            let said = if str::from_utf8(bytes).is_ok() {
+            let said = if is_utf8(bytes) {
                 push_json_string(&mut self.text, bytes)
             } else {
                 push_json_name(&mut self.text, bytes)

@@ -84,7 +84,7 @@ pub fn push_json_location(
 }
 
 /// Whether bytes are UTF-8.
-pub(crate) fn is_utf8(bytes: &[u8]) -> bool
+pub fn is_utf8(bytes: &[u8]) -> bool
     ensures { result ≡ is_utf8 bytes.now }
 {
     str::from_utf8(bytes).is_ok()

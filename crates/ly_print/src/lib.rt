@@ -26,7 +26,7 @@ pub use answer_form::AnswerForm;
 pub use counted::Counted;
 pub use device::{DeviceFailed, Sink, Source};
 pub use front::Front;
-pub use json::{push_json_content, push_json_location, push_json_name, push_json_string};
+pub use json::{is_utf8, push_json_content, push_json_location, push_json_name, push_json_string};
 pub use label::Label;
 pub use laws::{are_bytes, counting_keeps_what_is_known, memory_is_known};
 pub use memory::{MemSink, MemSource};
