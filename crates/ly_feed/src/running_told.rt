@@ -61,6 +61,10 @@ fn run_told<'t>(
     ensures ahead { HaltsAhead start.entry result }
     ensures machine { parser.new.machine ≡ parser.old.machine }
 {
+    // so that the loop needn't ask
+    if start.condition() != 0 {
+        return Ok(Halt::At(start));
+    }
     let mut place = start;
     loop {
         let Some(told) = lexer.tell(facts, &mut place, known) else {

@@ -15,10 +15,10 @@ pub(crate) struct Before {
     kept: usize,
     /// The state that stood on top, if one stood above the bottom.
     top: Option<StateNo>,
-    /// The states that stood between, the uppermost first; left from another token, where this one has popped none.
+    /// The states that stood between, the uppermost first; behind them what is left from other tokens.
     popped: Vec<StateNo>,
-    /// Whether this token has popped none.
-    fresh: bool,
+    /// How many of these are this token's.
+    noted: usize,
 }
 
 impl Before {
@@ -30,7 +30,7 @@ impl Before {
             kept: 0,
             top: None,
             popped: Vec::new(alloc),
-            fresh: true,
+            noted: 0,
         }
     }
 
@@ -40,7 +40,7 @@ impl Before {
         ensures before { before_of stack.now self.new ≡ levels_with_top first.0 stack.now }
     {
         // without a look at what was popped before, which a processor would have to guess
-        self.fresh = true;
+        self.noted = 0;
         match stack.len().checked_sub(1) {
             Some(kept) => {
                 self.kept = kept;
@@ -66,7 +66,7 @@ impl Before {
         Ok(())
     }
 
-    /// Notes the states above a height, some of which are still as they were.
+    /// Notes the states above a height, some of which are still as they were, where others were noted before.
     #[inline(never)] // so that reductions have the registers
     fn note_popped(&mut self, stack: &[Level], height: usize) -> Result<(), AllocError>
         requires kept { self.old.kept ≤ length stack.now }
@@ -75,16 +75,39 @@ impl Before {
         ensures low { OnOk result (self.new.kept ≤ height) }
         ensures kept { OnOk result (self.new.kept ≤ length stack.now) }
     {
-        if self.fresh {
-            self.popped.clear();
-            self.fresh = false;
+        let mut noted = self.noted;
+        let mut kept = self.kept;
+        let room = self.popped.len();
+        if room < noted || room - noted < kept - height {
+            return self.note_further(stack, height);
         }
+        while height < kept {
+            self.popped[noted] = stack[kept - 1].state;
+            noted += 1;
+            kept -= 1;
+        }
+        self.noted = noted;
+        self.kept = kept;
+        Ok(())
+    }
+
+    /// Notes the states above a height, some of which are still as they were, where more are noted than ever before.
+    #[inline(never)] // as few tokens note so many
+    fn note_further(&mut self, stack: &[Level], height: usize) -> Result<(), AllocError>
+        requires kept { self.old.kept ≤ length stack.now }
+        requires some { height ≤ self.old.kept }
+        ensures before { OnOk result (before_of stack.now self.new ≡ before_of stack.now self.old) }
+        ensures low { OnOk result (self.new.kept ≤ height) }
+        ensures kept { OnOk result (self.new.kept ≤ length stack.now) }
+    {
+        self.popped.truncate(self.noted);
         self.popped.reserve(self.kept - height)?;
         let mut kept = self.kept;
         while height < kept {
             self.popped.push_reserved(stack[kept - 1].state);
             kept -= 1;
         }
+        self.noted = self.popped.len();
         self.kept = kept;
         Ok(())
     }
@@ -98,7 +121,7 @@ impl Before {
         for place in 0..self.kept.min(stack.len()) {
             states.push(stack[place].state)?;
         }
-        let mut left = if self.fresh { 0 } else { self.popped.len() };
+        let mut left = self.noted.min(self.popped.len());
         while 0 < left {
             left -= 1;
             states.push(self.popped[left])?;

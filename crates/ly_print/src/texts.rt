@@ -1,4 +1,4 @@
-ghost use Rattle.std.specs.Prelude.{◌≡◌, ◌<◌, ◌≤◌, ◌+◌, [], ◌++◌, drop, length, take, All, OnErr, OnOk};
+ghost use Rattle.std.specs.Prelude.{◌≡◌, ◌<◌, ◌≤◌, ◌+◌, [], ◌++◌, drop, length, take, All, IfSome, None, OnErr, OnOk};
 
 use crate::front::{BLOCK, Front};
 use crate::laws::are_bytes;
@@ -9,6 +9,9 @@ use std::marker::Model;
 /// How many bytes of room are made at a time.
 const ROOM: usize = 4_096;
 
+/// How many places have 32 bits.
+const MOST_PLACES: usize = 1 << 32;
+
 /// Texts, one behind another, with room behind them, so that a short one is copied as a block.
 #[derive(Drop)]
 pub struct Texts {
@@ -16,16 +19,19 @@ pub struct Texts {
     bytes: Vec<u8>,
     /// How many of the bytes are text.
     used: usize,
+    /// Before this place a block has room, and where one begins there has 32 bits.
+    blocks: usize,
 }
 
 impl Model for Texts {
-    ghost use Rattle.std.specs.Prelude.{ℕ, List, ◌≤◌, take, length};
+    ghost use Rattle.std.specs.Prelude.{ℕ, List, ◌<◌, ◌≤◌, ◌+◌, ◌^◌, take, length};
 
     ghost Value = { List ℕ };
 
     ghost view = { λ t. take t.used t.bytes.items };
 
-    ghost invariant = { λ t. t.used ≤ length t.bytes.items };
+    ghost invariant = { λ t. (t.used ≤ length t.bytes.items)
+        × ((at : ℕ) → at < t.blocks → (at + 16 ≤ length t.bytes.items) × (at < 2 ^ 32)) };
 }
 
 impl Texts {
@@ -36,6 +42,7 @@ impl Texts {
         Texts {
             bytes: Vec::new(alloc),
             used: 0,
+            blocks: 0,
         }
     }
 
@@ -51,13 +58,24 @@ impl Texts {
         ensures ok { OnOk result (self.new ≡ self.old ++ text.now) }
         ensures err { OnErr result (self.new ≡ self.old) }
     {
-        if let Some(block) = text.block() {
-            if BLOCK <= self.bytes.len() - self.used {
-                self.used = put_front_of(&mut self.bytes, self.used, block, text.len());
-                return Ok(());
-            }
-        }
         self.push_long(text.bytes, text.count)
+    }
+
+    /// Appends a text as a block, if it has 16 bytes at most and there is room, and answers where it begins.
+    #[inline(always)] // by a call a token takes a tenth more instructions
+    pub fn push_block(&mut self, text: &Front<'_>) -> Option<u32>
+        ensures begins { IfSome result (λ start. start ≡ length self.old) }
+        ensures short { IfSome result (λ _. length text.now ≤ 16) }
+        ensures texts { IfSome result (λ _. self.new ≡ self.old ++ text.now) }
+        ensures none { result ≡ None → self.new ≡ self.old }
+    {
+        let start = self.used;
+        if self.blocks <= start {
+            return None;
+        }
+        let block = text.block()?;
+        self.used = put_front_of(&mut self.bytes, start, block, text.len());
+        Some(start as u32)
     }
 
     /// So many of the bytes that stand behind others.
@@ -87,11 +105,13 @@ impl Texts {
             self.used = put_bytes(&mut self.bytes, self.used, text);
             return Ok(());
         }
+        self.blocks = 0;
         self.bytes.truncate(self.used);
         self.bytes.extend_from_slice(text)?;
         let end = self.bytes.len();
         self.bytes.extend_from_slice(&[0; ROOM])?;
         self.used = end;
+        self.blocks = (end + (ROOM - BLOCK + 1)).min(MOST_PLACES);
         Ok(())
     }
 }

@@ -119,6 +119,33 @@ impl Forest {
             ≡ budget each byte self.old + byte * length text.now) }
         ensures err { OnErr result (self.new ≡ self.old) }
     {
+        if terminal.0 <= u16::MAX as u32 {
+            if let Some(start) = self.texts.push_block(text) {
+                let length = text.len() as u8;
+                let terminal = terminal.0 as u16;
+                return Ok(TermRef::ShortLeaf {
+                    length,
+                    terminal,
+                    start,
+                });
+            }
+        }
+        self.leaf_without_block(terminal, text)
+    }
+
+    /// Adds a leaf whose text isn't copied as a block, as `leaf` does.
+    #[inline(always)] // as `leaf`
+    fn leaf_without_block(
+        &mut self,
+        terminal: Sym,
+        text: &Front<'_>,
+    ) -> Result<TermRef, OutOfMemory>
+        ensures stands { IfOk result (λ r. StandsFor self.new r (leaf terminal.0 text.now)) }
+        ensures keeps { OnOk result (Keeps self.old self.new) }
+        ensures pays { OnOk result ((each byte : ℕ) → budget each byte self.new
+            ≡ budget each byte self.old + byte * length text.now) }
+        ensures err { OnErr result (self.new ≡ self.old) }
+    {
         let start = self.texts.len();
         if text.len() > u8::MAX as usize
             || terminal.0 > u16::MAX as u32

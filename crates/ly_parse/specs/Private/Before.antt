@@ -1,5 +1,5 @@
 -- What a parser's stack was before a token.
-use Rattle.std.specs.Prelude.{◌≡◌, ℕ, ◌-◌, ◌≤◌, List, [], ◌∷◌, ◌++◌, Option, None, Some, drop, if◌then◌else◌}
+use Rattle.std.specs.Prelude.{◌≡◌, ℕ, ◌-◌, ◌≤◌, List, [], ◌∷◌, ◌++◌, Option, None, Some, drop}
 use Rattle.std.specs.Prelude.{length, map, take}
 use Rattle.ly_base.specs.declared.numbers.StateNo.{StateNo}
 use Rattle.ly_pack.specs.Machine.{TableAction, accept, shift}
@@ -19,7 +19,7 @@ top_in None = []
 
 -- the states that stood under it and were popped
 abbrev pub popped_in : Before → List ℕ
-popped_in b = if b.fresh then [] else map (λ s. s.0) b.popped.items
+popped_in b = map (λ s. s.0) (take b.noted b.popped.items)
 
 -- these, and the states that are still there
 abbrev pub under_top : List code.Level → Before → List ℕ

@@ -13,6 +13,9 @@ use Rattle.ly_feed.specs.Verdict.{faulty}
 use Rattle.ly_feed.proofs.running_told.run_told.Goals as goal
 use Rattle.ly_parse.specs.declared.answer.Answer.TheVariants.{FaultyTables, Reads, Refuses}
 
+pub returns-then-condition-ne0-clause-runs : goal.returns-then-condition-ne0-clause-runs
+returns-then-condition-ne0-clause-runs c ended = (none_yet, c.requires.goes_on)
+
 pub loop-told-init : goal.loop-told-init
 loop-told-init c = record {
   onward = λ ended. none_yet;
