@@ -60,6 +60,13 @@ impl Arena {
         Ok(number)
     }
 
+    /// Gives the room back that no expression takes.
+    pub(crate) fn fit(&mut self)
+        ensures { self.new ≡ self.old }
+    {
+        self.nodes.shrink_to_fit();
+    }
+
     /// The nodes: the parts of each come before it, and every set has a member.
     pub fn nodes(&self) -> &[Node]
         ensures spelled { expressions result.now ≡ self.now }

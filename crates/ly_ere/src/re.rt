@@ -34,11 +34,12 @@ impl Model for Re {
 impl Re {
     ghost use Rattle.ly_ere.specs.Arena.{expressions, IsOrdered};
 
-    /// The expression that a number names in an arena.
-    pub fn of(arena: Arena, root: usize) -> Self
+    /// The expression that a number names in an arena. No room is kept for more.
+    pub fn of(mut arena: Arena, root: usize) -> Self
         requires { root < length arena }
         ensures { result ≡ slice_index_or arena root empty }
     {
+        arena.fit();
         Re { arena, root }
     }
 

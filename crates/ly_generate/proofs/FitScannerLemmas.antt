@@ -5,6 +5,7 @@ use Rattle.std.proofs.Common.{slice_get, subst, sym}
 use Rattle.std.specs.Prelude.{IsSome, if◌then◌else◌, nat_eq, slice_index_or}
 use Rattle.std.specs.Int.{Width, byte_len}
 use Rattle.std.specs.List.{AllZip}
+use Rattle.std.specs.Rc.{rc_slice_items}
 use Rattle.std.proofs.lemmas.Bool.Decides.{nat_tests}
 use Rattle.std.proofs.lemmas.Option.{get_or_from_slice_get, same_Some, slice_get-get_or, slice_get-map}
 use Rattle.std.proofs.lemmas.Option.{slice_get_within}
@@ -174,7 +175,8 @@ emits_within : (ts : List TerminalName) (returns : Returned) (e : Emitted) → s
     → slice_get ts 1 ≡ Some undefined → IsEmitted ts (returning_of returns) e → IsEmittedWithin (length ts) e
 emits_within ts lex.Nothing e first second is = subst (IsEmittedWithin (length ts)) (sym is) tt
 emits_within ts (lex.Token n) e first second is = subst (IsEmittedWithin (length ts)) (sym is.1)
-    (past_end ts is.0 (token n.items) first is.2 (λ e. absurd cc), slice_get_within ts is.0 (token n.items) is.2)
+    (let name = token (rc_slice_items n) in
+    (past_end ts is.0 name first is.2 (λ e. absurd cc), slice_get_within ts is.0 name is.2))
 emits_within ts (lex.Literal b) e first second is = subst (IsEmittedWithin (length ts)) (sym is.1)
     (literal_within ts b is.0 first second is.2)
 emits_within ts lex.FirstByte e first second is = subst (IsEmittedWithin (length ts)) (sym is) tt

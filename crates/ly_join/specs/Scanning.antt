@@ -1,5 +1,6 @@
 -- What a lex file says to the grammar.
 use Rattle.std.specs.Prelude.{◌≡◌, ℕ, List, map, length, Option}
+use Rattle.std.specs.Rc.{rc_slice_items}
 use Rattle.ly_lexread.specs.declared.action.LexAction.{LexAction}
 use Rattle.ly_lexread.specs.declared.action.Returned.{Returned}
 use Rattle.ly_lexread.specs.declared.action.Returned.TheVariants as lex
@@ -18,7 +19,7 @@ pub data Returning : Type 0 where
 -- what is returned, whatever room its name has
 abbrev pub returning_of : Returned → Returning
 returning_of lex.Nothing = nothing
-returning_of (lex.Token n) = returns (token n.items)
+returning_of (lex.Token n) = returns (token (rc_slice_items n))
 returning_of (lex.Literal b) = returns (byte b)
 returning_of lex.FirstByte = first_byte
 

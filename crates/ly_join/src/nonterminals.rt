@@ -1,4 +1,5 @@
 ghost use Rattle.std.specs.Prelude.{◌≡◌, ◌<◌, [], length, map, IfOk, Contains, slice_get, Some};
+ghost use Rattle.std.specs.Bool.{OnTrue};
 ghost use Rattle.std.specs.Str.{bytes_eq};
 ghost use Rattle.ly_join.specs.Private.Numbering.{with_one};
 ghost use Rattle.ly_join.specs.Private.Tables.{IsFoundAs};
@@ -63,9 +64,23 @@ impl<'t> Nonterminals<'t> {
     pub(crate) fn with_name(mut self, name: &'t [u8]) -> Result<Nonterminals<'t>, OutOfMemory>
         ensures { IfOk result (λ n. n ≡ with_one bytes_eq self.entry name.now) }
     {
+        // the rules of a left side mostly stand in a row, so that its bytes needn't be gone through once more
+        if self.is_last(name) {
+            return Ok(self);
+        }
         next_number(self.names.len())?;
         self.names.insert(name)?;
         Ok(self)
+    }
+
+    /// Whether this is the name that came last.
+    fn is_last(&self, name: &[u8]) -> bool
+        ensures { OnTrue result (Contains self.now name.now) }
+    {
+        match self.names.as_slice().last() {
+            Some(last) => *last == name,
+            None => false,
+        }
     }
 
     /// The names by number, with room of their own.

@@ -11,7 +11,7 @@ ghost use Rattle.ly_join.specs.Terminals.{token as token_terminal};
 ghost use Rattle.ly_join.specs.Joined.{last_terminal, note_of, shape_by, IsJoinedRule, IsPrecedenceOf};
 ghost use Rattle.ly_join.specs.Joined.{IsRulePrecedence, IsSymbol, IsTerminal};
 ghost use Rattle.ly_join.specs.Private.Rules.{table_from, AreCovered, AreJoinedWithin, HasLiteral, IsBelow};
-ghost use Rattle.ly_join.specs.Private.Rules.{IsFaultOfRules, IsRuleFault, IsTokenOnLeft, IsUndefinedIn};
+ghost use Rattle.ly_join.specs.Private.Rules.{IsFaultOfRules, IsLeftSide, IsRuleFault, IsTokenOnLeft, IsUndefinedIn};
 ghost use Rattle.ly_join.specs.Private.Rules.{IsUnknownPrecIn};
 
 use crate::fault::JoinFault;
@@ -44,6 +44,15 @@ pub(crate) struct SymbolTable<'t> {
     pub(crate) precedences: Vec<Option<Precedence>>,
 }
 
+/// A left side that has been looked up.
+#[derive(Clone, Copy)]
+struct LeftSide<'t> {
+    /// Its name.
+    name: &'t [u8],
+    /// Its number.
+    number: Sym,
+}
+
 /// The rules over numbered symbols, and what each says beside them, rule 0 among these. Of more than `most`, which are
 /// refused in the end, no more than `most` are kept: the others are joined for their faults alone.
 pub(crate) fn join_rules(
@@ -63,8 +72,13 @@ pub(crate) fn join_rules(
         precedence: None,
         tree: RuleTree::Pass(1),
     })?;
+    let mut last = None;
     for production in productions {
-        let (rule, note) = join_rule(alloc, table, production)?;
+        let (rule, note) = join_rule(alloc, table, production, last)?;
+        last = Some(LeftSide {
+            name: &production.left,
+            number: rule.left(),
+        });
         if rules.len() < most {
             rules.push(rule)?;
             notes.push(note)?;
@@ -73,33 +87,47 @@ pub(crate) fn join_rules(
     Ok((rules, notes))
 }
 
-/// A rule over numbered symbols, and what it says beside them.
+/// A rule over numbered symbols, and what it says beside them, behind a rule of this left side.
 fn join_rule(
     alloc: Global,
     table: &SymbolTable<'_>,
     production: &Production,
+    last: Option<LeftSide<'_>>,
 ) -> Result<(GrammarRule, RuleNote), JoinFault>
-    requires { AreCovered (table_from table.now) (ruling_of production.now ∷ []) }
+    requires covered { AreCovered (table_from table.now) (ruling_of production.now ∷ []) }
+    requires last { IfSome last (IsLeftSide (table_from table.now)) }
     ensures ok { IfOk result (λ found.
         IsJoinedRule (table_from table.now) (ruling_of production.now) found.0 (note_of found.1)) }
     ensures apart { IfOk result (λ found.
         Contains table.now.terminals (token_terminal (ruling_of production.now).left) → ⊥) }
     ensures fault { IfErr result (IsRuleFault (table_from table.now) (ruling_of production.now)) }
 {
-    let left = left_side(alloc, table, &production.left)?;
+    let left = left_side(alloc, table, &production.left, last)?;
     let body = join_body(alloc, table, &production.body)?;
     let precedence = rule_precedence(alloc, table, production, &body)?;
     let tree = rule_tree(alloc, &production.action, &body)?;
     Ok((GrammarRule::new(left, body), RuleNote { precedence, tree }))
 }
 
-/// The number of a left side, which may be no token.
-fn left_side(alloc: Global, table: &SymbolTable<'_>, name: &[u8]) -> Result<Sym, JoinFault>
-    requires { Contains table.now.nonterminals name.now }
+/// The number of a left side, which may be no token, behind a rule of the other one. It is looked up where its name isn't
+/// the same.
+fn left_side(
+    alloc: Global,
+    table: &SymbolTable<'_>,
+    name: &[u8],
+    last: Option<LeftSide<'_>>,
+) -> Result<Sym, JoinFault>
+    requires there { Contains table.now.nonterminals name.now }
+    requires last { IfSome last (IsLeftSide (table_from table.now)) }
     ensures ok { IfOk result (λ left. slice_get table.now.nonterminals left.0 ≡ Some name.now) }
     ensures apart { IfOk result (λ left. Contains table.now.terminals (token_terminal name.now) → ⊥) }
     ensures fault { IfErr result (IsTokenOnLeft (table_from table.now) name.now) }
 {
+    if let Some(side) = last
+        && side.name == name
+    {
+        return Ok(side.number);
+    }
     if table.terminals.token(name).is_some() {
         return Err(JoinFault::TokenOnLeft(Vec::from_slice(alloc, name)?));
     }

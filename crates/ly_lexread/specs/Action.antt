@@ -1,5 +1,6 @@
 -- What an action does.
 use Rattle.std.specs.Prelude.{◌≡◌, ℕ, List, [], ◌∷◌, Option, None}
+use Rattle.std.specs.Rc.{rc_slice_items}
 use Rattle.ly_lexread.specs.declared.action.LexAction.{LexAction}
 use Rattle.ly_lexread.specs.declared.action.Returned.{Returned}
 use Rattle.ly_lexread.specs.declared.action.Returned.TheVariants.{Nothing, Token, Literal, FirstByte}
@@ -14,7 +15,7 @@ pub data Meaning : Type 0 where
 -- what is returned, whatever room its name has
 abbrev pub meaning_of : Returned → Meaning
 meaning_of Nothing = nothing
-meaning_of (Token n) = token n.items
+meaning_of (Token n) = token (rc_slice_items n)
 meaning_of (Literal b) = literal_of b
 meaning_of FirstByte = first_byte
 

@@ -18,6 +18,7 @@ use crate::statement::{Extent, Statement, Value, read_statement};
 use crate::words::next_word;
 use ly_base::{Language, after_gap};
 use std::alloc::{AllocError, Global};
+use std::rc::RcSlice;
 
 /// What a rule's action does.
 #[derive(Drop)]
@@ -33,8 +34,8 @@ pub struct LexAction {
 pub enum Returned {
     /// None: the text is passed over.
     Nothing,
-    /// The token of this name.
-    Token(Vec<u8>),
+    /// The token of this name, which is held once for the rules that share the action.
+    Token(RcSlice<u8>),
     /// The literal of this byte.
     Literal(u8),
     /// The literal of the first byte of the text that was matched.
@@ -58,13 +59,13 @@ impl Returned {
         matches!(self, Returned::Nothing)
     }
 
-    /// The same, with room of its own.
-    fn copy(&self, alloc: Global) -> Result<Returned, AllocError>
+    /// The same.
+    fn share(&self) -> Result<Returned, AllocError>
         ensures { IfOk result (λ returned. meaning_of returned ≡ meaning_of self.now) }
     {
         match self {
             Returned::Nothing => Ok(Returned::Nothing),
-            Returned::Token(name) => Ok(Returned::Token(Vec::from_slice(alloc, name)?)),
+            Returned::Token(name) => Ok(Returned::Token(name.clone()?)),
             Returned::Literal(byte) => Ok(Returned::Literal(*byte)),
             Returned::FirstByte => Ok(Returned::FirstByte),
         }
@@ -72,12 +73,12 @@ impl Returned {
 }
 
 impl Value<'_> {
-    /// The token with room of its own.
+    /// The token, whose name has room of its own.
     fn returned(self, alloc: Global) -> Result<Returned, AllocError>
         ensures { IfOk result (λ returned. meaning_of returned ≡ value_meaning self.entry) }
     {
         match self {
-            Value::Name(name) => Ok(Returned::Token(Vec::from_slice(alloc, name)?)),
+            Value::Name(name) => Ok(Returned::Token(RcSlice::from_slice(alloc, name)?)),
             Value::Byte(byte) => Ok(Returned::Literal(byte)),
             Value::TextByte => Ok(Returned::FirstByte),
         }
@@ -95,13 +96,13 @@ impl LexAction {
         }
     }
 
-    /// The same, with room of its own.
-    pub(crate) fn copy(&self, alloc: Global) -> Result<LexAction, AllocError>
+    /// The same, whose token's name is held in common.
+    pub(crate) fn share(&self) -> Result<LexAction, AllocError>
         ensures { IfOk result (λ action. effect_of action ≡ effect_of self.now) }
     {
         Ok(LexAction {
             begin: self.begin,
-            returns: self.returns.copy(alloc)?,
+            returns: self.returns.share()?,
         })
     }
 

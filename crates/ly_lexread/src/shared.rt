@@ -20,7 +20,7 @@ pub(crate) fn share_actions(
         let action = match last {
             Said::Own(action) => action,
             Said::Next(_) => match actions.last() {
-                Some(next) => next.copy(alloc)?,
+                Some(next) => next.share()?,
                 None => return Ok(None),
             },
         };

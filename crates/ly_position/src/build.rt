@@ -50,6 +50,7 @@ pub fn positions(
     }
     let plan = write_out(alloc, rules, names)?;
     let program = compile(alloc, &plan)?;
+    drop(plan);
     Ok(assemble(alloc, rules, conditions, &program)?)
 }
 

@@ -120,7 +120,7 @@ impl<'a> Numbered<'a> {
             if let Returned::Token(name) = &action.returns {
                 actions.push(LexAction {
                     begin: None,
-                    returns: Returned::Token(self.short(alloc, name)?),
+                    returns: Returned::Token(RcSlice::from_vec(self.short(alloc, name)?)?),
                 })?;
             }
         }

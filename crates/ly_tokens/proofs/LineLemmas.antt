@@ -2,6 +2,7 @@
 use Rattle.std.proofs.Common.{◌≡◌, ◌<◌, ◌≤◌, ◌+◌, ◌*◌, ℕ, zero, suc, List, [], ◌∷◌, All, length}
 use Rattle.std.proofs.Common.{◌∙◌, ◌-◌, ap, arith, drop, length-drop, length-take-le, sym, take}
 use Rattle.std.specs.Prelude.{slice_index}
+use Rattle.std.specs.Rc.{rc_slice_items}
 use Rattle.std.proofs.Math.Nat.{add-mul}
 use Rattle.ly_print.proofs.RoomLemmas.{line_len}
 use Rattle.ly_print.specs.Text.{literal, token}
@@ -30,8 +31,8 @@ returned_len : (r : Returned) (longest : ℕ) (bytes : List ℕ) → name_len r 
 returned_len Nothing longest bytes named some = omega arith
 returned_len (Token name) longest bytes named some = omega (
   arith,
-  line_len (token name.items) bytes,
-  room_each (length bytes) longest (length name.items) some (omega (arith, named)),
+  line_len (token (rc_slice_items name)) bytes,
+  room_each (length bytes) longest (length (rc_slice_items name)) some (omega (arith, named)),
 )
 returned_len (Literal b) longest bytes named some = omega (
   arith,

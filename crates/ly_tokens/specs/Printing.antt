@@ -1,5 +1,6 @@
 -- What `tokens` writes: a line for each token, and a last one where no rule matches.
 use Rattle.std.specs.Prelude.{ℕ, List, [], slice_get, slice_index, Option, Some, None, option_and_then, flat_map}
+use Rattle.std.specs.Rc.{rc_slice_items}
 use Rattle.ly_base.specs.Lexed.{Token}
 use Rattle.ly_print.specs.Text.{Terminal, token, literal, leaf_line, no_rule_line}
 use Rattle.ly_base.specs.declared.lexeme.End.{End}
@@ -11,7 +12,7 @@ use Rattle.ly_lexread.specs.declared.action.Returned.TheVariants.{Nothing, Token
 -- the terminal that is returned for these bytes, if one is
 abbrev pub terminal_for : Returned → List ℕ → Option Terminal
 terminal_for Nothing bytes = None
-terminal_for (TokenOf name) bytes = Some (token name.items)
+terminal_for (TokenOf name) bytes = Some (token (rc_slice_items name))
 terminal_for (Literal b) bytes = Some (literal b)
 terminal_for FirstByte bytes = Some (literal (slice_index bytes 0))
 

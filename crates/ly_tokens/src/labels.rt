@@ -1,6 +1,8 @@
-ghost use Rattle.std.specs.Prelude.{◌≡◌, ◌<◌, ◌≤◌, ◌++◌, ℕ, List, length, IfOk, OnOk, option_map};
+ghost use Rattle.std.specs.Prelude.{◌≡◌, ◌<◌, ◌≤◌, ◌++◌, ℕ, List, length, IfOk, IfSome, OnOk, option_map};
 ghost use Rattle.std.specs.Prelude.{option_and_then, slice_get, slice_index};
+ghost use Rattle.std.specs.Bool.{OnTrue};
 ghost use Rattle.std.proofs.Props.{props};
+ghost use Rattle.ly_lexread.specs.Action.{meaning_of};
 ghost use Rattle.ly_print.specs.Text.{before_leaf, named};
 ghost use Rattle.ly_tokens.specs.Answering.{names_by};
 ghost use Rattle.ly_tokens.specs.Printing.{condition_set, naming};
@@ -47,8 +49,10 @@ impl<'a> RuleLabels<'a> {
         let mut labels = literal_labels(alloc)?;
         let mut numbers = Vec::with_capacity(alloc, actions.len())?;
         let mut facts = Vec::with_capacity(alloc, actions.len())?;
+        let mut before = None;
         for action in actions {
-            let number = number_of(alloc, &mut labels, &action.returns)?;
+            let number = number_of(alloc, &mut labels, &action.returns, before)?;
+            before = Some((&action.returns, number));
             numbers.push(number)?;
             facts.push(fact_of(action, number))?;
         }
@@ -128,22 +132,40 @@ fn fact_of(action: &LexAction, number: u32) -> u32
     }
 }
 
-/// The number of the label of the tokens that an action returns. An own one is added.
+/// The number of the label of the tokens that an action returns: that of the action before, where it returns the same
+/// name. An own one is added else.
 fn number_of(
     alloc: Global,
     labels: &mut Vec<Label>,
     returned: &Returned,
+    before: Option<(&Returned, u32)>,
 ) -> Result<u32, OutOfMemory>
-    requires { 256 ≤ length labels.old.items }
+    requires some { 256 ≤ length labels.old.items }
+    requires before { IfSome before (λ b. IsLabelOf labels.old.items b.0.now b.1) }
     ensures added { OnOk result ((more : List (List ℕ)) × (labels.new.items ≡ labels.old.items ++ more)) }
     ensures is { IfOk result (IsLabelOf labels.new.items returned.now) }
 {
+    if let Some((other, number)) = before
+        && is_same_token(other, returned)
+    {
+        return Ok(number);
+    }
     Ok(match returned {
         Returned::Nothing => NOTHING,
         Returned::Token(name) => own_label(alloc, labels, Terminal::Token(name))?,
         Returned::Literal(byte) => own_label(alloc, labels, Terminal::Literal(*byte))?,
         Returned::FirstByte => FIRST_BYTE,
     })
+}
+
+/// Whether both are the token of one name.
+fn is_same_token(one: &Returned, other: &Returned) -> bool
+    ensures { OnTrue result (meaning_of one.now ≡ meaning_of other.now) }
+{
+    match (one, other) {
+        (Returned::Token(name), Returned::Token(same)) => name.as_slice() == same.as_slice(),
+        _ => false,
+    }
 }
 
 /// Adds the label of a terminal, and answers its number.

@@ -14,6 +14,7 @@ use Rattle.ly_join.specs.declared.fault.JoinFault.{JoinFault}
 use Rattle.ly_join.specs.declared.fault.JoinFault.TheVariants.{UndefinedSymbol, TokenOnLeft, PrecedenceTwice}
 use Rattle.ly_join.specs.declared.fault.JoinFault.TheVariants.{ReturnUndeclared, PrecUnknown, OutOfMemory}
 use Rattle.ly_join.specs.declared.precedence.Precedence.{Precedence}
+use Rattle.ly_join.specs.declared.rule.LeftSide.{LeftSide}
 use Rattle.ly_join.specs.declared.rule.SymbolTable as code
 
 -- the members of the second list are in the first
@@ -75,6 +76,11 @@ abbrev pub IsUnknownPrecIn : SymbolTable → Option Word → JoinFault → Type 
 IsUnknownPrecIn m x (PrecUnknown n) = (x ≡ Some (name n.items)) × (Contains m.terminals (token n.items) → ⊥)
 IsUnknownPrecIn m x OutOfMemory = Unit {0}
 IsUnknownPrecIn m x _ = ⊥
+
+-- a left side has its number, and is no token
+abbrev pub IsLeftSide : SymbolTable → LeftSide → Type 0
+IsLeftSide m side = (slice_get m.nonterminals side.number.0 ≡ Some side.name.now)
+    × (Contains m.terminals (token side.name.now) → ⊥)
 
 -- what a fault says of a rule; want of memory says nothing
 abbrev pub IsRuleFault : SymbolTable → Ruling → JoinFault → Type 0

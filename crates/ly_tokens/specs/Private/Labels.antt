@@ -1,6 +1,7 @@
 -- The labels of tokens: what stands before their texts in their lines.
 use Rattle.std.specs.Prelude.{◌≡◌, ◌≢◌, ◌<◌, ℕ, List, slice_get, slice_index, Option, Some, None, get_or}
 use Rattle.std.specs.Prelude.{if◌then◌else◌, nat_eq, nat_le, option_and_then, option_map}
+use Rattle.std.specs.Rc.{rc_slice_items}
 use Rattle.ly_print.specs.Text.{before_leaf, literal, token}
 use Rattle.ly_lexread.specs.declared.action.LexAction.{LexAction}
 use Rattle.ly_lexread.specs.declared.action.Returned.{Returned}
@@ -14,7 +15,7 @@ IsOwn labels label number = (2 < number) × (slice_get labels number ≡ Some la
 -- the number of the label of the tokens that an action returns: 1 is that of none, 2 that of the first byte's literal
 abbrev pub IsLabelOf : List (List ℕ) → Returned → ℕ → Type 0
 IsLabelOf labels Nothing number = number ≡ 1
-IsLabelOf labels (Token name) number = IsOwn labels (before_leaf (token name.items)) number
+IsLabelOf labels (Token name) number = IsOwn labels (before_leaf (token (rc_slice_items name))) number
 IsLabelOf labels (Literal b) number = IsOwn labels (before_leaf (literal b)) number
 IsLabelOf labels FirstByte number = number ≡ 2
 

@@ -1,6 +1,7 @@
 -- The lines of a run from a place on, and how many bytes they have at most.
 use Rattle.std.specs.Prelude.{◌≡◌, ◌<◌, ◌≤◌, ◌+◌, ◌*◌, ◌^◌, ℕ, List, [], ◌++◌, All, Bool, Option, None, Some, true}
 use Rattle.std.specs.Prelude.{false, length}
+use Rattle.std.specs.Rc.{rc_slice_items}
 use Rattle.ly_base.specs.Lexed.{LexedTo, Lexed, Place, tokens_from}
 use Rattle.ly_base.specs.declared.lexeme.End.{End}
 use Rattle.ly_base.specs.declared.lexeme.Lexeme.{Lexeme}
@@ -48,7 +49,7 @@ is_passed a = is_no_effect a.begin a.returns
 
 -- how long the name of a token is that an action returns
 abbrev pub name_len : Returned → ℕ
-name_len (Token name) = length name.items
+name_len (Token name) = length (rc_slice_items name)
 name_len _ = 0
 
 -- how many bytes of lines a byte of a text has at most, where names have at most so many bytes

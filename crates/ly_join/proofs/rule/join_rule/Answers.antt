@@ -8,11 +8,11 @@ use Rattle.ly_join.proofs.rule.join_rule.Goals as goal
 pub join_body-requires : goal.join_body-requires
 join_body-requires c =
     subst (λ xs. All (HasLiteral c.args.table.now.terminals) (map symbol_word xs)) (sym c.deref-2.ensures.value)
-    (body_literals (table_from c.args.table.now) (ruling_of c.args.production.now) c.requires)
+    (body_literals (table_from c.args.table.now) (ruling_of c.args.production.now) c.requires.covered)
 
 pub rule_precedence-requires-clause-literal : goal.rule_precedence-requires-clause-literal
 rule_precedence-requires-clause-literal c =
-    prec_literals (table_from c.args.table.now) (ruling_of c.args.production.now) c.requires
+    prec_literals (table_from c.args.table.now) (ruling_of c.args.production.now) c.requires.covered
 
 pub rule_precedence-requires-clause-within : goal.rule_precedence-requires-clause-within
 rule_precedence-requires-clause-within c =

@@ -15,6 +15,7 @@ loop-action-preserved c =
           now.numbers.items now.facts.items _ _ c.action-item.result c.in_ok-number.number c.fact_of.result
           c.loop-action-test.true c.action-item.is added.1 c.in_ok-push.ensures.items c.in_ok-push-2.ensures.items
           now.invariant.numbered c.in_ok-number.ensures.is c.fact_of.ensures;
+      before = c.in_ok-number.ensures.is;
     }
 
 pub invariant_of-result : goal.invariant_of-result
