@@ -546,7 +546,7 @@ alone_at yacc None (Some file) strict expected form i j format count says alone 
     absurd (true≢false (ap is_some alone.1))
 
 -- whether an answer is one of JSON
-is_json : AnswerForm → Bool
+abbrev is_json : AnswerForm → Bool
 is_json Json = true
 is_json Plain = false
 
@@ -583,9 +583,9 @@ explain_at lex yacc None None false expected Json i j format (Some count) says a
 explain_at lex yacc states graph true expected form i j format count says (inl plain) paths r =
     absurd (true≢false plain.0)
 explain_at lex yacc states graph false expected form i j format (Some count) says (inl plain) paths r =
-    absurd (true≢false (ap is_some plain.1.0))
+    absurd (true≢false (ap is_some plain.1))
 explain_at lex yacc states graph false None Json i j format None says (inl plain) paths r =
-    absurd (true≢false (ap is_json plain.1.1))
+    absurd (true≢false (ap is_json plain.2))
 explain_at lex yacc (Some file) graph strict expected form i j format count says (inr alone) paths r =
     absurd (true≢false (ap is_some alone.0))
 explain_at lex yacc None (Some file) strict expected form i j format count says (inr alone) paths r =
