@@ -1,6 +1,6 @@
 -- What the runs of an edge come to, by the rules of its state on top.
 use Rattle.std.proofs.Common.{◌≡◌, ◌∙◌, inl, inr, ℕ, ◌+◌, ◌<◌, ◌≤◌, List, [], ◌∷◌, ◌++◌, Some, None}
-use Rattle.std.proofs.Common.{Contains, ap, arith, refl, subst, sym}
+use Rattle.std.proofs.Common.{Contains, ap, arith, drop, refl, subst, sym}
 use Rattle.std.specs.Global.{Vec}
 use Rattle.ly_base.proofs.ListLemmas.{All-at}
 use Rattle.ly_base.specs.declared.numbers.RuleNo.{RuleNo}
@@ -18,7 +18,7 @@ use Rattle.ly_loop.specs.Private.Known.{AreKnown, IsKept, IsLonger, IsLookup, Is
 use Rattle.ly_loop.specs.Private.Known.{Summaries}
 use Rattle.ly_loop.specs.Private.Summary.{ComesTo, EndsSo, IsAllowed, IsBehind, IsGone, IsLeaving, IsLeft, IsSummary}
 use Rattle.ly_loop.specs.Private.Summary.{IsJoined, IsSummaryBy, IsSummaryByAll, IsOver}
-use Rattle.ly_loop.specs.Private.Reductions.{AreAllReductions, AreReductions}
+use Rattle.ly_loop.specs.Private.Reductions.{AreAllReductions, AreReductions, EndsAtOnce}
 use Rattle.ly_loop.specs.declared.known.Edge.{Edge}
 use Rattle.ly_loop.specs.declared.known.Lookup.{Lookup}
 use Rattle.ly_loop.specs.declared.known.Lookup.TheVariants.{Known, Unknown, Wanted}
@@ -38,16 +38,34 @@ unreduced_over m t top rest (reduce p) is not = absurd (not p refl)
 unreduced_over m t top rest accept is not = (accepts, λ more. ap (perform m ((top ∷ rest) ++ more)) is)
 unreduced_over m t top rest error is not = (refuses, λ more. ap (perform m ((top ∷ rest) ++ more)) is)
 
+-- nor does a reduction of nothing that leads nowhere lead on
+at_once_over : (m : Machine) (t top : ℕ) (rest : List ℕ) (p : ℕ) → action_of m top t ≡ reduce p → EndsAtOnce m top p
+    → IsOver m t (top ∷ rest)
+at_once_over m t top rest p by e = popping_over m t (top ∷ rest) top rest (e.0.left) (record {
+  number = p;
+  rule = e.0;
+  reduces = by;
+  is_rule = e.1;
+  left_side = refl;
+  popped = ap (λ n. drop n (top ∷ rest)) e.2;
+}) e.3
+
 -- above a state that doesn't reduce
 unreduced_summary : (m : Machine) (k : Tokens) (below top : ℕ) (row : List RuleNo) (o : Summary)
     → AreReductions m top row → row ≡ [] → o.most ≡ 0 → o.ending ≡ Over → IsSummary m k below top o
 unreduced_summary m k below top row o are none most ending = record {
   allowed = record { low = omega (arith, most); left = subst (IsLeft m) (sym ending) tt };
-  runs = λ t known. comes_over m t (top ∷ below ∷ []) o
-      (unreduced_over m t top (below ∷ []) (action_of m top t) refl (λ p is.
-      let r = are.whole t p is in
-      let has : Contains [] r.0 = subst (λ rs. Contains rs r.0) none r.1 in absurd (omega (arith, has.1))));
+  runs = λ t known. comes_over m t (top ∷ below ∷ []) o (over t (action_of m top t) refl);
 }
+  where
+    over : (t : ℕ) (a : TableAction) → action_of m top t ≡ a → IsOver m t (top ∷ below ∷ [])
+    over t (shift s) is = unreduced_over m t top (below ∷ []) (shift s) is (λ p e. absurd (cc))
+    over t (reduce p) is = elim (are.whole t p is) [
+      | inl r ↦ let has : Contains [] r.0 = subst (λ rs. Contains rs r.0) none r.1 in absurd (omega (arith, has.1))
+      | inr e ↦ at_once_over m t top (below ∷ []) p is e
+    ]
+    over t accept is = unreduced_over m t top (below ∷ []) accept is (λ p e. absurd (cc))
+    over t error is = unreduced_over m t top (below ∷ []) error is (λ p e. absurd (cc))
 
 -- what is looked up is true
 pub kept_is : (m : Machine) (k : Tokens) (reductions : List (Vec RuleNo)) (summaries : Summaries)
@@ -212,8 +230,10 @@ all_is m k below top rules o are is = record {
     by_action t known (shift s) a =
         comes_over m t (top ∷ below ∷ []) o (unreduced_over m t top (below ∷ []) (shift s) a (λ p e. absurd (cc)))
     by_action t known (reduce p) a =
-        let r = are.whole t p a in
-        is.runs t r.0 known r.1 (a ∙ ap reduce (sym r.2))
+        elim (are.whole t p a) [
+          | inl r ↦ is.runs t r.0 known r.1 (a ∙ ap reduce (sym r.2))
+          | inr e ↦ comes_over m t (top ∷ below ∷ []) o (at_once_over m t top (below ∷ []) p a e)
+        ]
     by_action t known accept a =
         comes_over m t (top ∷ below ∷ []) o (unreduced_over m t top (below ∷ []) accept a (λ p e. absurd (cc)))
     by_action t known error a =

@@ -1,5 +1,5 @@
 -- The rules by which states reduce, as rows list them.
-use Rattle.std.proofs.Common.{◌≡◌, ◌∙◌, inl, inr, ◌++◌, ◌∷◌, [], ℕ, List, Option, Some, None, Contains}
+use Rattle.std.proofs.Common.{◌≡◌, ◌∙◌, ◌⊎◌, inl, inr, ◌++◌, ◌∷◌, [], ℕ, List, Option, Some, None, Contains}
 use Rattle.std.proofs.Common.{ap, arith, eqb-true, false, length, refl, slice_get, subst, sym, true}
 use Rattle.std.specs.Prelude.{nat_eq}
 use Rattle.std.specs.List.{list_any}
@@ -18,7 +18,7 @@ use Rattle.ly_pack.specs.declared.cell.Cell.{Cell}
 use Rattle.ly_pack.proofs.OrderLemmas.{slice_get-push_cases}
 use Rattle.ly_pack.proofs.LegalLemmas.{legal_reduction}
 use Rattle.ly_loop.specs.Private.Entries.{AreEntries}
-use Rattle.ly_loop.specs.Private.Reductions.{AreReductions, AreSeen, IsIn, IsNoted}
+use Rattle.ly_loop.specs.Private.Reductions.{AreReducing, AreReductions, AreSeen, EndsAtOnce, IsIn, IsKeptOn, IsNoted}
 
 in_push : (row : List RuleNo) (r : RuleNo) (n : ℕ) → IsIn row n → IsIn (row ++ r ∷ []) n
 in_push row r n is = (is.0, Contains-append_left row (r ∷ []) is.0 is.1, is.2)
@@ -138,7 +138,7 @@ reduce_from Error p e = absurd (cc)
 
 -- the row of all entries
 pub row_whole : (m : Machine) (state : ℕ) (entries : List (Cell code.TableAction)) (seen : List ℕ) (row : List RuleNo)
-    → AreEntries m state entries → IsRow m state entries seen row → AreReductions m state row
+    → AreEntries m state entries → IsRow m state entries seen row → AreReducing m state row
 row_whole m state entries seen row are is = record {
   rules = is.rules;
   whole = λ t p action. by_entry t p (entry_at m state t) refl action;
@@ -185,3 +185,54 @@ pub at_join : (m : Machine) (state : ℕ) (entries : List (Cell code.TableAction
     → IsRow m state entries seen' row'
 at_join m state entries seen seen' row row' e0 e1 is =
     subst (λ s. IsRow m state entries s row') (sym e0) (subst (IsRow m state entries seen) (sym e1) is)
+
+-- The rules of a row so far are kept, but for those by which a run ends at once.
+pub record AreKeptOn (m : Machine) (state : ℕ) (row kept : List RuleNo) : Type 0 where
+  pub rules : (r : RuleNo) → Contains kept r → IsRuleNumber m r.0
+  pub whole : (r : RuleNo) → Contains row r → Contains kept r ⊎ EndsAtOnce m state r.0
+
+pub kept_none : (m : Machine) (state : ℕ) → AreKeptOn m state [] []
+kept_none m state = record {
+  rules = λ r h. absurd (omega (arith, h.1));
+  whole = λ r h. absurd (omega (arith, h.1));
+}
+
+pub kept_more : (m : Machine) (state : ℕ) (row kept : List RuleNo) (rule : RuleNo) (new : List RuleNo)
+    → IsRuleNumber m rule.0 → AreKeptOn m state row kept → IsKeptOn m state rule kept new
+    → AreKeptOn m state (row ++ rule ∷ []) new
+kept_more m state row kept rule new known was (inl pushed) = record {
+  rules = λ r h. elim (Contains-push_cases kept rule r (subst (λ rs. Contains rs r) pushed h)) [
+    | inl old ↦ was.rules r old
+    | inr same ↦ subst (λ (x : RuleNo). IsRuleNumber m x.0) same known
+  ];
+  whole = λ r h. elim (Contains-push_cases row rule r h) [
+    | inl old ↦ elim (was.whole r old) [
+      | inl there ↦ inl (subst (λ rs. Contains rs r) (sym pushed) (Contains-append_left kept (rule ∷ []) r there))
+      | inr ends ↦ inr ends
+    ]
+    | inr same ↦ inl (subst (λ rs. Contains rs r) (sym pushed)
+        (subst (λ x. Contains (kept ++ rule ∷ []) x) same (Contains-push kept rule)))
+  ];
+}
+kept_more m state row kept rule new known was (inr left) = record {
+  rules = λ r h. was.rules r (subst (λ rs. Contains rs r) left.0 h);
+  whole = λ r h. elim (Contains-push_cases row rule r h) [
+    | inl old ↦ elim (was.whole r old) [
+      | inl there ↦ inl (subst (λ rs. Contains rs r) (sym left.0) there)
+      | inr ends ↦ inr ends
+    ]
+    | inr same ↦ inr (subst (λ (x : RuleNo). EndsAtOnce m state x.0) same left.1)
+  ];
+}
+
+pub kept_all : (m : Machine) (state : ℕ) (row kept : List RuleNo) → AreReducing m state row
+    → AreKeptOn m state row kept → AreReductions m state kept
+kept_all m state row kept are is = record {
+  rules = is.rules;
+  whole = λ t p action.
+      let found = are.whole t p action in
+      elim (is.whole found.0 found.1) [
+        | inl there ↦ inl (found.0, there, found.2)
+        | inr ends ↦ inr (subst (EndsAtOnce m state) found.2 ends)
+      ];
+}

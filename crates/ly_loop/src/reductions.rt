@@ -1,15 +1,16 @@
 //! The rules by which states reduce: above an edge to a state that has none no run makes a reduction.
 ghost use Rattle.std.specs.Prelude.{◌≡◌, ◌+◌, ◌<◌, IfOk, OnOk, length};
-ghost use Rattle.ly_pack.specs.Machine.{states_of};
+ghost use Rattle.ly_pack.specs.Machine.{IsRuleNumber, states_of};
 ghost use Rattle.ly_loop.specs.Private.Entries.{AreAllEntries, AreEntries};
-ghost use Rattle.ly_loop.specs.Private.Reductions.{AreAllReductions, AreReductions, IsNoted};
+ghost use Rattle.ly_loop.specs.Private.Reductions.{AreAllReductions, AreReducing, AreReductions, IsKeptOn, IsNoted};
 ghost use Rattle.ly_loop.specs.Private.Run.{IsCountable};
 
 use ly_base::{OutOfMemory, RuleNo, SparseSet, StateNo};
 use ly_pack::{Cell, MachineView, Rows, TableAction};
 use std::alloc::Global;
 
-/// The rules by which each state reduces before some terminal, by its entries or by its default.
+/// The rules by which each state reduces before some terminal, by its entries or by its default, but for those by which a
+/// run ends at once.
 pub(crate) fn all_reductions<A: Rows<TableAction> + Drop, G: Rows<StateNo> + Drop>(
     alloc: Global,
     machine: &MachineView<'_, A, G>,
@@ -22,14 +23,10 @@ pub(crate) fn all_reductions<A: Rows<TableAction> + Drop, G: Rows<StateNo> + Dro
     let mut seen = SparseSet::new(alloc, machine.rules().len() + 1)?;
     let mut rows = Vec::with_capacity(alloc, entries.len())?;
     for state in 0..machine.states() {
-        let row = reductions(
-            alloc,
-            machine,
-            StateNo(state as u32),
-            &entries[state],
-            &mut seen,
-        )?;
-        rows.push(row)?;
+        let number = StateNo(state as u32);
+        let row = reductions(alloc, machine, number, &entries[state], &mut seen)?;
+        let kept = without_ends(alloc, machine, number, &row)?;
+        rows.push(kept)?;
     }
     Ok(rows)
 }
@@ -47,7 +44,7 @@ fn reductions<A: Rows<TableAction> + Drop, G: Rows<StateNo> + Drop>(
     requires entries { AreEntries machine.now state.0 entries.now }
     requires room { seen.old.below ≡ length machine.now.rules + 1 }
     ensures room { OnOk result (seen.new.below ≡ length machine.now.rules + 1) }
-    ensures row { IfOk result (λ row. AreReductions machine.now state.0 row.items) }
+    ensures row { IfOk result (λ row. AreReducing machine.now state.0 row.items) }
 {
     seen.clear();
     let mut row = Vec::new(alloc);
@@ -60,6 +57,46 @@ fn reductions<A: Rows<TableAction> + Drop, G: Rows<StateNo> + Drop>(
         }
     }
     Ok(row)
+}
+
+/// Those of the rules by which a state reduces that may lead on.
+fn without_ends<A: Rows<TableAction> + Drop, G: Rows<StateNo> + Drop>(
+    alloc: Global,
+    machine: &MachineView<'_, A, G>,
+    state: StateNo,
+    row: &[RuleNo],
+) -> Result<Vec<RuleNo>, OutOfMemory>
+    requires countable { IsCountable machine.now }
+    requires state { state.0 < states_of machine.now }
+    requires row { AreReducing machine.now state.0 row.now }
+    ensures { IfOk result (λ kept. AreReductions machine.now state.0 kept.items) }
+{
+    let mut kept = Vec::new(alloc);
+    for rule in row {
+        keep(machine, state, *rule, &mut kept)?;
+    }
+    Ok(kept)
+}
+
+/// Adds a rule by which a state reduces to a row if it may lead on: it has symbols, or the state has a goto for its left
+/// side.
+fn keep<A: Rows<TableAction> + Drop, G: Rows<StateNo> + Drop>(
+    machine: &MachineView<'_, A, G>,
+    state: StateNo,
+    rule: RuleNo,
+    kept: &mut Vec<RuleNo>,
+) -> Result<(), OutOfMemory>
+    requires countable { IsCountable machine.now }
+    requires state { state.0 < states_of machine.now }
+    requires rule { IsRuleNumber machine.now rule.0 }
+    ensures { OnOk result (IsKeptOn machine.now state.0 rule kept.old.items kept.new.items) }
+{
+    let made = machine.rule(rule);
+    if made.body_length == 0 && machine.goto(state, made.left).is_none() {
+        return Ok(());
+    }
+    kept.push(rule)?;
+    Ok(())
 }
 
 /// Adds a rule to a row if it wasn't seen before.

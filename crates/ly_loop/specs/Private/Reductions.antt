@@ -1,16 +1,31 @@
 -- The rules by which states reduce.
-use Rattle.std.specs.Prelude.{◌≡◌, ◌⊎◌, ℕ, List, length, Some, Contains, nat_eq, slice_get, true}
+use Rattle.std.specs.Prelude.{◌≡◌, ◌⊎◌, ◌++◌, ◌∷◌, [], ℕ, List, length, None, Some, Contains, nat_eq, slice_get, true}
 use Rattle.std.specs.List.{list_any}
 use Rattle.std.specs.Global.{Vec}
 use Rattle.ly_base.specs.declared.numbers.RuleNo.{RuleNo}
-use Rattle.ly_pack.specs.Machine.{IsRuleNumber, Machine, action_of, reduce, states_of}
+use Rattle.ly_pack.specs.Machine.{IsRuleNumber, Machine, TableRule, action_of, goto_at, reduce, states_of}
+use Rattle.ly_pack.specs.Steady.{rule_at}
 
 -- The rules by which a state reduces.
-pub record AreReductions (m : Machine) (state : ℕ) (row : List RuleNo) : Type 0 where
+pub record AreReducing (m : Machine) (state : ℕ) (row : List RuleNo) : Type 0 where
   pub rules : (r : RuleNo) → Contains row r → IsRuleNumber m r.0
   pub whole : (t p : ℕ) → action_of m state t ≡ reduce p → (r : RuleNo) × Contains row r × (r.0 ≡ p)
 
--- For each state the rules by which it reduces.
+-- the rule has no symbols, and the state has no goto for its left side: a run ends there, whatever lies below
+abbrev pub EndsAtOnce : Machine → ℕ → ℕ → Type 0
+EndsAtOnce m state p = (r : TableRule) × (rule_at m p ≡ Some r) × (r.body_length ≡ 0) × (None ≡ goto_at m state r.left)
+
+-- The rules by which a state reduces, but for some by which a run ends at once.
+pub record AreReductions (m : Machine) (state : ℕ) (row : List RuleNo) : Type 0 where
+  pub rules : (r : RuleNo) → Contains row r → IsRuleNumber m r.0
+  pub whole : (t p : ℕ) → action_of m state t ≡ reduce p
+      → ((r : RuleNo) × Contains row r × (r.0 ≡ p)) ⊎ EndsAtOnce m state p
+
+-- a rule is kept, or a run ends by it at once
+abbrev pub IsKeptOn : Machine → ℕ → RuleNo → List RuleNo → List RuleNo → Type 0
+IsKeptOn m state rule old new = (new ≡ old ++ rule ∷ []) ⊎ ((new ≡ old) × EndsAtOnce m state rule.0)
+
+-- For each state the rules by which it reduces, but for some by which a run ends at once.
 pub record AreAllReductions (m : Machine) (rows : List (Vec RuleNo)) : Type 0 where
   pub count : length rows ≡ states_of m
   pub each : (state : ℕ) (row : Vec RuleNo) → slice_get rows state ≡ Some row → AreReductions m state row.items
