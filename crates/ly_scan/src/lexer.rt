@@ -5,10 +5,10 @@ ghost use Rattle.ly_scan.specs.Facts.{fact_by, facts_by, IsTold};
 ghost use Rattle.ly_scan.specs.KnownWalks.{AreKnown};
 ghost use Rattle.ly_scan.specs.Lexers.{scanner_of, IsUnderwayAt};
 ghost use Rattle.ly_scan.specs.Pieces.{behind, EndsFast, IsUndecided, PassesOver, StandsFast};
-ghost use Rattle.ly_scan.specs.StateTable.{ahead_at, ahead_in, StandsIn};
+ghost use Rattle.ly_scan.specs.StateTable.{ahead_in, StandsIn};
 
 use crate::known_walks::KnownWalks;
-use crate::lexeme::next_lexeme;
+use crate::lexeme::{line_at, next_lexeme};
 use crate::lone_bytes::LoneBytes;
 use crate::matcher::Matcher;
 use crate::matching::walk_on;
@@ -117,7 +117,8 @@ impl Lexer {
         if place.condition() != 0 || known.reaches(rest.len()) {
             return None;
         }
-        let start = self.start_at(place)?;
+        let line = line_at(&self.scanner, place);
+        let start = self.scanner.start(0, line)?;
         let (taken, at) = walk_on(&self.scanner, start, rest);
         if taken == 0 || taken == rest.len() {
             return None;
@@ -127,19 +128,6 @@ impl Lexer {
             return None;
         }
         Some(Told { fact, taken })
-    }
-
-    /// Where a walk begins at a place, in the initial condition, if it does.
-    #[inline(always)] // as `tell`
-    fn start_at(&self, place: &Place<'_>) -> Option<RowStart>
-        ensures stands { IfSome result (StandsIn self.now.scanner) }
-        ensures there { IfSome result (λ at. (text : List ℕ) → ahead_at self.now.scanner at text
-            ≡ (scanner_of self.now.scanner).walk 0 place.now.line text) }
-    {
-        if let Some(start) = self.scanner.anywhere() {
-            return Some(start);
-        }
-        self.scanner.start(0, place.at_line_start())
     }
 
     /// The match at a place where the bytes that are left don't decide it: all of them have come.

@@ -1,5 +1,5 @@
 ghost use Rattle.std.specs.Bool.{OnTrue};
-ghost use Rattle.std.specs.Prelude.{◌≡◌, ◌<◌, ℕ, Bool, List, Some, false, length, IfSome, All, option_map};
+ghost use Rattle.std.specs.Prelude.{◌≡◌, ◌<◌, ℕ, Some, false, length, IfSome, All, option_map};
 ghost use Rattle.ly_base.specs.declared.cut.Cut.TheVariants.{Whole};
 ghost use Rattle.ly_scan.specs.StateRows.{state_at, Begins};
 ghost use Rattle.ly_scan.specs.StateTable.{ahead_at, ahead_in, cut_at, start_at, states_of, table_from};
@@ -19,8 +19,6 @@ pub struct Scanner {
     parts: ScannerParts,
     /// Where the initial condition begins elsewhere than at the start of a line.
     initial: Option<RowStart>,
-    /// Where it begins everywhere, if it begins at the start of a line as elsewhere.
-    anywhere: Option<RowStart>,
     /// Whether a condition may begin in another state at the start of a line than elsewhere.
     lines: bool,
     /// Whether no rule is known to have a cut, so that none is looked up.
@@ -35,7 +33,7 @@ impl Model for Scanner {
 
     ghost view = { λ s. table_from s.parts };
 
-    ghost invariant = { λ s. IsKnown (table_from s.parts) s.initial s.anywhere s.lines s.uncut };
+    ghost invariant = { λ s. IsKnown (table_from s.parts) s.initial s.lines s.uncut };
 }
 
 impl Scanner {
@@ -46,7 +44,6 @@ impl Scanner {
     {
         Scanner {
             initial: start_of(&parts, 0, false),
-            anywhere: start_anywhere(&parts),
             lines: minds_lines(&parts),
             uncut: is_uncut(&parts),
             parts,
@@ -58,15 +55,6 @@ impl Scanner {
         ensures { result.now ≡ self.now.rules }
     {
         &self.parts.rules
-    }
-
-    /// Where a walk begins in the initial condition, at the start of a line or not, if that is one state.
-    pub(crate) fn anywhere(&self) -> Option<RowStart>
-        ensures stands { IfSome result (StandsIn self.now) }
-        ensures there { IfSome result (λ at. (line : Bool) (text : List ℕ)
-            → ahead_at self.now at text ≡ state_walk (states_of self.now) 0 line text) }
-    {
-        self.anywhere
     }
 
     /// Where a walk begins, looked up.
@@ -149,18 +137,6 @@ fn start_of(parts: &ScannerParts, condition: u32, at_line_start: bool) -> Option
         start.elsewhere
     };
     state.map(|state| RowStart::of(state.0))
-}
-
-/// Where the initial condition begins, at the start of a line or not, if that is one state.
-fn start_anywhere(parts: &ScannerParts) -> Option<RowStart>
-    ensures is { IfSome result (λ at. (line : Bool) → start_at (table_from parts.now) 0 line ≡ Some (state_at at)) }
-    ensures begins { IfSome result Begins }
-{
-    let elsewhere = start_of(parts, 0, false)?;
-    if start_of(parts, 0, true)? == elsewhere {
-        return Some(elsewhere);
-    }
-    None
 }
 
 /// Whether a condition begins in another state at the start of a line than elsewhere.

@@ -1,4 +1,4 @@
-use Rattle.std.proofs.Common.{◌≡◌, ◌∙◌, ◌+◌, ◌++◌, ℕ, List, ap, arith, get_or, length, refl, subst, sym, take}
+use Rattle.std.proofs.Common.{◌≡◌, ◌∙◌, ◌+◌, ◌++◌, ap, arith, get_or, length, subst, sym, take}
 use Rattle.ly_scan.proofs.FactLemmas.{is_told}
 use Rattle.ly_scan.specs.Facts.{IsTold, facts_by}
 use Rattle.ly_scan.specs.Lexers.{Lexer, scanner_of}
@@ -17,12 +17,10 @@ returns-clause-told c = λ by_rule all.
     let left = c.rest-rest.ensures in
     let told : Told = record { fact = get_or facts c.state.result 0; taken = walked.result.0 } in
     subst (λ (l : Lexer). IsTold (scanner_of l.scanner) by_rule q told) c.self.view_is
-    (is_told t q q.line start at by_rule facts told
+    (is_told t q c.line_at-line.result start at by_rule facts told
     (subst (λ (l : Lexer). facts ≡ facts_by l.scanner by_rule) (sym c.self.view_is) all)
     walked.ensures.stands.1 (ap (λ k. get_or facts k 0) (sym c.state.ensures)) c.if-fact-eq0.false
-    (sym c.condition.ensures ∙ c.if-condition-ne0.false) refl
-    (subst (λ (l : Lexer). (text : List ℕ) → ahead_at l.scanner start text
-    ≡ (scanner_of l.scanner).walk 0 q.line text) (sym c.self.view_is) c.in_ok-start.ensures.there)
+    (sym c.condition.ensures ∙ c.if-condition-ne0.false) (c.line_at-line.ensures 0) c.in_ok-start.ensures.there
     (omega (arith, c.if-taken-eq0.false))
     (omega (arith, c.if-taken-rest.false, walked.ensures.within, ap length left))
     (λ text. walked.ensures.ahead text ∙ ap (λ b. ahead_at t start (take walked.result.0 b ++ text)) left)
