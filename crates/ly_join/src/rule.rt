@@ -109,8 +109,8 @@ fn join_rule(
     Ok((GrammarRule::new(left, body), RuleNote { precedence, tree }))
 }
 
-/// The number of a left side, which may be no token, behind a rule of the other one. It is looked up where its name isn't
-/// the same.
+/// The number of a left side, which may be no token, behind a rule of the other one. It is looked up where its name
+/// isn't the same.
 fn left_side(
     alloc: Global,
     table: &SymbolTable<'_>,

@@ -9,8 +9,8 @@ use ly_base::{OutOfMemory, RuleNo, SparseSet, StateNo};
 use ly_pack::{Cell, MachineView, Rows, TableAction};
 use std::alloc::Global;
 
-/// The rules by which each state reduces before some terminal, by its entries or by its default, but for those by which a
-/// run ends at once.
+/// The rules by which each state reduces before some terminal, by its entries or by its default, but for those by which
+/// a run ends at once.
 pub(crate) fn all_reductions<A: Rows<TableAction> + Drop, G: Rows<StateNo> + Drop>(
     alloc: Global,
     machine: &MachineView<'_, A, G>,
@@ -78,8 +78,8 @@ fn without_ends<A: Rows<TableAction> + Drop, G: Rows<StateNo> + Drop>(
     Ok(kept)
 }
 
-/// Adds a rule by which a state reduces to a row if it may lead on: it has symbols, or the state has a goto for its left
-/// side.
+/// Adds a rule by which a state reduces to a row if it may lead on: it has symbols, or the state has a goto for its
+/// left side.
 fn keep<A: Rows<TableAction> + Drop, G: Rows<StateNo> + Drop>(
     machine: &MachineView<'_, A, G>,
     state: StateNo,
