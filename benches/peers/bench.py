@@ -49,7 +49,7 @@ def main():
     if not have:
         print('(no lytab program: the peers alone)\n')
     wrong = []
-    peers = ['ref-bison', 'ref-bison-full', 'ref-byacc']
+    peers = ['ref-bison', 'ref-bison-full', 'ref-byacc', 'ref-re2c']
     tables = {}
     for l in ('calc', 'json', 'csub'):
         tables[l] = '%s/%s.tables' % (d, l)
@@ -57,7 +57,7 @@ def main():
             subprocess.run([lytab, 'build', '%s/%s.l' % (here, l), '%s/%s.y' % (here, l), tables[l]],
                            stdout=subprocess.DEVNULL, check=False)
     print('MB/s is 10^6 bytes of text a second; least time of %d; ratio is lytab / ref-bison.\n' % repeats)
-    print('ref-bison: flex (default tables) and bison; -full: flex -Cfe; ref-byacc: flex and byacc; all gcc -O2.\n')
+    print('ref-bison: flex (default tables) and bison; -full: flex -Cfe; ref-byacc: flex and byacc; ref-re2c: re2c and lemon, over a text that is read whole; all gcc -O2.\n')
     print('| Text | MB | work | ' + ' | '.join('%s s | MB/s | MB held' % p for p in peers) + ' | lytab s | MB/s | MB held | ratio |')
     print('|---' * (3 + 3 * len(peers) + 4) + '|')
     for l in ('calc', 'json', 'csub'):
@@ -65,7 +65,7 @@ def main():
             text = '%s/%s.%s.txt' % (d, l, s)
             mb = os.path.getsize(text) / 1e6
             for work, mode in (('scan, no output', 'n'), ('scan', 'tokens'), ('parse, no output', 'q'), ('parse', 'parse')):
-                runs = {p: ['%s/%s/%s' % (d, l, p), mode, text] for p in peers}
+                runs = {p: ['%s/%s/%s' % (d, l, p), mode, text] for p in peers if os.access('%s/%s/%s' % (d, l, p), os.X_OK)}
                 mine = None
                 if have and mode == 'tokens':
                     mine = [lytab, 'tokens', '%s/%s.l' % (here, l), text]

@@ -29,18 +29,8 @@ struct node { const char *name; uint32_t n; int32_t code; struct node *kid[]; };
 #define BYTE0 60000
 '''
 
-PROLOGUE = COMMON + r'''
-#define YYSTYPE struct node *
-#define YYSTYPE_IS_DECLARED 1
-#define YYMAXDEPTH 400000000
-#define YYSTACKSIZE 400000000
-#define YYSTACK_USE_ALLOCA 0
-
-extern FILE *yyin;
-extern char *yytext;
-extern int raw_lex(void);
-extern size_t text_at, text_len, text_end;
-
+# What trees are made of.
+ARENA = r'''
 static char *room;
 static size_t left;
 static inline void *take(size_t n) {
@@ -70,23 +60,10 @@ static inline struct node *leaf(int code, const char *text, size_t len) {
     memcpy(t->kid, text, len);
     return t;
 }
-static int last_code;
-static uint64_t tokens_read;
-static struct node *answer;
-static int yylex(void);
-static void yyerror(const char *);
 '''
 
-EPILOGUE = r'''
-static int yylex(void) {
-    int code = raw_lex();
-    last_code = code;
-    if (code == 0 || code == STUCK) return code;
-    tokens_read++;
-    yylval = leaf(code, yytext, text_len);
-    return code;
-}
-
+# How bytes are written.
+BYTES = r'''
 static char buffer[1 << 16];
 static size_t filled;
 static inline void put_flush(void) { fwrite(buffer, 1, filled, stdout); filled = 0; }
@@ -100,16 +77,10 @@ static void put_byte(unsigned char c, char quote) {
     else if (c == 9) { put('\\'); put('t'); }
     else { put('\\'); put('x'); put(hex[c >> 4]); put(hex[c & 15]); }
 }
-static int grammar_known;
-static void put_name(int code) {
-    if (code == BYTE0) code = 0;
-    if (code < 256) {
-        if (grammar_known && !literal_named[code]) { put_text("$undef"); return; }
-        put('\''); put_byte((unsigned char)code, '\''); put('\'');
-        return;
-    }
-    put_text(token_name(code));
-}
+'''
+
+# How leaves and trees are written, by a `put_name`.
+TREES = r'''
 static void put_leaf(int code, const char *text, size_t len) {
     put_name(code);
     put('"');
@@ -145,6 +116,50 @@ static void show(struct node *root) {
     }
 }
 static void put_number(uint64_t n) { char s[24]; sprintf(s, "%llu", (unsigned long long)n); put_text(s); }
+'''
+
+PROLOGUE = COMMON + r'''
+#define YYSTYPE struct node *
+#define YYSTYPE_IS_DECLARED 1
+#define YYMAXDEPTH 400000000
+#define YYSTACKSIZE 400000000
+#define YYSTACK_USE_ALLOCA 0
+
+extern FILE *yyin;
+extern char *yytext;
+extern int raw_lex(void);
+extern size_t text_at, text_len, text_end;
+
+''' + ARENA + r'''
+static int last_code;
+static uint64_t tokens_read;
+static struct node *answer;
+static int yylex(void);
+static void yyerror(const char *);
+'''
+
+EPILOGUE = r'''
+static int yylex(void) {
+    int code = raw_lex();
+    last_code = code;
+    if (code == 0 || code == STUCK) return code;
+    tokens_read++;
+    yylval = leaf(code, yytext, text_len);
+    return code;
+}
+
+''' + BYTES + r'''
+static int grammar_known;
+static void put_name(int code) {
+    if (code == BYTE0) code = 0;
+    if (code < 256) {
+        if (grammar_known && !literal_named[code]) { put_text("$undef"); return; }
+        put('\''); put_byte((unsigned char)code, '\''); put('\'');
+        return;
+    }
+    put_text(token_name(code));
+}
+''' + TREES + r'''
 static int status;
 static void no_rule(void) {
     put_text("no rule matches at byte ");
@@ -274,4 +289,5 @@ def main():
     yacc(g, out + '/parse.y')
     lex(text, out + '/scan.l')
 
-main()
+if __name__ == '__main__':
+    main()
