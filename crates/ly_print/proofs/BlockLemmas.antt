@@ -1,14 +1,17 @@
 -- Blocks of bytes, which are copied and looked at as one vector.
 use Rattle.std.proofs.Common.{◌≡◌, ◌∙◌, ◌+◌, ◌≤◌, ◌^◌, ◌%◌, ◌++◌, ◌∷◌, [], ℕ, zero, suc, List, length, map, take}
 use Rattle.std.proofs.Common.{Bool, true, false, ◌||◌, not, bit_or, min, ap, ap₂, sym, refl, arith, length-take}
-use Rattle.std.proofs.Common.{eqb}
-use Rattle.std.proofs.lemmas.List.{append-nil, length-map, length-take-le, take-append-le, take-take}
+use Rattle.std.proofs.Common.{◌<◌, eqb, get_or}
+use Rattle.std.proofs.lemmas.List.{append-nil, get_or-take, length-map, length-take-le, take-append-le, take-take}
 use Rattle.std.proofs.Math.Seq.{take-append-add}
-use Rattle.std.specs.Prelude.{cond, ltb}
+use Rattle.std.specs.Prelude.{cond, ltb, All, IsAscii}
 use Rattle.std.specs.List.{flat_map, prefix_len}
-use Rattle.std.proofs.lemmas.Bool.{cond-true}
+use Rattle.std.proofs.lemmas.Bool.{cond-true, leb-true}
+use Rattle.std.specs.Bool.{OnTrue}
+use Rattle.std.proofs.Math.Dec.{leb}
 use Rattle.std.proofs.lemmas.Bool.Decides.{nat_tests}
-use Rattle.std.proofs.lemmas.List.Sums.{prefix_len-le-length}
+use Rattle.std.proofs.lemmas.List.Sums.{prefix_len-le-length, prefix_len_passes}
+use Rattle.std.proofs.lemmas.Str.Ascii.{IsAscii-from_all}
 use Rattle.std.proofs.lemmas.Simd.{first_set_mask_l, mask_l-mod, take_more_put_chunk, zip2_splat}
 use Rattle.std.proofs.lemmas.Simd.{zip2_splat_left}
 use lib.Count.{count_trailing_zeros}
@@ -122,6 +125,33 @@ pub as_string : (bytes : List ℕ) (run : ℕ) → run ≤ prefix_len (is_plain 
 as_string bytes run plain =
     plain_in_block double_quote (escaped_byte double_quote) (plain_escaped double_quote) bytes run plain
     ∙ sym (plain_in_block double_quote string_byte plain_in_string bytes run plain)
+
+-- such bytes are ASCII
+plain_below : (x : ℕ) → is_plain double_quote x ≡ true → x < 128
+plain_below x plain = grind (arith, nat_tests)
+
+plain_all : (xs : List ℕ) (k : ℕ) → k ≤ prefix_len (is_plain double_quote) xs → All (λ b. b < 128) (take k xs)
+plain_all xs k plain i d within =
+    let at : i < k = omega (arith, within, length-take k xs) in
+    rw (get_or-take k xs i d at)
+    (plain_below (get_or xs i d) (prefix_len_passes (is_plain double_quote) xs i d (omega (arith, at, plain))))
+
+plain_ascii : (bytes : List ℕ) (run : ℕ) → run ≤ prefix_len (is_plain double_quote) (take 16 bytes)
+    → IsAscii (take run bytes)
+plain_ascii bytes run plain =
+    let few : run ≤ 16
+    = omega (arith, prefix_len-le-length (is_plain double_quote) (take 16 bytes), length-take 16 bytes) in
+    IsAscii-from_all (take run bytes)
+    (rw (sym (take-take run 16 bytes few)) (plain_all (take 16 bytes) run plain))
+
+-- so a front is, where the run of them has been counted
+pub told_ascii : (bytes front : List ℕ) (count run : ℕ) → take count bytes ≡ front
+    → run ≡ prefix_len (is_plain double_quote) (take 16 bytes) → OnTrue (leb count run) (IsAscii front)
+told_ascii bytes front count run is counted = by (leb count run) refl
+  where
+    by : (b : Bool) → leb count run ≡ b → OnTrue b (IsAscii front)
+    by true le = rw (sym is) (plain_ascii bytes count (omega (arith, leb-true count run le, counted)))
+    by false _ = tt
 
 -- the first bytes of a block at a place
 pub block_at : (room block : List ℕ) (at run : ℕ) → 16 ≤ length block → at + 16 ≤ length room → run ≤ 16

@@ -5,8 +5,8 @@ ghost use Rattle.std.specs.Str.{is_utf8};
 ghost use Rattle.ly_print.specs.Json.{control_escape, json_content, json_located, json_name, json_string, numbers};
 ghost use Rattle.ly_print.specs.Json.{other_number, string_body, string_byte};
 
-use crate::front::BLOCK;
-use crate::room::{hex_digit, put, put_bytes, put_plain};
+use crate::front::{BLOCK, Front};
+use crate::room::{hex_digit, is_plain_block, put, put_bytes, put_plain};
 use itoa::Buffer;
 use ly_base::Location;
 use std::alloc::AllocError;
@@ -88,6 +88,14 @@ pub fn is_utf8(bytes: &[u8]) -> bool
     ensures { result ≡ is_utf8 bytes.now }
 {
     str::from_utf8(bytes).is_ok()
+}
+
+/// Whether a text is UTF-8. Most texts are told by one block, without being gone through.
+#[inline(always)] // so that the block is loaded once
+pub(crate) fn is_utf8_front(text: &Front<'_>) -> bool
+    ensures { result ≡ is_utf8 text.now }
+{
+    is_plain_block(text) || is_utf8(text.bytes())
 }
 
 /// Appends bytes as they stand in a JSON string.

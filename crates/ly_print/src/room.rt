@@ -1,4 +1,5 @@
 ghost use Rattle.std.specs.Prelude.{◌≡◌, ◌<◌, ◌≤◌, ◌+◌, ◌*◌, ◌++◌, [], ◌∷◌, false, length, take, IfSome, None};
+ghost use Rattle.std.specs.Prelude.{IsAscii};
 ghost use Rattle.std.specs.Bool.{OnTrue};
 ghost use Rattle.std.specs.Fmt.{digit_glyph};
 ghost use Rattle.std.specs.List.{prefix_len};
@@ -203,6 +204,14 @@ fn plain_run(bytes: &[u8]) -> usize
         | block.simd_eq(u8x16::splat(b'\\'))
         | block.simd_eq(u8x16::splat(b'"'));
     BLOCK.min(special.to_bitmask().trailing_zeros() as usize)
+}
+
+/// Whether a text is no longer than a block and all of its bytes stand for themselves between double quotes, so that it
+/// is ASCII. It may say no where they do.
+pub(crate) fn is_plain_block(text: &Front<'_>) -> bool
+    ensures { OnTrue result (IsAscii text.now) }
+{
+    BLOCK <= text.bytes.len() && text.count <= plain_run(text.bytes)
 }
 
 /// Writes a byte that doesn't stand for itself from a place on, and answers where it ends.

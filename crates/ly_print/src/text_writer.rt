@@ -12,7 +12,7 @@ use crate::byte_form::{BYTE_ROOM, ByteForm, put_byte};
 use crate::device::Sink;
 use crate::front::Front;
 use crate::json::{
-    LOCATION_ROOM, fits_in_string, is_utf8, put_location, put_number, put_string_body,
+    LOCATION_ROOM, fits_in_string, is_utf8_front, put_location, put_number, put_string_body,
 };
 use crate::label::Label;
 use crate::room::{
@@ -210,7 +210,7 @@ impl TextWriter {
         ensures no_failure { OnOk result (W.failures writer.new ≡ W.failures writer.old) }
         ensures failed { OnErr result (W.failures writer.new ≡ next_count (W.failures writer.old)) }
     {
-        if is_utf8(text.bytes()) {
+        if is_utf8_front(text) {
             self.push_json_text(writer, text)
         } else {
             self.push_json_bytes(writer, text.bytes())
