@@ -1,0 +1,4 @@
+pub mod GroupLemmas
+pub mod GroupsLemmas
+pub mod KeyLemmas
+pub mod ToldLemmas

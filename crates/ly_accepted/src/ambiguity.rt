@@ -2,6 +2,9 @@
 //! readings go on at once behind its place, and get rules around them, until both are of one nonterminal and have come
 //! to the same tokens (in the manner of Isradisaikul and Myers 2015). What is found is asked of `ly_examples` before it
 //! is said.
+ghost use Rattle.std.specs.Prelude.{◌≡◌, IfOk};
+ghost use Rattle.ly_accepted.specs.Told.{IsFoundIn};
+
 use crate::bodies::{behind_dot, body_of};
 use crate::cores::Cores;
 use crate::growing::Search;
@@ -54,17 +57,20 @@ pub(crate) struct Finder<'a> {
 }
 
 impl<'a> Finder<'a> {
-    /// What sentences of an automaton's grammar are sought by.
+    /// What sentences of a grammar are sought by, and its automaton.
     pub(crate) fn new(
         alloc: Global,
+        grammar: &'a Grammar,
         cores: &'a Cores<'a>,
         yields: &'a Yields,
-    ) -> Result<Finder<'a>, AllocError> {
+    ) -> Result<Finder<'a>, AllocError>
+        ensures { IfOk result (λ finder. finder.grammar.now ≡ grammar.now) }
+    {
         let lr0 = cores.lr0();
         Ok(Finder {
             lr0,
             cores,
-            grammar: lr0.reduced().grammar(),
+            grammar,
             yields,
             surroundings: Surroundings::of(alloc, lr0)?,
             steps: STEPS,
@@ -78,7 +84,10 @@ impl<'a> Finder<'a> {
         alloc: Global,
         conflict: &Conflict,
         at: Option<(&[Symbol], &Ways)>,
-    ) -> Result<Option<Ambiguity>, OutOfMemory> {
+    ) -> Result<Option<Ambiguity>, OutOfMemory>
+        ensures found { IfOk result (IsFoundIn self.old.grammar.now) }
+        ensures stays { self.new.grammar ≡ self.old.grammar }
+    {
         if let Some((string, ways)) = at {
             let mut search = Search::new(alloc, conflict)?;
             self.begin_whole(alloc, &mut search, conflict, string, ways)?;
@@ -98,7 +107,10 @@ impl<'a> Finder<'a> {
         alloc: Global,
         search: &mut Search,
         most: usize,
-    ) -> Result<Option<Ambiguity>, OutOfMemory> {
+    ) -> Result<Option<Ambiguity>, OutOfMemory>
+        ensures found { IfOk result (IsFoundIn self.old.grammar.now) }
+        ensures stays { self.new.grammar ≡ self.old.grammar }
+    {
         for _ in 0..most {
             let Some(pair) = search.queue.pop() else {
                 break;
@@ -214,7 +226,9 @@ impl<'a> Finder<'a> {
         &mut self,
         alloc: Global,
         symbols: &[Symbol],
-    ) -> Result<Derived, AllocError> {
+    ) -> Result<Derived, AllocError>
+        ensures { self.new.grammar ≡ self.old.grammar }
+    {
         let derived = self.yields.derive(alloc, self.grammar, symbols)?;
         let steps = derived.rules.len().saturating_add(derived.tokens.len());
         self.steps = self.steps.saturating_sub(steps);

@@ -1,6 +1,10 @@
 //! The conflicts: what is done, why precedence doesn't settle it, and an example at which both actions are possible.
-ghost use Rattle.std.specs.Prelude.{Contains};
+ghost use Rattle.std.specs.Prelude.{◌≡◌, ◌<◌, ℕ, Contains, IfOk, length};
+ghost use Rattle.ly_resolve.specs.Conflicts as spec;
 ghost use Rattle.ly_resolve.specs.Values.{conflict_from, IsInside};
+ghost use Rattle.ly_accepted.specs.Groups.{AreGroups, IsGroup};
+ghost use Rattle.ly_accepted.specs.Private.Grouping.{IsSought};
+ghost use Rattle.ly_accepted.specs.Told.{AreReadings, AreTerminalsOf, AreTold, IsShown, IsTold};
 
 use crate::ambiguity::Finder;
 use crate::conflict_json::say_conflict;
@@ -60,15 +64,51 @@ pub(crate) fn say_conflicts(
     };
     let groups = groups_of(alloc, teller.examples)?;
     let cure = best_cure(alloc, files.spec, resolved.conflicts(), &groups)?;
+    let told = teller.all_told(alloc, &groups)?;
+    let untold = groups.len().saturating_sub(TOLD);
     if wish.json {
-        teller.say_json(alloc, page, files, places, &groups)?;
-        say_rest(page, files.spec, cure, groups.len().saturating_sub(TOLD));
-        return Ok(());
+        say_json(alloc, page, files, places, &told)?;
+        say_rest(page, files.spec, cure, untold);
+    } else {
+        if let Some(cure) = cure {
+            say_cure(page, files.spec, cure, groups.len());
+        }
+        say_all(alloc, page, files, places, &told)?;
+        say_untold(page, untold);
     }
-    if let Some(cure) = cure {
-        say_cure(page, files.spec, cure, groups.len());
+    Ok(())
+}
+
+/// Says groups of conflicts.
+fn say_all(
+    alloc: Global,
+    page: &mut Page,
+    files: &Accepted<'_>,
+    places: &Places,
+    groups: &[Told<'_>],
+) -> Result<(), OutOfMemory> {
+    for told in groups {
+        say_told(alloc, page, files, places, told)?;
     }
-    teller.say_all(alloc, page, files, places, &groups)
+    Ok(())
+}
+
+/// Says groups of conflicts as a member of a JSON object.
+fn say_json(
+    alloc: Global,
+    page: &mut Page,
+    files: &Accepted<'_>,
+    places: &Places,
+    groups: &[Told<'_>],
+) -> Result<(), OutOfMemory> {
+    page.say_json_key(b"conflicts");
+    page.say(b"[");
+    for (place, told) in groups.iter().enumerate() {
+        page.say(if place > 0 { b"," } else { b"" });
+        say_conflict(alloc, page, files, places, told)?;
+    }
+    page.say(b"]");
+    Ok(())
 }
 
 /// Says how many conflicts there are of each kind.
@@ -96,45 +136,18 @@ fn say_rest(page: &mut Page, spec: &Spec, cure: Option<Cure>, untold: usize) {
 }
 
 impl Teller<'_> {
-    /// Says all groups of conflicts.
-    fn say_all(
-        &self,
-        alloc: Global,
-        page: &mut Page,
-        files: &Accepted<'_>,
-        places: &Places,
-        groups: &[Group],
-    ) -> Result<(), OutOfMemory> {
-        let mut finder = Finder::new(alloc, self.cores, self.yields)?;
+    /// The groups of conflicts as they are told, up to so many.
+    fn all_told<'g>(&self, alloc: Global, groups: &'g [Group]) -> Result<Vec<Told<'g>>, OutOfMemory>
+        requires { AreGroups self.now.examples.now groups.now }
+        ensures { IfOk result (λ told. AreTold self.now.examples.now groups.now told.items) }
+    {
+        let grammar = self.examples.resolved().spec().grammar();
+        let mut finder = Finder::new(alloc, grammar, self.cores, self.yields)?;
+        let mut all = Vec::new(alloc);
         for group in first_of(groups, TOLD) {
-            if let Some(told) = self.told(alloc, group, &mut finder)? {
-                say_told(alloc, page, files, places, &told)?;
-            }
+            all.push(self.told(alloc, group, &mut finder)?)?;
         }
-        say_untold(page, groups.len().saturating_sub(TOLD));
-        Ok(())
-    }
-
-    /// Says all groups of conflicts as a member of a JSON object.
-    fn say_json(
-        &self,
-        alloc: Global,
-        page: &mut Page,
-        files: &Accepted<'_>,
-        places: &Places,
-        groups: &[Group],
-    ) -> Result<(), OutOfMemory> {
-        let mut finder = Finder::new(alloc, self.cores, self.yields)?;
-        page.say_json_key(b"conflicts");
-        page.say(b"[");
-        for (place, group) in first_of(groups, TOLD).iter().enumerate() {
-            if let Some(told) = self.told(alloc, group, &mut finder)? {
-                page.say(if place > 0 { b"," } else { b"" });
-                say_conflict(alloc, page, files, places, &told)?;
-            }
-        }
-        page.say(b"]");
-        Ok(())
+        Ok(all)
     }
 
     /// A group of conflicts, as it is told.
@@ -143,29 +156,30 @@ impl Teller<'_> {
         alloc: Global,
         group: &'g Group,
         finder: &mut Finder<'_>,
-    ) -> Result<Option<Told<'g>>, OutOfMemory> {
-        let Some(first) = group.conflicts.first() else {
-            return Ok(None);
-        };
-        let Some(conflict) = self.examples.conflict(*first) else {
-            return Ok(None);
-        };
-        Ok(Some(Told {
+    ) -> Result<Told<'g>, OutOfMemory>
+        requires group { IsGroup self.now.examples.now group.now }
+        requires grammar { finder.old.grammar.now ≡ self.now.examples.now.spec.grammar }
+        ensures told { IfOk result (IsTold self.now.examples.now group.now.conflicts.items) }
+        ensures stays { finder.new.grammar ≡ finder.old.grammar }
+    {
+        let conflict = &self.examples.resolved().conflicts()[group.conflicts[0]];
+        Ok(Told {
             conflict: *conflict,
             terminals: self.terminals(alloc, &group.conflicts)?,
             prefix: self.cores.prefix(alloc, conflict.state)?,
             shown: self.shown(alloc, conflict, group, finder)?,
-        }))
+        })
     }
 
     /// The terminals of the conflicts of these indices.
-    fn terminals(&self, alloc: Global, group: &[usize]) -> Result<Vec<Sym>, OutOfMemory> {
+    fn terminals(&self, alloc: Global, group: &[usize]) -> Result<Vec<Sym>, OutOfMemory>
+        requires { (i : ℕ) → Contains group.now i → i < length self.now.examples.now.conflicts }
+        ensures { IfOk result (λ terminals. AreTerminalsOf self.now.examples.now group.now terminals.items) }
+    {
         let conflicts = self.examples.resolved().conflicts();
         let mut terminals = Vec::new(alloc);
         for index in group {
-            if let Some(conflict) = conflicts.get(*index) {
-                terminals.push(conflict.terminal)?;
-            }
+            terminals.push(conflicts[*index].terminal)?;
         }
         Ok(terminals)
     }
@@ -181,6 +195,11 @@ impl Teller<'_> {
         requires inside { IsInside self.now.examples.now.automaton conflict.now }
         requires conflict { Contains self.now.examples.now.conflicts
             (conflict_from self.now.examples.now.automaton conflict.now) }
+        requires example { IsSought self.now.examples.now conflict.now group.now.example }
+        requires grammar { finder.old.grammar.now ≡ self.now.examples.now.spec.grammar }
+        ensures shown { IfOk result (IsShown self.now.examples.now group.now.conflicts.items
+            (conflict_from self.now.examples.now.automaton conflict.now)) }
+        ensures stays { finder.new.grammar ≡ finder.old.grammar }
     {
         match &group.example {
             Some(Example::At(string)) => Ok(Shown::At(self.spot(alloc, conflict, string, finder)?)),
@@ -197,7 +216,11 @@ impl Teller<'_> {
         conflict: &Conflict,
         string: &'g [Symbol],
         finder: &mut Finder<'_>,
-    ) -> Result<Spot<'g>, OutOfMemory> {
+    ) -> Result<Spot<'g>, OutOfMemory>
+        ensures string { IfOk result (λ spot. spot.string.now ≡ string.now) }
+        ensures readings { IfOk result (λ spot. AreReadings finder.old.grammar.now spot.readings) }
+        ensures stays { finder.new.grammar ≡ finder.old.grammar }
+    {
         let derived = self.yields.derive(alloc, self.spec.grammar(), string)?;
         let is_met = !derived.whole
             || is_met(alloc, self.examples.resolved(), conflict, &derived.tokens)?;
@@ -217,7 +240,10 @@ impl Teller<'_> {
         conflict: &Conflict,
         string: &[Symbol],
         finder: &mut Finder<'_>,
-    ) -> Result<Readings, OutOfMemory> {
+    ) -> Result<Readings, OutOfMemory>
+        ensures readings { IfOk result (AreReadings finder.old.grammar.now) }
+        ensures stays { finder.new.grammar ≡ finder.old.grammar }
+    {
         if is_between_same(self.spec.grammar(), conflict) {
             return Ok(Readings::Same);
         }
@@ -236,6 +262,7 @@ impl Teller<'_> {
         requires inside { IsInside self.now.examples.now.automaton conflict.now }
         requires conflict { Contains self.now.examples.now.conflicts
             (conflict_from self.now.examples.now.automaton conflict.now) }
+        ensures { (c : spec.Conflict) → IfOk result (IsShown self.now.examples.now group.now c) }
     {
         if !self.examples.none_has_one(alloc, group, BOUND)? {
             return Ok(Shown::Unsought);

@@ -1,9 +1,16 @@
 //! Which conflicts are told together: those of one state that differ in the terminal alone, and that have examples
 //! alike.
-use indexmap::{IndexMap, IndexSet};
+ghost use Rattle.std.specs.Prelude.{◌≡◌, ◌<◌, ◌+◌, ◌++◌, [], ◌∷◌, Contains, IfOk, OnOk, length};
+ghost use Rattle.ly_resolve.specs.Resolved.{Resolved};
+ghost use Rattle.ly_resolve.specs.Values.{conflict_from, IsInside};
+ghost use Rattle.ly_accepted.specs.Groups.{AreGroups};
+ghost use Rattle.ly_accepted.specs.Private.Grouping.{AreGrouped, IsAt, IsJoinedBy, IsOpenedBy, IsSought};
+
+use crate::common::{Common, Key, Keys};
+use indexmap::IndexSet;
 use ly_base::OutOfMemory;
 use ly_examples::{Example, Examples};
-use ly_resolve::{Action, Conflict, ConflictKind};
+use ly_resolve::Conflict;
 use std::alloc::Global;
 
 /// How many demands a search for an example looks at, at most.
@@ -27,43 +34,15 @@ pub(crate) struct Group {
     pub(crate) example: Option<Example>,
 }
 
-/// What the conflicts of a group have in common.
-#[derive(Clone, Copy, PartialEq, Eq, Hash)]
-struct Common {
-    /// Their state.
-    state: u32,
-    /// Their rule.
-    rule: usize,
-    /// The rule that is chosen; none where another action is.
-    chosen: Option<usize>,
-    /// Whether the terminal is refused.
-    is_refused: bool,
-    /// Whether it is a shift that stands against the rule.
-    is_shift: bool,
-    /// What was answered where an example was sought; nothing of a shift, which has one, whether it was found or not.
-    answer: Option<Answer>,
-}
-
-/// What is answered where an example is sought.
-#[derive(Clone, Copy, PartialEq, Eq, Hash)]
-enum Answer {
-    /// There is one.
-    At,
-    /// There is none.
-    Merged,
-    /// None was found.
-    Unknown,
-}
-
-/// The groups so far, and where each stands by what its conflicts have in common.
+/// The groups so far, and what the conflicts of each have in common.
 #[derive(Drop)]
-struct Groups {
+pub(crate) struct Groups {
     /// The groups.
-    list: Vec<Group>,
-    /// Their places.
-    places: IndexMap<Common, usize>,
+    pub(crate) list: Vec<Group>,
+    /// What their conflicts have in common, at the place of each.
+    pub(crate) keys: Keys,
     /// What the conflicts of those that are told have in common, whatever was answered.
-    told: IndexSet<Common>,
+    pub(crate) told: IndexSet<Common>,
 }
 
 /// How many examples may still be sought.
@@ -76,20 +55,19 @@ struct Patience {
 }
 
 /// All conflicts in groups, which are in the order of their first ones.
-pub(crate) fn groups_of(alloc: Global, examples: &Examples<'_>) -> Result<Vec<Group>, OutOfMemory> {
-    let conflicts = examples.resolved().conflicts();
+pub(crate) fn groups_of(alloc: Global, examples: &Examples<'_>) -> Result<Vec<Group>, OutOfMemory>
+    ensures { IfOk result (λ groups. AreGroups examples.now groups.items) }
+{
     let mut patience = Patience {
         searches: SEARCHES,
         endless: ENDLESS,
     };
-    let mut groups = Groups {
-        list: Vec::new(alloc),
-        places: IndexMap::new(alloc),
-        told: IndexSet::new(alloc),
-    };
-    for (index, conflict) in conflicts.iter().enumerate() {
+    let mut groups = Groups::new(alloc);
+    let resolved = examples.resolved();
+    let _states = resolved.lr0().states();
+    for (index, conflict) in resolved.conflicts().iter().enumerate() {
         let example = if groups.asks_for(conflict) {
-            example_of(alloc, examples, index, &mut patience)?
+            example_of(alloc, examples, conflict, &mut patience)?
         } else {
             None
         };
@@ -99,16 +77,17 @@ pub(crate) fn groups_of(alloc: Global, examples: &Examples<'_>) -> Result<Vec<Gr
     Ok(list)
 }
 
-/// The example of the conflict of an index, if one may still be sought.
+/// The example of a conflict, if one may still be sought.
 fn example_of(
     alloc: Global,
     examples: &Examples<'_>,
-    index: usize,
+    conflict: &Conflict,
     patience: &mut Patience,
-) -> Result<Option<Example>, OutOfMemory> {
-    let Some(conflict) = examples.conflict(index) else {
-        return Ok(None);
-    };
+) -> Result<Option<Example>, OutOfMemory>
+    requires inside { IsInside examples.now.automaton conflict.now }
+    requires conflict { Contains examples.now.conflicts (conflict_from examples.now.automaton conflict.now) }
+    ensures { IfOk result (IsSought examples.now conflict.now) }
+{
     if patience.searches == 0 || patience.endless == 0 {
         return Ok(None);
     }
@@ -121,14 +100,26 @@ fn example_of(
 }
 
 impl Groups {
+    /// No groups.
+    fn new(alloc: Global) -> Groups
+        ensures keys { result.keys ≡ [] }
+        ensures list { result.list.items ≡ [] }
+    {
+        Groups {
+            list: Vec::new(alloc),
+            keys: Keys::new(alloc),
+            told: IndexSet::new(alloc),
+        }
+    }
+
     /// Whether an example of a conflict is sought: one of those that are told, or that may belong to them. Shifts
     /// against a reduction that differ in the terminal alone have examples all, so one of them is asked.
     fn asks_for(&self, conflict: &Conflict) -> bool {
-        let common = common_of(conflict, &None);
-        if common.is_shift && self.places.contains_key(&common) {
+        let key = Key::of(conflict, &None);
+        if key.common.is_shift && self.keys.find(key).is_some() {
             return false;
         }
-        self.list.len() < TOLD || self.told.contains(&common)
+        self.list.len() < TOLD || self.told.contains(&key.common)
     }
 
     /// Adds the conflict of an index to its group, or as a group of its own.
@@ -138,47 +129,47 @@ impl Groups {
         conflict: &Conflict,
         index: usize,
         example: Option<Example>,
-    ) -> Result<(), OutOfMemory> {
-        let common = common_of(conflict, &example);
-        if let Some(place) = self.places.get(&common).copied()
-            && let Some(group) = self.list.get_mut(place)
-        {
-            group.conflicts.push(index)?;
-            return Ok(());
+    ) -> Result<(), OutOfMemory>
+        requires { length self.old.keys ≡ length self.old.list.items }
+        ensures { OnOk result ((r : Resolved) → IsAt r index conflict.now → IsSought r conflict.now example
+            → AreGrouped r index self.old → AreGrouped r (index + 1) self.new) }
+    {
+        let key = Key::of(conflict, &example);
+        match self.keys.find(key) {
+            Some(place) => self.join(place, index),
+            None => self.open(alloc, key, index, example),
         }
-        self.places.insert(common, self.list.len())?;
-        let mut conflicts = Vec::new(alloc);
-        conflicts.push(index)?;
-        if self.list.len() < TOLD {
-            self.told.insert(common_of(conflict, &None))?;
-        }
-        self.list.push(Group { conflicts, example })?;
+    }
+
+    /// Adds the conflict of an index to the group at a place.
+    fn join(&mut self, place: usize, index: usize) -> Result<(), OutOfMemory>
+        requires { place < length self.old.list.items }
+        ensures list { OnOk result (IsJoinedBy place index self.old.list.items self.new.list.items) }
+        ensures keys { self.new.keys ≡ self.old.keys }
+    {
+        self.list[place].conflicts.push(index)?;
         Ok(())
     }
-}
 
-/// What a conflict has in common with the others of its group, behind the answer to the search for its example.
-fn common_of(conflict: &Conflict, example: &Option<Example>) -> Common {
-    let is_shift = conflict.kind == ConflictKind::ShiftReduce;
-    Common {
-        state: conflict.state.0,
-        rule: conflict.rule,
-        chosen: match conflict.choice {
-            Action::Reduce(rule) => Some(rule),
-            _ => None,
-        },
-        is_refused: conflict.choice == Action::Error,
-        is_shift,
-        answer: if is_shift { None } else { answer_of(example) },
-    }
-}
-
-/// What was answered where an example was sought.
-fn answer_of(example: &Option<Example>) -> Option<Answer> {
-    match example {
-        Some(Example::At(_)) => Some(Answer::At),
-        Some(Example::Merged) => Some(Answer::Merged),
-        Some(Example::Unknown) => Some(Answer::Unknown),
-        None => None,
+    /// Adds a group of the conflict of an index alone, whose key isn't there.
+    fn open(
+        &mut self,
+        alloc: Global,
+        key: Key,
+        index: usize,
+        example: Option<Example>,
+    ) -> Result<(), OutOfMemory>
+        requires { Contains self.old.keys key → ⊥ }
+        ensures list { OnOk result (IsOpenedBy index example self.old.list.items self.new.list.items) }
+        ensures keys { OnOk result (self.new.keys ≡ self.old.keys ++ key ∷ []) }
+    {
+        if self.list.len() < TOLD {
+            self.told.insert(key.common)?;
+        }
+        let mut conflicts = Vec::new(alloc);
+        conflicts.push(index)?;
+        self.keys.push(key)?;
+        self.list.push(Group { conflicts, example })?;
+        Ok(())
     }
 }

@@ -1,4 +1,7 @@
 //! How two readings go on: behind the place of the conflict by what is ahead, and outwards by rules around them.
+ghost use Rattle.std.specs.Prelude.{◌≡◌, IfOk};
+ghost use Rattle.ly_accepted.specs.Told.{IsFoundIn};
+
 use crate::ambiguity::{Ambiguity, Finder};
 use crate::bodies::{body_of, rest_of};
 use crate::pair::{Pair, Which};
@@ -55,7 +58,10 @@ impl Finder<'_> {
         alloc: Global,
         search: &mut Search,
         pair: Pair,
-    ) -> Result<Option<Ambiguity>, OutOfMemory> {
+    ) -> Result<Option<Ambiguity>, OutOfMemory>
+        ensures found { IfOk result (IsFoundIn self.old.grammar.now) }
+        ensures stays { self.new.grammar ≡ self.old.grammar }
+    {
         let mut pair = pair;
         let course = self.go_on(alloc, &mut pair, search.terminal)?;
         if !search.is_new(pair.key(alloc, self.grammar)?)? {
@@ -79,12 +85,9 @@ impl Finder<'_> {
     }
 
     /// Goes on with two readings as long as they have the same symbol ahead.
-    fn go_on(
-        &mut self,
-        alloc: Global,
-        pair: &mut Pair,
-        terminal: Sym,
-    ) -> Result<Course, AllocError> {
+    fn go_on(&mut self, alloc: Global, pair: &mut Pair, terminal: Sym) -> Result<Course, AllocError>
+        ensures { self.new.grammar ≡ self.old.grammar }
+    {
         for _ in 0..LONGEST {
             let (Some(symbol), Some(same)) = (pair.one.next(), pair.other.next()) else {
                 return Ok(Course::Ended);
@@ -113,7 +116,9 @@ impl Finder<'_> {
         alloc: Global,
         pair: &mut Pair,
         symbol: Symbol,
-    ) -> Result<(), AllocError> {
+    ) -> Result<(), AllocError>
+        ensures { self.new.grammar ≡ self.old.grammar }
+    {
         pair.one.ahead.pop();
         pair.other.ahead.pop();
         let passed = self.yielded(alloc, &[symbol])?;

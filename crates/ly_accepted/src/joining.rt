@@ -1,4 +1,7 @@
 //! The trees of two readings that have come to the same tokens.
+ghost use Rattle.std.specs.Prelude.{◌≡◌, IfOk};
+ghost use Rattle.ly_accepted.specs.Told.{IsFoundIn};
+
 use crate::ambiguity::{Ambiguity, Finder};
 use crate::bodies::{behind_dot, body_of, rest_of};
 use crate::drawing::Drawing;
@@ -21,7 +24,10 @@ impl Finder<'_> {
         alloc: Global,
         pair: &Pair,
         terminal: Sym,
-    ) -> Result<Option<Ambiguity>, OutOfMemory> {
+    ) -> Result<Option<Ambiguity>, OutOfMemory>
+        ensures found { IfOk result (IsFoundIn self.old.grammar.now) }
+        ensures stays { self.new.grammar ≡ self.old.grammar }
+    {
         for state in pair.states.iter().take(STATES) {
             if (state.0 as usize) >= self.lr0.states() {
                 continue;
@@ -79,7 +85,9 @@ impl Finder<'_> {
         alloc: Global,
         way: &[Item],
         reading: &Reading,
-    ) -> Result<Vec<usize>, AllocError> {
+    ) -> Result<Vec<usize>, AllocError>
+        ensures { self.new.grammar ≡ self.old.grammar }
+    {
         let (mut rules, mut outer, mut ahead) = (Vec::new(alloc), Vec::new(alloc), Vec::new(alloc));
         for item in way {
             self.pass(alloc, *item, &mut outer, &mut rules)?;

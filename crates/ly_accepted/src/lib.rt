@@ -5,8 +5,9 @@
 //! the states of the scanner and of the parser, and their picture.
 //!
 //! What is said is found by `ly_examples`, whose contracts it has: which rules and tokens are of no use, and at which
-//! strings both actions of a conflict are possible. How many conflicts there are is counted (`AreFoundIn`). How things
-//! are worded, and whether anything is doubtful, is tested alone.
+//! strings both actions of a conflict are possible. How many conflicts there are is counted (`AreFoundIn`). They are in
+//! groups (`AreGroups`), and of each group what is told is so (`AreTold`), before it is put into words. How things are
+//! worded, and whether anything is doubtful, is tested alone.
 //!
 //! Left out: whether files are accepted, which is given.
 #![tactic(auto)]
@@ -15,6 +16,7 @@ mod ambiguity;
 mod bodies;
 mod brackets;
 mod claims;
+mod common;
 mod conflict_json;
 mod conflict_words;
 mod conflicts;

@@ -1,4 +1,4 @@
-ghost use Rattle.std.specs.Prelude.{IfOk};
+ghost use Rattle.std.specs.Prelude.{◌≡◌, IfOk, take};
 ghost use Rattle.ly_accepted.specs.Findings.{AreFoundIn, IsInForm};
 ghost use Rattle.ly_subset.specs.Automaton.{IsBreadthFirst};
 
@@ -205,6 +205,8 @@ pub(crate) fn say_numbered(page: &mut Page, before: &[u8], number: u64, behind: 
 }
 
 /// The first of things, so many at most.
-pub(crate) fn first_of<T>(things: &[T], most: usize) -> &[T] {
+pub(crate) fn first_of<T>(things: &[T], most: usize) -> &[T]
+    ensures { result.now ≡ take most things.now }
+{
     things.get(..most).unwrap_or(things)
 }

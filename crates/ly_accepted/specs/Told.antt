@@ -1,0 +1,63 @@
+-- What is told of groups of conflicts.
+use Rattle.std.specs.Prelude.{◌≡◌, ℕ, List, Option, Some, Contains, IfSome, length, map, min, option_map, reverse}
+use Rattle.std.specs.Prelude.{slice_get}
+use Rattle.ly_base.specs.declared.numbers.Sym.{Sym}
+use Rattle.ly_join.specs.Grammar.{Grammar, symbol_of}
+use Rattle.ly_resolve.specs.Conflicts.{Conflict}
+use Rattle.ly_resolve.specs.Resolved.{Resolved}
+use Rattle.ly_resolve.specs.Values.{conflict_from}
+use Rattle.ly_examples.specs.Demands.{HasMoreDemands}
+use Rattle.ly_examples.specs.Examples.{HasNoExample, IsExample}
+use Rattle.ly_examples.specs.Sentences.{HasTwoTrees, numbers_of}
+use Rattle.ly_accepted.specs.declared.ambiguity.Ambiguity.{Ambiguity}
+use Rattle.ly_accepted.specs.declared.groups.Group.{Group}
+use Rattle.ly_accepted.specs.declared.told.Readings.{Readings}
+use Rattle.ly_accepted.specs.declared.told.Readings.TheVariants.{Same, Ways}
+use Rattle.ly_accepted.specs.declared.told.Shown.{Shown}
+use Rattle.ly_accepted.specs.declared.told.Shown.TheVariants.{At, Merged, Unknown, Unsought}
+use Rattle.ly_accepted.specs.declared.told.Told.{Told}
+use Rattle.ly_accepted.specs.Groups.{IsConflictAt, most_demands}
+
+-- how many groups are told, at most
+abbrev pub most_told : ℕ
+most_told = 100
+
+-- a sentence of the grammar by two trees
+abbrev pub IsAmbiguity : Grammar → Ambiguity → Type 0
+IsAmbiguity G a = HasTwoTrees G a.one.items a.other.items (numbers_of a.sentence.items)
+
+-- what is found is such a sentence
+abbrev pub IsFoundIn : Grammar → Option Ambiguity → Type 0
+IsFoundIn G found = IfSome found (IsAmbiguity G)
+
+abbrev pub AreReadings : Grammar → Readings → Type 0
+AreReadings G Same = Unit {0}
+AreReadings G (Ways ways found) = IsFoundIn G found
+
+-- what is said of how the conflicts of a group come about is so: an example of the first, that none has one, or that
+-- from the first follow more demands than are looked at
+abbrev pub IsShown : Resolved → List ℕ → Conflict → Shown → Type 0
+IsShown r group c Unsought = Unit {0}
+IsShown r group c (At spot) = IsExample r.automaton.grammar c (reverse (map symbol_of spot.string.now))
+    × AreReadings r.spec.grammar spot.readings
+IsShown r group c (Merged ways) = (i : ℕ) → Contains group i → HasNoExample r i
+IsShown r group c (Unknown found) = HasMoreDemands r.automaton c most_demands × IsFoundIn r.spec.grammar found
+
+-- the terminals of the conflicts of these indices, in their order
+abbrev pub AreTerminalsOf : Resolved → List ℕ → List Sym → Type 0
+AreTerminalsOf r group terminals = (length terminals ≡ length group) × ((p i : ℕ) (c : Conflict)
+    → slice_get group p ≡ Some i → IsConflictAt r i c → option_map (λ t. t.0) (slice_get terminals p) ≡ Some c.terminal)
+
+-- What is told of a group: its first conflict, the terminals of all, and how they come about.
+pub record IsTold (r : Resolved) (group : List ℕ) (told : Told) : Type 0 where
+  pub first : ℕ
+  pub begins : slice_get group 0 ≡ Some first
+  pub is : IsConflictAt r first (conflict_from r.automaton told.conflict)
+  pub terminals : AreTerminalsOf r group told.terminals.items
+  pub shown : IsShown r group (conflict_from r.automaton told.conflict) told.shown
+
+-- The groups are told in their order, as many as may be.
+pub record AreTold (r : Resolved) (groups : List Group) (told : List Told) : Type 0 where
+  pub count : length told ≡ min most_told (length groups)
+  pub each : (p : ℕ) (g : Group) (t : Told) → slice_get groups p ≡ Some g → slice_get told p ≡ Some t
+      → IsTold r g.conflicts.items t
