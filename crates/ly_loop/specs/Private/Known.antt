@@ -3,11 +3,10 @@ use Rattle.std.specs.Prelude.{◌≡◌, ◌⊎◌, ℕ, ◌+◌, ◌<◌, ◌�
 use Rattle.std.specs.BTreeMap.{BTreeMap}
 use Rattle.std.specs.BTreeMap as tree
 use Rattle.std.specs.Global.{Vec}
-use Rattle.std.specs.Ordering.{nat_cmp, ordering_then}
-use Rattle.std.specs.declared.cmp.Ordering.{Ordering}
 use Rattle.ly_base.specs.declared.numbers.RuleNo.{RuleNo}
 use Rattle.ly_pack.specs.Machine.{Machine, states_of}
 use Rattle.ly_pack.specs.Steady.{run_bound}
+use Rattle.ly_loop.specs.Private.Pairs.{pair_cmp}
 use Rattle.ly_loop.specs.Private.Summary.{IsSummary}
 use Rattle.ly_loop.specs.declared.known.Edge.{Edge}
 use Rattle.ly_loop.specs.declared.known.Lookup.{Lookup}
@@ -21,13 +20,9 @@ use Rattle.ly_loop.specs.declared.tokens.Tokens.{Tokens}
 abbrev pub Summaries : Type 0
 Summaries = BTreeMap (ℕ × ℕ) (Option Summary)
 
--- edges in order
-abbrev pub edge_cmp : ℕ × ℕ → ℕ × ℕ → Ordering
-edge_cmp x y = ordering_then (nat_cmp x.0 y.0) (nat_cmp x.1 y.1)
-
 -- what is kept for an edge, if anything is
 abbrev pub kept_at : Summaries → ℕ × ℕ → Option (Option Summary)
-kept_at summaries edge = tree.get edge_cmp summaries edge
+kept_at summaries edge = tree.get pair_cmp summaries edge
 
 -- the summaries that are kept are true, on these terminals
 abbrev pub AreKnown : Machine → Tokens → Summaries → Type 0
