@@ -6,7 +6,8 @@ use Rattle.ly_base.proofs.ListLemmas.{All-at}
 use Rattle.ly_base.specs.declared.numbers.RuleNo.{RuleNo}
 use Rattle.std.proofs.lemmas.List.Elements.{Contains-push_cases}
 use Rattle.ly_base.specs.declared.numbers.Sym.{Sym}
-use Rattle.ly_pack.specs.Machine.{IsMachine, IsRuleNumber, IsRuleWithin, IsTableRule, Machine, TableAction, TableRule, accept}
+use Rattle.ly_pack.specs.Machine.{IsMachine, IsRuleNumber, IsRuleWithin, IsTableRule, Machine, TableAction, TableRule}
+use Rattle.ly_pack.specs.Machine.{accept}
 use Rattle.ly_pack.specs.Machine.{action_of, error, goto_at, reduce, shift}
 use Rattle.ly_pack.specs.Values.{action_from}
 use Rattle.ly_pack.specs.declared.action.TableAction as code
@@ -15,7 +16,6 @@ use Rattle.ly_pack.specs.Steady.{accepts, here, onward, perform, reads, refuses,
 use Rattle.ly_pack.proofs.Runs.{reduces_above}
 use Rattle.ly_pack.proofs.WithinLemmas.{rule_known}
 use Rattle.ly_loop.specs.Private.Known.{AreKnown, IsKept, IsLonger, IsLookup, IsWithinStates}
-use Rattle.ly_loop.specs.Private.Known.{Summaries}
 use Rattle.ly_loop.specs.Private.Summary.{ComesTo, EndsSo, IsAllowed, IsBehind, IsGone, IsLeaving, IsLeft, IsSummary}
 use Rattle.ly_loop.specs.Private.Summary.{IsJoined, IsSummaryBy, IsSummaryByAll, IsOver}
 use Rattle.ly_loop.specs.Private.Reductions.{AreAlike, AreAllReductions, AreReductions, EndsAtOnce}
@@ -23,6 +23,7 @@ use Rattle.ly_loop.specs.declared.known.Edge.{Edge}
 use Rattle.ly_loop.specs.declared.known.Lookup.{Lookup}
 use Rattle.ly_loop.specs.declared.known.Lookup.TheVariants.{Known, Unknown, Wanted}
 use Rattle.ly_loop.specs.declared.summary.Ending.TheVariants.{Over, Leaves}
+use Rattle.ly_loop.specs.declared.summaries.Summaries.{Summaries}
 use Rattle.ly_loop.specs.declared.summary.Summary.{Summary}
 use Rattle.ly_loop.specs.declared.tokens.Tokens.{Tokens}
 use Rattle.ly_loop.specs.declared.tokens.Tokens.TheVariants.{One}
@@ -75,7 +76,10 @@ pub kept_is : (m : Machine) (k : Tokens) (reductions : List (Vec RuleNo)) (summa
 kept_is m k reductions summaries edge (Known o) all known within (inl none) =
     unreduced_summary m k edge.below.0 edge.top.0 none.0.items o (all.each edge.top.0 none.0 none.1) none.2 none.3
     none.4
-kept_is m k reductions summaries edge (Known o) all known within (inr kept) = known edge.below.0 edge.top.0 o kept
+kept_is m k reductions summaries edge (Known o) all known within (inr (inl kept)) =
+    known.0 edge.below.0 edge.top.0 o kept
+kept_is m k reductions summaries edge (Known o) all known within (inr (inr kept)) =
+    known.1 edge.below.0 edge.top.0 o kept
 kept_is m k reductions summaries edge Unknown all known within kept = tt
 kept_is m k reductions summaries edge (Wanted wanted) all known within kept = subst (IsWithinStates m) (sym kept) within
 

@@ -8,8 +8,8 @@ pub returns-in_ok-push-clause-alike : goal.returns-in_ok-push-clause-alike
 returns-in_ok-push-clause-alike g c =
     let m = c.args.machine.now in
     subst (AreFirsts m c.insert.new.self) (sym c.in_ok-push.ensures.items)
-    (firsts_put m c.args.alike.now c.insert.new.self c.args.kept.now.items c.args.rule (rule_from c.rule-made.result.now)
-    c.rule-made.ensures c.in_ok-insert.ensures.updates.0 c.requires.alike)
+    (firsts_put m c.args.alike.now c.insert.new.self c.args.kept.now.items c.args.rule
+    (rule_from c.rule-made.result.now) c.rule-made.ensures c.in_ok-insert.ensures.updates.0 c.requires.alike)
 
 pub returns-else-is_none-2-clause-kept : goal.returns-else-is_none-2-clause-kept
 returns-else-is_none-2-clause-kept g c =

@@ -1,5 +1,5 @@
 use Rattle.std.proofs.Common.{◌≡◌, refl, subst, sym}
-use Rattle.ly_pack.specs.Machine.{IsMachine, IsRuleNumber, action_of, reduce}
+use Rattle.ly_pack.specs.Machine.{IsMachine, action_of, reduce}
 use Rattle.ly_pack.specs.Values.{action_from}
 use Rattle.ly_pack.proofs.LegalLemmas.{legal_reduction}
 use Rattle.ly_loop.specs.Private.Known.{IsLookup}
