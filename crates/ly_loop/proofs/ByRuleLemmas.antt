@@ -6,7 +6,8 @@ use Rattle.ly_base.proofs.ListLemmas.{All-at}
 use Rattle.ly_base.specs.declared.numbers.RuleNo.{RuleNo}
 use Rattle.std.proofs.lemmas.List.Elements.{Contains-push_cases}
 use Rattle.ly_base.specs.declared.numbers.Sym.{Sym}
-use Rattle.ly_pack.specs.Machine.{IsMachine, IsRuleWithin, IsTableRule, Machine, TableAction, TableRule, accept}
+use Rattle.ly_pack.specs.Machine.{IsMachine, IsRuleNumber, IsRuleWithin, IsTableRule, Machine, TableAction, TableRule}
+use Rattle.ly_pack.specs.Machine.{accept}
 use Rattle.ly_pack.specs.Machine.{action_of, error, goto_at, reduce, shift}
 use Rattle.ly_pack.specs.Values.{action_from}
 use Rattle.ly_pack.specs.declared.action.TableAction as code
@@ -15,18 +16,19 @@ use Rattle.ly_pack.specs.Steady.{accepts, here, onward, perform, reads, refuses,
 use Rattle.ly_pack.proofs.Runs.{reduces_above}
 use Rattle.ly_pack.proofs.WithinLemmas.{rule_known}
 use Rattle.ly_loop.specs.Private.Known.{AreKnown, IsKept, IsLonger, IsLookup, IsWithinStates}
-use Rattle.ly_loop.specs.Private.Known.{Summaries}
 use Rattle.ly_loop.specs.Private.Summary.{ComesTo, EndsSo, IsAllowed, IsBehind, IsGone, IsLeaving, IsLeft, IsSummary}
 use Rattle.ly_loop.specs.Private.Summary.{IsJoined, IsSummaryBy, IsSummaryByAll, IsOver}
-use Rattle.ly_loop.specs.Private.Reductions.{AreAllReductions, AreReductions, EndsAtOnce}
+use Rattle.ly_loop.specs.Private.Reductions.{AreAlike, AreAllReductions, AreReductions, EndsAtOnce}
 use Rattle.ly_loop.specs.declared.known.Edge.{Edge}
 use Rattle.ly_loop.specs.declared.known.Lookup.{Lookup}
 use Rattle.ly_loop.specs.declared.known.Lookup.TheVariants.{Known, Unknown, Wanted}
 use Rattle.ly_loop.specs.declared.summary.Ending.TheVariants.{Over, Leaves}
+use Rattle.ly_loop.specs.declared.summaries.Summaries.{Summaries}
 use Rattle.ly_loop.specs.declared.summary.Summary.{Summary}
 use Rattle.ly_loop.specs.declared.tokens.Tokens.{Tokens}
 use Rattle.ly_loop.specs.declared.tokens.Tokens.TheVariants.{One}
 use Rattle.ly_loop.specs.Private.Tokens.{IsOn}
+use Rattle.ly_loop.proofs.ReductionLemmas.{alike_itself}
 use Rattle.ly_loop.proofs.SummaryLemmas.{comes_after, comes_over, leaving_on, leaving_pops, over_on, over_so}
 use Rattle.ly_loop.proofs.SummaryLemmas.{popping_on, popping_over}
 
@@ -74,7 +76,10 @@ pub kept_is : (m : Machine) (k : Tokens) (reductions : List (Vec RuleNo)) (summa
 kept_is m k reductions summaries edge (Known o) all known within (inl none) =
     unreduced_summary m k edge.below.0 edge.top.0 none.0.items o (all.each edge.top.0 none.0 none.1) none.2 none.3
     none.4
-kept_is m k reductions summaries edge (Known o) all known within (inr kept) = known edge.below.0 edge.top.0 o kept
+kept_is m k reductions summaries edge (Known o) all known within (inr (inl kept)) =
+    known.0 edge.below.0 edge.top.0 o kept
+kept_is m k reductions summaries edge (Known o) all known within (inr (inr kept)) =
+    known.1 edge.below.0 edge.top.0 o kept
 kept_is m k reductions summaries edge Unknown all known within kept = tt
 kept_is m k reductions summaries edge (Wanted wanted) all known within kept = subst (IsWithinStates m) (sym kept) within
 
@@ -189,21 +194,24 @@ leaves_by m k below top p r rest side ok is left size = record {
     low = omega arith;
     left = subst (λ n. n < m.nonterminals) left (rule_left m p r ok is);
   };
-  runs = λ t known by. record {
+  runs = λ t q known alike by. record {
     count = 0;
     last = top ∷ below ∷ [];
     leads = here;
     within = omega arith;
     ending = inr (record {
-      number = p;
-      rule = r;
+      number = q;
+      rule = alike.other;
       reduces = by;
-      is_rule = rule_known m p r is;
-      left_side = left;
-      size = size;
+      is_rule = alike.is_other;
+      left_side = sym alike.left ∙ (ap (λ (x : TableRule). x.left) (first_is q alike) ∙ left);
+      size = sym alike.size ∙ (ap (λ (x : TableRule). x.body_length) (first_is q alike) ∙ size);
     });
   };
 }
+  where
+    first_is : (q : ℕ) → (alike : AreAlike m p q) → alike.rule ≡ r
+    first_is q alike = let both : Some alike.rule ≡ Some r = sym alike.is_rule ∙ rule_known m p r is in cc
 
 -- one rule more
 pub more_is : (m : Machine) (k : Tokens) (below top : ℕ) (rules : List RuleNo) (r : RuleNo) (all one joined : Summary)
@@ -211,9 +219,10 @@ pub more_is : (m : Machine) (k : Tokens) (below top : ℕ) (rules : List RuleNo)
     → IsSummaryByAll m k below top (rules ++ r ∷ []) joined
 more_is m k below top rules r all one joined was is both = record {
   allowed = both.allowed was.allowed is.allowed;
-  runs = λ t q known has by. elim (Contains-push_cases rules r q has) [
-    | inl old ↦ both.first t (top ∷ below ∷ []) (was.runs t q known old by)
-    | inr same ↦ both.second t (top ∷ below ∷ []) (is.runs t known (by ∙ ap (λ (x : RuleNo). reduce x.0) (sym same)))
+  runs = λ t p known said by. elim (Contains-push_cases rules r said.0 said.1) [
+    | inl old ↦ both.first t (top ∷ below ∷ []) (was.runs t p known (said.0, old, said.2) by)
+    | inr same ↦ both.second t (top ∷ below ∷ []) (is.runs t p known
+        (subst (λ (x : RuleNo). AreAlike m x.0 p) (sym same) said.2) by)
   ];
 }
 
@@ -231,7 +240,7 @@ all_is m k below top rules o are is = record {
         comes_over m t (top ∷ below ∷ []) o (unreduced_over m t top (below ∷ []) (shift s) a (λ p e. absurd (cc)))
     by_action t known (reduce p) a =
         elim (are.whole t p a) [
-          | inl r ↦ is.runs t r.0 known r.1 (a ∙ ap reduce (sym r.2))
+          | inl said ↦ is.runs t p known said a
           | inr e ↦ comes_over m t (top ∷ below ∷ []) o (at_once_over m t top (below ∷ []) p a e)
         ]
     by_action t known accept a =
@@ -247,12 +256,20 @@ unreduced Accept not p e = cc
 unreduced Error not p e = cc
 
 -- one terminal, on which the state on top reduces
-pub one_is : (m : Machine) (token : Sym) (below top p : ℕ) (o : Summary) → action_of m top token.0 ≡ reduce p
-    → IsSummaryBy m (One token) below top p o → IsSummary m (One token) below top o
-one_is m token below top p o by is = record {
+pub one_is : (m : Machine) (token : Sym) (below top p : ℕ) (o : Summary) → IsRuleNumber m p
+    → action_of m top token.0 ≡ reduce p → IsSummaryBy m (One token) below top p o
+    → IsSummary m (One token) below top o
+one_is m token below top p o known by is = record {
   allowed = is.allowed;
-  runs = λ t on. is.runs t on (ap (action_of m top) on ∙ by);
+  runs = λ t on. is.runs t p on (alike_itself m p known) (ap (action_of m top) on ∙ by);
 }
+
+pub one_found : (m : Machine) (token : Sym) (below top p : ℕ) (found : Lookup) → IsRuleNumber m p
+    → action_of m top token.0 ≡ reduce p → IsLookup m (IsSummaryBy m (One token) below top p) found
+    → IsLookup m (IsSummary m (One token) below top) found
+one_found m token below top p (Known o) known by is = one_is m token below top p o known by is
+one_found m token below top p Unknown known by is = tt
+one_found m token below top p (Wanted edge) known by is = is
 
 -- and one on which it doesn't
 pub one_over : (m : Machine) (token : Sym) (below top : ℕ) (a : TableAction) (o : Summary) → o.most ≡ 0

@@ -1,6 +1,6 @@
 -- Edges of whose runs nothing is known, and the first run above them that makes too many reductions.
 use Rattle.std.proofs.Common.{◌≡◌, ◌⊎◌, ℕ, suc, ◌+◌, ◌<◌, List, [], ◌∷◌, ◌++◌, Contains, Option, None, Some}
-use Rattle.std.proofs.Common.{length, take, arith, inl, inr, refl, subst, sym, true, false}
+use Rattle.std.proofs.Common.{arith, inl, inr, refl, subst, sym, true, false}
 use Rattle.std.proofs.lemmas.Bool.{cases_lt}
 use Rattle.std.proofs.lemmas.List.Elements.{Contains-append_left, Contains-push, Contains-push_cases}
 use Rattle.ly_base.proofs.MemberLemmas.{Contains-none}
@@ -9,7 +9,7 @@ use Rattle.ly_pack.specs.Machine.{IsMachine, AreEntriesWithin, Machine, shift, s
 use Rattle.ly_pack.specs.Steady.{IsSteady, IsTableEdge, by_goto, by_shift}
 use Rattle.ly_loop.specs.Endless.{ComesBefore, EdgeEnds, IsFirstEndless}
 use Rattle.ly_loop.specs.Private.Edges.{AllEnd, AreDoubtful, AreMoreDoubtful, AreTargets, IsAbove, IsAmong, IsBefore}
-use Rattle.ly_loop.specs.Private.Edges.{IsFirstOf, IsFirstRun, RunsBefore}
+use Rattle.ly_loop.specs.Private.Edges.{IsFirstOf}
 use Rattle.ly_loop.specs.declared.edges.Passing.{Passing}
 use Rattle.ly_loop.specs.declared.known.Edge.{Edge}
 use Rattle.ly_loop.proofs.TargetLemmas.{shift_entry}

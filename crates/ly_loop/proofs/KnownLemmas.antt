@@ -1,17 +1,15 @@
 -- What is known of edges, and the edges that are sought.
-use Rattle.std.proofs.Common.{◌≡◌, ◌∙◌, ℕ, List, [], ◌∷◌, ◌++◌, Option, Some, None}
-use Rattle.std.proofs.Common.{Bool, false, is_some, true, arith, length, refl, subst, sym}
-use Rattle.std.specs.BTreeMap.{is_at}
-use Rattle.std.specs.Ordering.{is_eq, nat_cmp}
+use Rattle.std.proofs.Common.{◌≡◌, ◌⊎◌, ◌∙◌, inl, inr, ℕ, List, [], ◌∷◌, ◌++◌, Option, Some, None}
+use Rattle.std.proofs.Common.{Bool, ap, false, is_some, true, arith, length, refl, subst, sym}
+use Rattle.std.specs.BTreeMap.{IsEmpty, is_at}
+use Rattle.std.specs.Map.{lookup}
 use Rattle.std.specs.Prelude.{IfSome, cond}
-use Rattle.std.specs.declared.cmp.Ordering.{Ordering}
-use Rattle.std.specs.declared.cmp.Ordering.TheVariants.{Equal, Greater, Less}
-use Rattle.std.proofs.lemmas.Map.Lookups.{exact_pairs, exact_unsigned}
 use Rattle.std.proofs.lemmas.List.Elements.{All-contains, All-push, All-take, Contains-push}
 use Rattle.std.proofs.Math.Seq.{take-append_seam}
 use Rattle.ly_pack.specs.Machine.{Machine}
-use Rattle.ly_loop.specs.Private.Known.{AreKnown, ArePending, IsLookup, IsSummaryOf, IsWithinStates}
-use Rattle.ly_loop.specs.Private.Known.{Summaries, edge_cmp, kept_at}
+use Rattle.ly_loop.specs.Private.Known.{ArePending, AreTrue, IsAmongKept, IsLookup, IsSummaryOf}
+use Rattle.ly_loop.specs.Private.Known.{IsWithinStates, Kept, kept_at}
+use Rattle.ly_loop.specs.Private.Pairs.{pair_cmp}
 use Rattle.ly_loop.specs.declared.known.Pending.{Pending}
 use Rattle.ly_loop.specs.Private.Summary.{IsSummary}
 use Rattle.ly_loop.specs.Endless.{EdgeEnds}
@@ -20,33 +18,42 @@ use Rattle.ly_loop.specs.declared.tokens.Tokens.{Tokens}
 use Rattle.ly_loop.specs.declared.known.Edge.{Edge}
 use Rattle.ly_loop.specs.declared.known.Lookup.{Lookup}
 use Rattle.ly_loop.specs.declared.known.Lookup.TheVariants.{Known, Unknown, Wanted}
+use Rattle.ly_loop.specs.declared.summaries.Summaries.{Summaries}
 use Rattle.ly_loop.specs.declared.summary.Summary.{Summary}
+use Rattle.ly_loop.proofs.PairLemmas.{same_pair}
 use Rattle.ly_loop.proofs.SummaryLemmas.{summary_ends}
 
--- keys that are equal in order are the same edge
-equal_from : (o : Ordering) → is_eq o ≡ true → o ≡ Equal
-equal_from Less is = absurd (cc)
-equal_from Equal is = refl
-equal_from Greater is = absurd (cc)
-
-same_edge : (x y : ℕ × ℕ) → is_eq (edge_cmp x y) ≡ true → x ≡ y
-same_edge x y is = exact_pairs nat_cmp nat_cmp exact_unsigned exact_unsigned x y (equal_from (edge_cmp x y) is)
-
 -- an edge of which something is kept that is true
-pub put_is : (m : Machine) (k : Tokens) (old new : Summaries) (below top : ℕ) (w : Option Summary)
-    → ((q : ℕ × ℕ) → kept_at new q ≡ cond (is_at (edge_cmp (below, top)) q) (Some w) (kept_at old q))
-    → IfSome w (IsSummary m k below top) → AreKnown m k old → AreKnown m k new
+pub put_is : (m : Machine) (k : Tokens) (old new : Kept) (below top : ℕ) (w : Option Summary)
+    → ((q : ℕ × ℕ) → kept_at new q ≡ cond (is_at (pair_cmp (below, top)) q) (Some w) (kept_at old q))
+    → IfSome w (IsSummary m k below top) → AreTrue m k old → AreTrue m k new
 put_is m k old new below top w put is known b t o kept =
-    by_test (is_at (edge_cmp (below, top)) (b, t)) refl (sym (put (b, t)) ∙ kept)
+    by_test (is_at (pair_cmp (below, top)) (b, t)) refl (sym (put (b, t)) ∙ kept)
   where
-    by_test : (r : Bool) → is_at (edge_cmp (below, top)) (b, t) ≡ r
+    by_test : (r : Bool) → is_at (pair_cmp (below, top)) (b, t) ≡ r
         → cond r (Some w) (kept_at old (b, t)) ≡ Some (Some o) → IsSummary m k b t o
     by_test true at same =
-        let pair = same_edge (below, top) (b, t) at in
+        let pair = same_pair (below, top) (b, t) at in
         let that : w ≡ Some o = cc in
         let so : IsSummary m k below top o = subst (λ x. IfSome x (IsSummary m k below top)) that is in
         subst (λ (x : ℕ × ℕ). IsSummary m k x.0 x.1 o) pair so
     by_test false at same = known b t o same
+
+-- what is kept in one of both is kept
+pub among_by : (summaries : Summaries) (edge : Edge) (o : Summary) (kept : Kept)
+    → (kept ≡ summaries.own) ⊎ (kept ≡ summaries.others)
+    → kept_at kept (edge.below.0, edge.top.0) ≡ Some (Some o) → IsAmongKept summaries edge o
+among_by summaries edge o kept (inl own) found = inl (subst
+    (λ (x : Kept). kept_at x (edge.below.0, edge.top.0) ≡ Some (Some o)) own found)
+among_by summaries edge o kept (inr others) found = inr (subst
+    (λ (x : Kept). kept_at x (edge.below.0, edge.top.0) ≡ Some (Some o)) others found)
+
+-- nothing is kept
+pub none_is : (m : Machine) (k : Tokens) (kept : Kept) → IsEmpty kept → AreTrue m k kept
+none_is m k kept empty below top o found =
+    let no : kept_at kept (below, top) ≡ None = ap (lookup (is_at (pair_cmp (below, top)))) empty in
+    let both : None ≡ Some (Some o) = sym no ∙ found in
+    absurd (cc)
 
 -- the first edge that is sought
 pub pending_one : (m : Machine) (last none : List Pending) (edge : Edge) → none ≡ []

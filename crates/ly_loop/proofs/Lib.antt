@@ -2,6 +2,7 @@ pub mod ByRuleLemmas
 pub mod EdgeLemmas
 pub mod EntryLemmas
 pub mod KnownLemmas
+pub mod PairLemmas
 pub mod ReductionLemmas
 pub mod RunLemmas
 pub mod SummaryLemmas

@@ -1,24 +1,34 @@
 -- The rules by which states reduce, as rows list them.
-use Rattle.std.proofs.Common.{◌≡◌, ◌∙◌, ◌⊎◌, inl, inr, ◌++◌, ◌∷◌, [], ℕ, List, Option, Some, None, Contains}
-use Rattle.std.proofs.Common.{ap, arith, eqb-true, false, length, refl, slice_get, subst, sym, true}
-use Rattle.std.specs.Prelude.{nat_eq}
+use Rattle.std.proofs.Common.{◌≡◌, ◌∙◌, ◌⊎◌, ◌-◌, inl, inr, ◌++◌, ◌∷◌, [], ℕ, List, Option, Some, None, Contains}
+use Rattle.std.proofs.Common.{Bool, Bor, ap, arith, eqb-true, false, is_some, length, refl, slice_get, subst, sym, true}
+use Rattle.std.specs.BTreeMap.{BTreeMap, is_at}
+use Rattle.std.specs.BTreeMap as tree
+use Rattle.std.specs.Map.{lookup}
+use Rattle.std.specs.Option.{option_copied}
+use Rattle.std.specs.Prelude.{cond, nat_eq}
 use Rattle.std.specs.List.{list_any}
 use Rattle.std.specs.Global.{Vec}
 use Rattle.std.proofs.lemmas.List.Elements.{Contains-append_left, Contains-push, Contains-push_cases}
 use Rattle.std.specs.Cmp.{nat_eq_equiv}
 use Rattle.std.proofs.lemmas.Map.Views.{Contains-from_any, list_any-from_Contains}
+use Rattle.ly_base.proofs.ListLemmas.{some_at}
 use Rattle.ly_base.specs.SparseSet.{with_member}
 use Rattle.ly_base.specs.declared.numbers.RuleNo.{RuleNo}
-use Rattle.ly_pack.specs.Machine.{IsMachine, IsRuleNumber, Machine, TableAction, action_of, entry_at, or_default}
-use Rattle.ly_pack.specs.Machine.{reduce}
+use Rattle.ly_pack.specs.Machine.{IsMachine, IsRuleNumber, IsTableRule, Machine, TableAction, TableRule, action_of}
+use Rattle.ly_pack.specs.Machine.{entry_at, or_default, reduce}
+use Rattle.ly_pack.specs.Steady.{rule_at}
 use Rattle.ly_pack.specs.Values.{action_from}
 use Rattle.ly_pack.specs.declared.action.TableAction as code
 use Rattle.ly_pack.specs.declared.action.TableAction.TheVariants.{Shift, Reduce, Accept, Error}
 use Rattle.ly_pack.specs.declared.cell.Cell.{Cell}
 use Rattle.ly_pack.proofs.OrderLemmas.{slice_get-push_cases}
 use Rattle.ly_pack.proofs.LegalLemmas.{legal_reduction}
+use Rattle.ly_pack.proofs.WithinLemmas.{rule_known}
 use Rattle.ly_loop.specs.Private.Entries.{AreEntries}
-use Rattle.ly_loop.specs.Private.Reductions.{AreReducing, AreReductions, AreSeen, EndsAtOnce, IsIn, IsKeptOn, IsNoted}
+use Rattle.ly_loop.specs.Private.Pairs.{pair_cmp}
+use Rattle.ly_loop.proofs.PairLemmas.{same_pair}
+use Rattle.ly_loop.specs.Private.Reductions.{AreAlike, AreFirsts, AreReducing, AreReductions, AreSeen, EndsAtOnce}
+use Rattle.ly_loop.specs.Private.Reductions.{IsIn, IsKeptOn, IsNoted, IsSaid}
 
 in_push : (row : List RuleNo) (r : RuleNo) (n : ℕ) → IsIn row n → IsIn (row ++ r ∷ []) n
 in_push row r n is = (is.0, Contains-append_left row (r ∷ []) is.0 is.1, is.2)
@@ -186,10 +196,84 @@ pub at_join : (m : Machine) (state : ℕ) (entries : List (Cell code.TableAction
 at_join m state entries seen seen' row row' e0 e1 is =
     subst (λ s. IsRow m state entries s row') (sym e0) (subst (IsRow m state entries seen) (sym e1) is)
 
--- The rules of a row so far are kept, but for those by which a run ends at once.
+-- a rule says the same as itself
+pub alike_itself : (m : Machine) (p : ℕ) → IsRuleNumber m p → AreAlike m p p
+alike_itself m p is =
+    let found = some_at m.rules (p - 1) (omega (arith, is)) in
+    record {
+      rule = found.0;
+      other = found.0;
+      is_rule = found.1;
+      is_other = found.1;
+      left = refl;
+      size = refl;
+    }
+
+-- a row more has what was said
+said_push : (m : Machine) (row : List RuleNo) (r : RuleNo) (p : ℕ) → IsSaid m row p → IsSaid m (row ++ r ∷ []) p
+said_push m row r p is = (is.0, Contains-append_left row (r ∷ []) is.0 is.1, is.2)
+
+-- nothing is looked up
+pub firsts_none : (m : Machine) (firsts : BTreeMap (ℕ × ℕ) RuleNo) (row : List RuleNo) → tree.IsEmpty firsts
+    → AreFirsts m firsts row
+firsts_none m firsts row empty left size r found =
+    let no : tree.get pair_cmp firsts (left, size) ≡ None = ap (lookup (is_at (pair_cmp (left, size)))) empty in
+    let both : None ≡ Some r = sym no ∙ found in
+    absurd (cc)
+
+-- one that is kept is looked up as well
+pub firsts_put : (m : Machine) (old new : BTreeMap (ℕ × ℕ) RuleNo) (row : List RuleNo) (rule : RuleNo) (x : TableRule)
+    → IsTableRule m rule.0 x → ((q : ℕ × ℕ) → tree.get pair_cmp new q
+    ≡ cond (is_at (pair_cmp (x.left, x.body_length)) q) (Some rule) (tree.get pair_cmp old q))
+    → AreFirsts m old row → AreFirsts m new (row ++ rule ∷ [])
+firsts_put m old new row rule x is put was left size r found =
+    by_test (is_at (pair_cmp (x.left, x.body_length)) (left, size)) refl (sym (put (left, size)) ∙ found)
+  where
+    by_test : (b : Bool) → is_at (pair_cmp (x.left, x.body_length)) (left, size) ≡ b
+        → cond b (Some rule) (tree.get pair_cmp old (left, size)) ≡ Some r
+        → Contains (row ++ rule ∷ []) r
+        × ((y : TableRule) × (rule_at m r.0 ≡ Some y) × (y.left ≡ left) × (y.body_length ≡ size))
+    by_test true at same =
+        let pair = same_pair (x.left, x.body_length) (left, size) at in
+        let that : rule ≡ r = cc in
+        subst (λ (n : RuleNo). Contains (row ++ rule ∷ []) n
+        × ((y : TableRule) × (rule_at m n.0 ≡ Some y) × (y.left ≡ left) × (y.body_length ≡ size))) that (
+          Contains-push row rule,
+          (
+            x,
+            rule_known m rule.0 x is,
+            ap (λ (q : ℕ × ℕ). q.0) pair,
+            ap (λ (q : ℕ × ℕ). q.1) pair,
+          ),
+        )
+    by_test false at same =
+        let there = was left size r same in
+        (Contains-append_left row (rule ∷ []) r there.0, there.1)
+
+-- what is looked up says the same
+pub first_said : (m : Machine) (firsts : BTreeMap (ℕ × ℕ) RuleNo) (row : List RuleNo) (rule : RuleNo) (x : TableRule)
+    (found : Option (Bor RuleNo)) → IsTableRule m rule.0 x → AreFirsts m firsts row
+    → option_copied found ≡ tree.get pair_cmp firsts (x.left, x.body_length) → is_some found ≡ true
+    → IsSaid m row rule.0
+first_said m firsts row rule x None is all at some = absurd (cc)
+first_said m firsts row rule x (Some r) is all at some =
+    let there = all x.left x.body_length r.now (sym at) in (
+      r.now,
+      there.0,
+      record {
+        rule = there.1.0;
+        other = x;
+        is_rule = there.1.1;
+        is_other = rule_known m rule.0 x is;
+        left = there.1.2;
+        size = there.1.3;
+      },
+    )
+
+-- The rules of a row so far are kept, but for those by which a run ends at once, and those that say the same.
 pub record AreKeptOn (m : Machine) (state : ℕ) (row kept : List RuleNo) : Type 0 where
   pub rules : (r : RuleNo) → Contains kept r → IsRuleNumber m r.0
-  pub whole : (r : RuleNo) → Contains row r → Contains kept r ⊎ EndsAtOnce m state r.0
+  pub whole : (r : RuleNo) → Contains row r → IsSaid m kept r.0 ⊎ EndsAtOnce m state r.0
 
 pub kept_none : (m : Machine) (state : ℕ) → AreKeptOn m state [] []
 kept_none m state = record {
@@ -207,21 +291,29 @@ kept_more m state row kept rule new known was (inl pushed) = record {
   ];
   whole = λ r h. elim (Contains-push_cases row rule r h) [
     | inl old ↦ elim (was.whole r old) [
-      | inl there ↦ inl (subst (λ rs. Contains rs r) (sym pushed) (Contains-append_left kept (rule ∷ []) r there))
+      | inl there ↦ inl (subst (λ rs. IsSaid m rs r.0) (sym pushed) (said_push m kept rule r.0 there))
       | inr ends ↦ inr ends
     ]
-    | inr same ↦ inl (subst (λ rs. Contains rs r) (sym pushed)
-        (subst (λ x. Contains (kept ++ rule ∷ []) x) same (Contains-push kept rule)))
+    | inr same ↦ inl (subst (λ rs. IsSaid m rs r.0) (sym pushed) (
+      rule,
+      Contains-push kept rule,
+      subst (λ (x : RuleNo). AreAlike m rule.0 x.0) same
+          (alike_itself m rule.0 known),
+    ))
   ];
 }
 kept_more m state row kept rule new known was (inr left) = record {
   rules = λ r h. was.rules r (subst (λ rs. Contains rs r) left.0 h);
   whole = λ r h. elim (Contains-push_cases row rule r h) [
     | inl old ↦ elim (was.whole r old) [
-      | inl there ↦ inl (subst (λ rs. Contains rs r) (sym left.0) there)
+      | inl there ↦ inl (subst (λ rs. IsSaid m rs r.0) (sym left.0) there)
       | inr ends ↦ inr ends
     ]
-    | inr same ↦ inr (subst (λ (x : RuleNo). EndsAtOnce m state x.0) same left.1)
+    | inr same ↦ elim left.1 [
+      | inl ends ↦ inr (subst (λ (x : RuleNo). EndsAtOnce m state x.0) same ends)
+      | inr said ↦ inl (subst (λ rs. IsSaid m rs r.0) (sym left.0)
+          (subst (λ (x : RuleNo). IsSaid m kept x.0) same said))
+    ]
   ];
 }
 
@@ -232,7 +324,7 @@ kept_all m state row kept are is = record {
   whole = λ t p action.
       let found = are.whole t p action in
       elim (is.whole found.0 found.1) [
-        | inl there ↦ inl (found.0, there, found.2)
+        | inl there ↦ inl (subst (IsSaid m kept) found.2 there)
         | inr ends ↦ inr (subst (EndsAtOnce m state) found.2 ends)
       ];
 }

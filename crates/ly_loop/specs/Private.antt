@@ -2,6 +2,7 @@ pub mod Edges
 pub mod Entries
 pub mod Known
 pub mod Listed
+pub mod Pairs
 pub mod Reductions
 pub mod Run
 pub mod Summary

@@ -10,14 +10,11 @@ ghost use Rattle.ly_loop.specs.Private.Tokens.{AreThere};
 use crate::known::{Edge, Lookup};
 use crate::listed::Listed;
 use crate::run::RUN_BOUND;
+use crate::summaries::Summaries;
 use crate::summary::{Ending, Summary};
 use crate::tokens::Tokens;
 use ly_base::{RuleNo, StateNo, Sym};
 use ly_pack::{Rows, TableAction};
-use std::collections::BTreeMap;
-
-/// What is known of edges, by the numbers of their states.
-type Summaries = BTreeMap<(u32, u32), Option<Summary>>;
 
 /// Runs that end at once.
 const ENDED: Summary = Summary {
@@ -193,7 +190,8 @@ pub(crate) fn look_up(reductions: &[Vec<RuleNo>], summaries: &Summaries, edge: E
     if reductions[edge.top.0 as usize].is_empty() {
         return Lookup::Known(ENDED);
     }
-    match summaries.get(&(edge.below.0, edge.top.0)) {
+    let kept = summaries.above(edge.below);
+    match kept.get(&(edge.below.0, edge.top.0)) {
         Some(Some(summary)) => Lookup::Known(*summary),
         Some(None) => Lookup::Unknown,
         None => Lookup::Wanted(edge),

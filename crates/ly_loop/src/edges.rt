@@ -64,6 +64,7 @@ impl<A: Rows<TableAction> + Drop, G: Rows<StateNo> + Drop> Listed<'_, A, G> {
     {
         // the type's invariant says that the targets are states
         let _machine = self.machine;
+        known.summaries.turn_to(below);
         for top in targets {
             let edge = Edge { below, top: *top };
             let found = self.summary_of(Tokens::All, edge, known)?;

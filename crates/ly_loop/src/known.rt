@@ -1,19 +1,20 @@
 //! What is known of the runs of edges, each worked out once.
 ghost use Rattle.std.specs.Prelude.{◌≡◌, ◌++◌, [], ◌∷◌, IfOk, IfSome, OnOk};
-ghost use Rattle.std.specs.BTreeMap.{IsEmpty};
+ghost use Rattle.ly_pack.specs.Machine.{Machine};
 ghost use Rattle.ly_loop.specs.Private.Known.{AreKnown, ArePending, IsNoMore, IsSummaryOf, IsWithinStates};
 ghost use Rattle.ly_loop.specs.Private.Summary.{IsSummary};
 ghost use Rattle.ly_loop.specs.Private.Reductions.{AreReductions};
 ghost use Rattle.ly_loop.specs.Private.Tokens.{AreThere};
+ghost use Rattle.ly_loop.specs.declared.tokens.Tokens.{Tokens};
 
 use crate::by_rule::look_up;
 use crate::listed::Listed;
+use crate::summaries::Summaries;
 use crate::summary::Summary;
 use crate::tokens::Tokens;
 use ly_base::{OutOfMemory, RuleNo, StateNo};
 use ly_pack::{Rows, TableAction};
 use std::alloc::Global;
-use std::collections::BTreeMap;
 
 /// The two states of an edge.
 #[derive(Clone, Copy)]
@@ -59,8 +60,8 @@ pub(crate) struct Pending {
 /// What is known of edges, on all terminals or on one.
 #[derive(Drop)]
 pub(crate) struct Known {
-    /// What the runs of an edge come to, by the numbers of its states. Nothing where it is sought, or can't be said.
-    pub(crate) summaries: BTreeMap<(u32, u32), Option<Summary>>,
+    /// What the runs of edges come to.
+    pub(crate) summaries: Summaries,
     /// The edges whose summaries are sought, each for the one before it.
     pub(crate) agenda: Vec<Pending>,
 }
@@ -68,10 +69,10 @@ pub(crate) struct Known {
 impl Known {
     /// Nothing is known.
     pub(crate) fn new(alloc: Global) -> Known
-        ensures { IsEmpty result.summaries }
+        ensures { (m : Machine) → (k : Tokens) → AreKnown m k result.summaries }
     {
         Known {
-            summaries: BTreeMap::new(alloc),
+            summaries: Summaries::new(alloc),
             agenda: Vec::new(alloc),
         }
     }
@@ -136,9 +137,7 @@ impl<A: Rows<TableAction> + Drop, G: Rows<StateNo> + Drop> Listed<'_, A, G> {
             begin(wanted, known)?;
         } else {
             let found = self.runs_of(tokens, edge, &known.summaries);
-            known
-                .summaries
-                .insert((edge.below.0, edge.top.0), found.summary())?;
+            known.summaries.keep(edge, found.summary())?;
         }
         Ok(true)
     }
@@ -148,7 +147,7 @@ impl<A: Rows<TableAction> + Drop, G: Rows<StateNo> + Drop> Listed<'_, A, G> {
         &self,
         tokens: Tokens,
         pending: Pending,
-        summaries: &BTreeMap<(u32, u32), Option<Summary>>,
+        summaries: &Summaries,
     ) -> Option<(usize, Edge)>
         requires tokens { AreThere self.now tokens }
         requires edge { IsWithinStates self.now pending.edge }
@@ -174,7 +173,7 @@ impl<A: Rows<TableAction> + Drop, G: Rows<StateNo> + Drop> Listed<'_, A, G> {
         tokens: Tokens,
         rules: &[RuleNo],
         pending: Pending,
-        summaries: &BTreeMap<(u32, u32), Option<Summary>>,
+        summaries: &Summaries,
     ) -> Option<(usize, Edge)>
         requires rules { AreReductions self.now pending.edge.top.0 rules.now }
         requires edge { IsWithinStates self.now pending.edge }
@@ -201,7 +200,7 @@ fn begin(edge: Edge, known: &mut Known) -> Result<(), OutOfMemory>
     ensures agenda { OnOk result
         (known.new.agenda.items ≡ known.old.agenda.items ++ record { edge = edge; passed = 0 } ∷ []) }
 {
-    known.summaries.insert((edge.below.0, edge.top.0), None)?;
+    known.summaries.keep(edge, None)?;
     known.agenda.push(Pending { edge, passed: 0 })?;
     Ok(())
 }

@@ -25,6 +25,7 @@ mod known;
 mod listed;
 mod reductions;
 mod run;
+mod summaries;
 mod summary;
 mod tokens;
 

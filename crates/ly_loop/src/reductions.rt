@@ -2,15 +2,20 @@
 ghost use Rattle.std.specs.Prelude.{◌≡◌, ◌+◌, ◌<◌, IfOk, OnOk, length};
 ghost use Rattle.ly_pack.specs.Machine.{IsRuleNumber, states_of};
 ghost use Rattle.ly_loop.specs.Private.Entries.{AreAllEntries, AreEntries};
-ghost use Rattle.ly_loop.specs.Private.Reductions.{AreAllReductions, AreReducing, AreReductions, IsKeptOn, IsNoted};
+ghost use Rattle.ly_loop.specs.Private.Reductions.{AreAllReductions, AreFirsts, AreReducing, AreReductions, IsKeptOn};
+ghost use Rattle.ly_loop.specs.Private.Reductions.{IsNoted};
 ghost use Rattle.ly_loop.specs.Private.Run.{IsCountable};
 
 use ly_base::{OutOfMemory, RuleNo, SparseSet, StateNo};
 use ly_pack::{Cell, MachineView, Rows, TableAction};
 use std::alloc::Global;
+use std::collections::BTreeMap;
+
+/// Rules that are kept, by their left sides and how many symbols they have.
+type Alike = BTreeMap<(u32, usize), RuleNo>;
 
 /// The rules by which each state reduces before some terminal, by its entries or by its default, but for those by which
-/// a run ends at once.
+/// a run ends at once, and those that say the same as another.
 pub(crate) fn all_reductions<A: Rows<TableAction> + Drop, G: Rows<StateNo> + Drop>(
     alloc: Global,
     machine: &MachineView<'_, A, G>,
@@ -59,7 +64,7 @@ fn reductions<A: Rows<TableAction> + Drop, G: Rows<StateNo> + Drop>(
     Ok(row)
 }
 
-/// Those of the rules by which a state reduces that may lead on.
+/// Those of the rules by which a state reduces that may lead on, and one of those that say the same.
 fn without_ends<A: Rows<TableAction> + Drop, G: Rows<StateNo> + Drop>(
     alloc: Global,
     machine: &MachineView<'_, A, G>,
@@ -71,31 +76,39 @@ fn without_ends<A: Rows<TableAction> + Drop, G: Rows<StateNo> + Drop>(
     requires row { AreReducing machine.now state.0 row.now }
     ensures { IfOk result (λ kept. AreReductions machine.now state.0 kept.items) }
 {
+    let mut alike = BTreeMap::new(alloc);
     let mut kept = Vec::new(alloc);
     for rule in row {
-        keep(machine, state, *rule, &mut kept)?;
+        keep(machine, state, *rule, &mut alike, &mut kept)?;
     }
     Ok(kept)
 }
 
 /// Adds a rule by which a state reduces to a row if it may lead on: it has symbols, or the state has a goto for its
-/// left side.
+/// left side. A rule of the row that has this left side and as many symbols says the same.
 fn keep<A: Rows<TableAction> + Drop, G: Rows<StateNo> + Drop>(
     machine: &MachineView<'_, A, G>,
     state: StateNo,
     rule: RuleNo,
+    alike: &mut Alike,
     kept: &mut Vec<RuleNo>,
 ) -> Result<(), OutOfMemory>
     requires countable { IsCountable machine.now }
     requires state { state.0 < states_of machine.now }
     requires rule { IsRuleNumber machine.now rule.0 }
-    ensures { OnOk result (IsKeptOn machine.now state.0 rule kept.old.items kept.new.items) }
+    requires alike { AreFirsts machine.now alike.old kept.old.items }
+    ensures alike { OnOk result (AreFirsts machine.now alike.new kept.new.items) }
+    ensures kept { OnOk result (IsKeptOn machine.now state.0 rule kept.old.items kept.new.items) }
 {
     let made = machine.rule(rule);
     if made.body_length == 0 && machine.goto(state, made.left).is_none() {
         return Ok(());
     }
-    kept.push(rule)?;
+    let said = (made.left.0, made.body_length);
+    if alike.get(&said).is_none() {
+        alike.insert(said, rule)?;
+        kept.push(rule)?;
+    }
     Ok(())
 }
 

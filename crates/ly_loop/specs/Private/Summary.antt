@@ -1,5 +1,5 @@
 -- What runs come to: how many reductions they make at most, and how they end.
-use Rattle.std.specs.Prelude.{◌≡◌, ◌⊎◌, ℕ, ◌+◌, ◌<◌, ◌≤◌, List, [], ◌∷◌, ◌++◌, length, drop, Contains, Some}
+use Rattle.std.specs.Prelude.{◌≡◌, ◌⊎◌, ℕ, ◌+◌, ◌<◌, ◌≤◌, List, [], ◌∷◌, ◌++◌, length, drop, Some}
 use Rattle.ly_base.specs.declared.numbers.RuleNo.{RuleNo}
 use Rattle.ly_pack.specs.Machine.{Machine, TableRule, action_of, reduce}
 use Rattle.ly_pack.specs.Steady.{ReducesTo, RunEnd, action_on, ends, move, rule_at, run_bound}
@@ -7,6 +7,7 @@ use Rattle.ly_loop.specs.declared.summary.Ending.{Ending}
 use Rattle.ly_loop.specs.declared.summary.Ending.TheVariants.{Over, Leaves, Mixed}
 use Rattle.ly_loop.specs.declared.summary.Summary.{Summary}
 use Rattle.ly_loop.specs.declared.tokens.Tokens.{Tokens}
+use Rattle.ly_loop.specs.Private.Reductions.{AreAlike, IsSaid}
 use Rattle.ly_loop.specs.Private.Tokens.{IsOn}
 
 -- the run ends on this stack, whatever lies below it
@@ -60,15 +61,16 @@ pub record IsSummary (m : Machine) (k : Tokens) (below top : ℕ) (o : Summary) 
   pub allowed : IsAllowed m o
   pub runs : (t : ℕ) → IsOn m k t → ComesTo m t (top ∷ below ∷ []) o
 
--- The runs of an edge that begin with a reduction by a rule come to this.
+-- The runs of an edge that begin with a reduction by a rule, or one that says the same, come to this.
 pub record IsSummaryBy (m : Machine) (k : Tokens) (below top rule : ℕ) (o : Summary) : Type 0 where
   pub allowed : IsAllowed m o
-  pub runs : (t : ℕ) → IsOn m k t → action_of m top t ≡ reduce rule → ComesTo m t (top ∷ below ∷ []) o
+  pub runs : (t p : ℕ) → IsOn m k t → AreAlike m rule p → action_of m top t ≡ reduce p
+      → ComesTo m t (top ∷ below ∷ []) o
 
--- The runs of an edge that begin with a reduction by one of some rules come to this.
+-- The runs of an edge that begin with a reduction by one of some rules, or one that says the same, come to this.
 pub record IsSummaryByAll (m : Machine) (k : Tokens) (below top : ℕ) (rules : List RuleNo) (o : Summary) : Type 0 where
   pub allowed : IsAllowed m o
-  pub runs : (t : ℕ) (r : RuleNo) → IsOn m k t → Contains rules r → action_of m top t ≡ reduce r.0
+  pub runs : (t p : ℕ) → IsOn m k t → IsSaid m rules p → action_of m top t ≡ reduce p
       → ComesTo m t (top ∷ below ∷ []) o
 
 -- The runs come to this from where a reduction takes away all that lies above a state, with others below it.

@@ -1,6 +1,7 @@
-use Rattle.std.proofs.Common.{◌∙◌, eqb-true, inl, length, refl, sym}
+use Rattle.std.proofs.Common.{◌∙◌, eqb-true, inl, inr, length, refl, rules, sym, tests}
 use Rattle.std.proofs.lemmas.List.{nil_from_length}
 use Rattle.std.proofs.lemmas.Option.{slice_get_read}
+use Rattle.ly_loop.proofs.KnownLemmas.{among_by}
 use Rattle.ly_loop.proofs.by_rule.look_up.Goals as goal
 
 pub returns-then-is_empty : goal.returns-then-is_empty
@@ -14,3 +15,8 @@ returns-then-is_empty c =
       refl,
       refl,
     )
+
+pub returns-in-Some-Some : goal.returns-in-Some-Some
+returns-in-Some-Some c =
+    inr (among_by c.args.summaries.now c.args.edge _ c.above-kept.result.now c.above-kept.ensures
+    (search (rules, tests)))

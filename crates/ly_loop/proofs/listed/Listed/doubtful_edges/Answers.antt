@@ -1,8 +1,9 @@
-use Rattle.std.proofs.Common.{◌∙◌, ap, arith, refl, subst, sym}
+use Rattle.std.proofs.Common.{◌∙◌, ap, arith, refl, rules, subst, sym, tests}
 use Rattle.ly_base.specs.declared.numbers.StateNo.{StateNo}
 use Rattle.ly_pack.specs.Machine.{states_of}
 use Rattle.ly_loop.specs.Private.Edges.{AreDoubtful, AreTargets}
 use Rattle.ly_loop.specs.Private.Listed.{IsListed}
+use Rattle.ly_loop.specs.declared.tokens.Tokens.TheVariants.{All}
 use Rattle.ly_loop.proofs.EdgeLemmas.{doubtful_more}
 use Rattle.ly_loop.proofs.TargetLemmas.{targets_at}
 use Rattle.ly_loop.proofs.listed.Listed.doubtful_edges.Goals as goal
@@ -21,6 +22,12 @@ push_doubtful-requires-clause-targets g c =
     (c.deref.ensures.value ∙ ap (λ v. v.items) (sym c.index-self-number.is))
     (c.deref-in-loop-number.ensures.value ∙ ap (λ v. v.items) (sym c.index-self-number-in-loop-number.is))
     c.in_ok-targets.ensures)
+
+pub loop-number-init : goal.loop-number-init
+loop-number-init g c = record {
+  known = c.new-known.ensures c.args.self.now All;
+  doubtful = search (rules, tests);
+}
 
 pub loop-number-preserved : goal.loop-number-preserved
 loop-number-preserved g c =

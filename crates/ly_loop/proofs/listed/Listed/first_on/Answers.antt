@@ -1,4 +1,4 @@
-use Rattle.std.proofs.Common.{◌≡◌, ◌++◌, ◌∷◌, [], Some, get_or, refl, rules, subst, sym, take, tests}
+use Rattle.std.proofs.Common.{◌++◌, ◌∷◌, [], get_or, refl, subst, sym, take}
 use Rattle.std.proofs.lemmas.List.{take_all, take_more}
 use Rattle.std.proofs.lemmas.List.Elements.{Contains-get_or}
 use Rattle.ly_pack.specs.Steady.{run_bound}
@@ -17,7 +17,7 @@ use Rattle.ly_loop.proofs.listed.Listed.first_on.Goals.{else-comes_before}
 
 pub loop-edge-init : goal.loop-edge-init
 loop-edge-init g c = record {
-  known = λ b t o kept. search (rules, tests);
+  known = c.new-known.ensures c.args.self.now (One c.args.token);
   first = so_far_none c.args.self.now c.args.edges.now c.args.token.0 c.args.lower c.requires.lower;
 }
 

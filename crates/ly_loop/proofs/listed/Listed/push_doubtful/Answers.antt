@@ -1,11 +1,10 @@
-use Rattle.std.proofs.Common.{◌≡◌, ◌++◌, ◌∷◌, [], None, Option, Some, ap, get_or, subst, sym, take}
+use Rattle.std.proofs.Common.{◌++◌, ◌∷◌, [], Option, get_or, subst, sym, take}
 use Rattle.std.specs.Prelude.{IfSome}
-use Rattle.std.proofs.lemmas.List.{take_all, take_more}
+use Rattle.std.proofs.lemmas.List.{take_more}
 use Rattle.std.proofs.lemmas.List.Elements.{Contains-get_or}
 use Rattle.ly_base.specs.declared.numbers.StateNo.{StateNo}
 use Rattle.ly_pack.specs.Machine.{IsMachine}
 use Rattle.ly_loop.specs.Private.Edges.{AreMoreDoubtful}
-use Rattle.ly_loop.specs.Private.Known.{AreKnown}
 use Rattle.ly_loop.specs.Private.Summary.{IsSummary}
 use Rattle.ly_loop.specs.declared.summary.Summary.{Summary}
 use Rattle.ly_loop.specs.declared.tokens.Tokens.TheVariants.{All}
@@ -16,7 +15,7 @@ use Rattle.ly_loop.proofs.listed.Listed.push_doubtful.Goals.{in-Some, in-None+in
 
 pub loop-top-init : goal.loop-top-init
 loop-top-init g c = record {
-  known = c.requires.known;
+  known = c.turn_to.ensures c.args.self.now All c.requires.known;
   doubtful = more_none c.args.self.now c.args.below c.args.targets.now c.args.doubtful.now.items;
 }
 

@@ -1,5 +1,5 @@
 use Rattle.ly_loop.specs.Private.Summary.{IsSummary}
-use Rattle.ly_loop.proofs.KnownLemmas.{pending_two, put_is, summary_is}
+use Rattle.ly_loop.proofs.KnownLemmas.{pending_two, summary_is}
 use Rattle.ly_loop.proofs.listed.Listed.work.Goals as goal
 
 pub returns-in_ok-begin-clause-known : goal.returns-in_ok-begin-clause-known
@@ -12,11 +12,10 @@ returns-in_ok-begin-clause-agenda g c =
     c.requires.agenda c.in-Some.ensures.items c.in_ok-push.ensures.items c.in_ok-begin.ensures.agenda
     c.in-Some-wanted_for.ensures
 
-pub returns-in_ok-insert-clause-known : goal.returns-in_ok-insert-clause-known
-returns-in_ok-insert-clause-known g c =
+pub returns-in_ok-keep-clause-known : goal.returns-in_ok-keep-clause-known
+returns-in_ok-keep-clause-known g c =
     let m = c.args.self.now in
     let edge = c.in-Some.pending.edge in
-    put_is m c.args.tokens c.args.known.now.summaries c.insert.new.self edge.below.0 edge.top.0 c.summary.result
-    c.in_ok-insert.ensures.updates.0
+    c.in_ok-keep.ensures m c.args.tokens c.requires.known
     (summary_is m (IsSummary m c.args.tokens edge.below.0 edge.top.0) c.runs_of-found.result c.summary.result
-    c.runs_of-found.ensures c.summary.ensures) c.requires.known
+    c.runs_of-found.ensures c.summary.ensures)
