@@ -66,6 +66,7 @@ impl<A: Rows<TableAction> + Drop, G: Rows<StateNo> + Drop> Listed<'_, A, G> {
     }
 
     /// What the runs of an edge come to that begin with a reduction by a rule.
+    #[inline(always)]
     pub(crate) fn by_rule(
         &self,
         tokens: Tokens,
@@ -95,6 +96,7 @@ impl<A: Rows<TableAction> + Drop, G: Rows<StateNo> + Drop> Listed<'_, A, G> {
     }
 
     /// What the runs of an edge come to that begin with a reduction of nothing: they go on above both its states.
+    #[inline(always)]
     fn above(&self, tokens: Tokens, edge: Edge, left: Sym, summaries: &Summaries) -> Lookup
         requires edge { IsWithinStates self.now edge }
         requires left { left.0 < self.now.nonterminals }
@@ -116,6 +118,7 @@ impl<A: Rows<TableAction> + Drop, G: Rows<StateNo> + Drop> Listed<'_, A, G> {
     }
 
     /// What runs come to above one more state, by what they come to without it.
+    #[inline(always)]
     fn above_one_more(
         &self,
         tokens: Tokens,
@@ -148,6 +151,7 @@ impl<A: Rows<TableAction> + Drop, G: Rows<StateNo> + Drop> Listed<'_, A, G> {
     }
 
     /// What runs come to from a reduction on that takes all above a state away and has this left side.
+    #[inline(always)]
     fn beside(&self, tokens: Tokens, below: StateNo, left: Sym, summaries: &Summaries) -> Lookup
         requires below { below.0 < states_of self.now }
         requires left { left.0 < self.now.nonterminals }
@@ -162,6 +166,7 @@ impl<A: Rows<TableAction> + Drop, G: Rows<StateNo> + Drop> Listed<'_, A, G> {
 }
 
 /// What runs come to that make so many reductions before.
+#[inline(always)]
 fn longer(made: usize, found: Lookup) -> Lookup
     requires made { made ≤ run_bound }
     requires low { IsLow found }
@@ -183,6 +188,7 @@ fn longer(made: usize, found: Lookup) -> Lookup
 }
 
 /// What is known of the runs of an edge.
+#[inline(always)]
 pub(crate) fn look_up(reductions: &[Vec<RuleNo>], summaries: &Summaries, edge: Edge) -> Lookup
     requires { edge.top.0 < length reductions.now }
     ensures { IsKept reductions.now summaries.now edge result }

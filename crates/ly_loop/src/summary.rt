@@ -31,6 +31,7 @@ pub(crate) struct Summary {
 
 impl Summary {
     /// What runs come to of which each comes to one of both.
+    #[inline(always)]
     pub(crate) fn joined(self, other: Summary) -> Summary
         ensures { (m : Machine) → IsJoined m self other result }
     {
@@ -42,6 +43,7 @@ impl Summary {
 }
 
 /// How runs end that end in one of two ways.
+#[inline(always)]
 fn joined(one: Ending, other: Ending) -> Ending
     ensures first { IsWider one result }
     ensures second { IsWider other result }
