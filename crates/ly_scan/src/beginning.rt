@@ -47,9 +47,18 @@ impl Beginning for ByLine {
     #[inline(always)] // as above
     fn start(&self, place: &Place<'_>) -> RowStart {
         if place.at_line_start() {
-            self.at_line
-        } else {
-            self.elsewhere
+            return self.at_line_start();
         }
+        self.elsewhere
+    }
+}
+
+impl ByLine {
+    /// That at the start of a line.
+    #[inline(never)] // so that a branch asks for it, which is mostly guessed right: else it is computed for each lexeme
+    fn at_line_start(&self) -> RowStart
+        ensures { result ≡ self.now.at_line }
+    {
+        self.at_line
     }
 }
