@@ -102,8 +102,8 @@ fn run_told<'t, B: Beginning>(
     }
 }
 
-/// Takes a lexeme at a place by what is told of it, as `take` does. Answers its terminal too, if it has one, so that what
-/// is told needn't be kept for a refusal.
+/// Takes a lexeme at a place by what is told of it, as `take` does. Answers its terminal too, if it has one, so that
+/// what is told needn't be kept for a refusal.
 #[inline(always)] // as `run_told`
 fn take_told(
     set: &TableSet,

@@ -87,8 +87,8 @@ impl<A: Rows<TableAction> + Drop, G: Rows<StateNo> + Drop> Running<'_, A, G> {
         }
     }
 
-    /// Does what the tables do before a terminal, as `settle_behind` does. Where the terminal is refused, what the stack
-    /// was, with this state on top, is noted.
+    /// Does what the tables do before a terminal, as `settle_behind` does. Where the terminal is refused, what the
+    /// stack was, with this state on top, is noted.
     fn settle_from(
         &mut self,
         action: TableAction,

@@ -42,31 +42,36 @@ loop-told-preserved g c =
     (c.in-Some.ensures.told c.requires.facts.numbers c.requires.facts.are) in
     let there = told_after p q c.advance.new.self told is c.advance.ensures in
     let goes = subst (λ k. IsTaken false p k (progress_of q now.parser) is.lexeme c.take_told-answer.new.parser Reads)
-    now.invariant.machine (answered false (scan_part_of c.args.set.now) _ _ is.lexeme _ _ Reads c.in-Reads.is (c.take_told-answer.ensures.taken false is)) in record {
+    now.invariant.machine (answered false (scan_part_of c.args.set.now) _ _ is.lexeme _ _ Reads c.in-Reads.is
+    (c.take_told-answer.ensures.taken false is)) in record {
       onward = λ ended.
           let taken = subst
           (λ k. IsTaken ended p k (progress_of q now.parser) is.lexeme c.take_told-answer.new.parser Reads)
-          now.invariant.machine (answered ended (scan_part_of c.args.set.now) _ _ is.lexeme _ _ Reads c.in-Reads.is (c.take_told-answer.ensures.taken ended is)) in
+          now.invariant.machine (answered ended (scan_part_of c.args.set.now) _ _ is.lexeme _ _ Reads c.in-Reads.is
+          (c.take_told-answer.ensures.taken ended is)) in
           subst (λ x. Onward ended p m w (progress_of x c.take_told-answer.new.parser)) (sym there)
           (onward_on ended p m (over ended p m w l now.place q now.parser c.requires.lexer
           (now.invariant.onward ended) c.tell_from.ensures.passed) taken.0);
       machine = c.take_told-answer.ensures.machine ∙ now.invariant.machine;
       goes_on = goes.1;
       ahead = ahead_on c.args.start q c.advance.new.self told.taken
-          (ahead_over l c.args.start now.place q now.invariant.ahead c.tell_from.ensures.passed c.tell_from.ensures.left)
+          (ahead_over l c.args.start now.place q now.invariant.ahead c.tell_from.ensures.passed
+          c.tell_from.ensures.left)
           (omega (arith, is.stands.within, is.taken)) c.advance.ensures;
     }
 
 pub advance-requires : goal.advance-requires
 advance-requires g c =
-    let is = told_at (scan_part_of c.args.set.now) c.args.lexer.now c.args.facts.now c.tell_from.new.place c.in-Some.told
-    c.requires.lexer c.requires.facts (c.in-Some.ensures.told c.requires.facts.numbers c.requires.facts.are) in
+    let is = told_at (scan_part_of c.args.set.now) c.args.lexer.now c.args.facts.now c.tell_from.new.place
+    c.in-Some.told c.requires.lexer c.requires.facts
+    (c.in-Some.ensures.told c.requires.facts.numbers c.requires.facts.are) in
     omega (arith, is.stands.within, is.taken)
 
 pub loop-told-smaller : goal.loop-told-smaller
 loop-told-smaller g c =
-    let is = told_at (scan_part_of c.args.set.now) c.args.lexer.now c.args.facts.now c.tell_from.new.place c.in-Some.told
-    c.requires.lexer c.requires.facts (c.in-Some.ensures.told c.requires.facts.numbers c.requires.facts.are) in
+    let is = told_at (scan_part_of c.args.set.now) c.args.lexer.now c.args.facts.now c.tell_from.new.place
+    c.in-Some.told c.requires.lexer c.requires.facts
+    (c.in-Some.ensures.told c.requires.facts.numbers c.requires.facts.are) in
     omega (
       arith,
       is.stands.some,
@@ -92,8 +97,9 @@ returns-in_default-clause-ahead g c = ahead_over c.args.lexer.now c.args.start c
 
 pub told_refusal-requires-clause-within : goal.told_refusal-requires-clause-within
 told_refusal-requires-clause-within g c =
-    let is = told_at (scan_part_of c.args.set.now) c.args.lexer.now c.args.facts.now c.tell_from.new.place c.in-Some.told
-    c.requires.lexer c.requires.facts (c.in-Some.ensures.told c.requires.facts.numbers c.requires.facts.are) in
+    let is = told_at (scan_part_of c.args.set.now) c.args.lexer.now c.args.facts.now c.tell_from.new.place
+    c.in-Some.told c.requires.lexer c.requires.facts
+    (c.in-Some.ensures.told c.requires.facts.numbers c.requires.facts.are) in
     omega (arith, is.stands.within, is.taken)
 
 pub told_refusal-requires-clause-token : goal.told_refusal-requires-clause-token
@@ -101,15 +107,18 @@ told_refusal-requires-clause-token g c =
     let p = scan_part_of c.args.set.now in
     let is = told_at p c.args.lexer.now c.args.facts.now c.tell_from.new.place c.in-Some.told c.requires.lexer
     c.requires.facts (c.in-Some.ensures.told c.requires.facts.numbers c.requires.facts.are) in
-    let taken = answered false p _ _ is.lexeme _ _ Refuses c.in-Refuses.is (c.take_told-answer.ensures.taken false is) in
+    let taken = answered false p _ _ is.lexeme _ _ Refuses c.in-Refuses.is
+    (c.take_told-answer.ensures.taken false is) in
     has_terminal p c.tell_from.new.place is.lexeme taken.0 c.take_told-answer.result.1 taken.1
     (c.take_told-answer.ensures.terminal is)
 
 pub told_refusal-requires-clause-tellable : goal.told_refusal-requires-clause-tellable
 told_refusal-requires-clause-tellable g c =
-    let is = told_at (scan_part_of c.args.set.now) c.args.lexer.now c.args.facts.now c.tell_from.new.place c.in-Some.told
-    c.requires.lexer c.requires.facts (c.in-Some.ensures.told c.requires.facts.numbers c.requires.facts.are) in
-    (answered false (scan_part_of c.args.set.now) _ _ is.lexeme _ _ Refuses c.in-Refuses.is (c.take_told-answer.ensures.taken false is)).5
+    let is = told_at (scan_part_of c.args.set.now) c.args.lexer.now c.args.facts.now c.tell_from.new.place
+    c.in-Some.told c.requires.lexer c.requires.facts
+    (c.in-Some.ensures.told c.requires.facts.numbers c.requires.facts.are) in
+    (answered false (scan_part_of c.args.set.now) _ _ is.lexeme _ _ Refuses c.in-Refuses.is
+    (c.take_told-answer.ensures.taken false is)).5
 
 pub returns-in-Refuses-clause-runs : goal.returns-in-Refuses-clause-runs
 returns-in-Refuses-clause-runs g c ended =
@@ -129,7 +138,8 @@ returns-in-Refuses-clause-runs g c ended =
     (refused_there ended p m (progress_of q s) is.lexeme c.take_told-answer.new.parser flaw
     (c.take_told-answer.ensures.machine ∙ machine) (fast_of ended (scanner_in p) q is.lexeme is.stands)
     (subst (λ k. IsTaken ended p k (progress_of q s) is.lexeme c.take_told-answer.new.parser Refuses) machine
-    (answered ended (scan_part_of c.args.set.now) _ _ is.lexeme _ _ Refuses c.in-Refuses.is (c.take_told-answer.ensures.taken ended is)))
+    (answered ended (scan_part_of c.args.set.now) _ _ is.lexeme _ _ Refuses c.in-Refuses.is
+    (c.take_told-answer.ensures.taken ended is)))
     (c.in_ok-flaw-in-Refuses.ensures p is.lexeme is.taken (c.take_told-answer.ensures.terminal is)))
 
 pub returns-in-FaultyTables-clause-runs : goal.returns-in-FaultyTables-clause-runs
@@ -146,18 +156,21 @@ returns-in-FaultyTables-clause-runs g c ended =
     (over ended p m w l c.loop-told.place q s c.requires.lexer (c.loop-told.invariant.onward ended)
     c.tell_from.ensures.passed)
     (subst (λ k. IsSettled ended p k (progress_of q s) faulty) c.loop-told.invariant.machine
-    (answered ended (scan_part_of c.args.set.now) _ _ is.lexeme _ _ FaultyTables c.in-FaultyTables.is (c.take_told-answer.ensures.taken ended is)))
+    (answered ended (scan_part_of c.args.set.now) _ _ is.lexeme _ _ FaultyTables c.in-FaultyTables.is
+    (c.take_told-answer.ensures.taken ended is)))
 
 pub unreachable-requires : goal.unreachable-requires
 unreachable-requires g c =
-    let is = told_at (scan_part_of c.args.set.now) c.args.lexer.now c.args.facts.now c.tell_from.new.place c.in-Some.told
-    c.requires.lexer c.requires.facts (c.in-Some.ensures.told c.requires.facts.numbers c.requires.facts.are) in
+    let is = told_at (scan_part_of c.args.set.now) c.args.lexer.now c.args.facts.now c.tell_from.new.place
+    c.in-Some.told c.requires.lexer c.requires.facts
+    (c.in-Some.ensures.told c.requires.facts.numbers c.requires.facts.are) in
     answered false (scan_part_of c.args.set.now) _ _ is.lexeme _ _ Accepts c.in-Accepts.is
     (c.take_told-answer.ensures.taken false is)
 
 pub unreachable-requires-in-Over : goal.unreachable-requires-in-Over
 unreachable-requires-in-Over g c =
-    let is = told_at (scan_part_of c.args.set.now) c.args.lexer.now c.args.facts.now c.tell_from.new.place c.in-Some.told
-    c.requires.lexer c.requires.facts (c.in-Some.ensures.told c.requires.facts.numbers c.requires.facts.are) in
+    let is = told_at (scan_part_of c.args.set.now) c.args.lexer.now c.args.facts.now c.tell_from.new.place
+    c.in-Some.told c.requires.lexer c.requires.facts
+    (c.in-Some.ensures.told c.requires.facts.numbers c.requires.facts.are) in
     answered false (scan_part_of c.args.set.now) _ _ is.lexeme _ _ Over c.in-Over.is
     (c.take_told-answer.ensures.taken false is)

@@ -65,7 +65,8 @@ returns-clause-taken c ended is =
     c.new-text.result c.first_of.result c.told_terminal.result text c.first_of.ensures
     (c.told_terminal.ensures p c.literals.ensures.literals)) c.in-Some.is in
     let bytes = text ∙ ap (λ n. take n q.rest) (sym is.taken) in
-    taken ended p c.args.parser.now.machine q c.args.parser.now c.go_on-answer.new.self is.lexeme _ c.go_on-answer.result
+    taken ended p c.args.parser.now.machine q c.args.parser.now c.go_on-answer.new.self is.lexeme _
+    c.go_on-answer.result
     c.requires.runs.machine refl c.requires.goes_on
     (c.requires.runs.returned is.lexeme.rule.0 (take is.lexeme.taken q.rest) c.in-Some.terminal.0 there).0
     (fast_of ended (scanner_in p) q is.lexeme is.stands) (record {

@@ -15,16 +15,17 @@ invariant_of-self-2 c =
 pub returns-clause-stands : goal.returns-clause-stands
 returns-clause-stands c =
     short_stands c.self.inside.texts c.push_block.new.self c.args.text.now c.self.inside.long_leaves
-    c.self.inside.long_nodes.items c.self.inside.children.items c.len-length.result c.args.terminal.0 c.in_ok-start.start
-    c.in_ok-start.ensures.texts c.in_ok-start.ensures.begins c.len-length.ensures
+    c.self.inside.long_nodes.items c.self.inside.children.items c.len-length.result c.args.terminal.0
+    c.in_ok-start.start c.in_ok-start.ensures.texts c.in_ok-start.ensures.begins c.len-length.ensures
 
 pub returns-clause-keeps : goal.returns-clause-keeps
 returns-clause-keeps c =
     lists_keep (lists_from c.self.inside.texts c.self.inside.long_leaves c.self.inside.long_nodes.items)
     (record { texts = c.args.text.now; long_leaves = []; long_nodes = [] })
     (lists_from c.push_block.new.self c.self.inside.long_leaves c.self.inside.long_nodes.items)
-    c.self.inside.children.items c.args.self.now c.self.invariant c.self.view_is (short_joined c.self.inside.texts c.push_block.new.self
-    c.args.text.now c.self.inside.long_leaves c.self.inside.long_nodes.items c.in_ok-start.ensures.texts)
+    c.self.inside.children.items c.args.self.now c.self.invariant c.self.view_is
+    (short_joined c.self.inside.texts c.push_block.new.self c.args.text.now c.self.inside.long_leaves
+    c.self.inside.long_nodes.items c.in_ok-start.ensures.texts)
 
 pub returns-clause-pays : goal.returns-clause-pays
 returns-clause-pays c each byte =
