@@ -1,13 +1,14 @@
 -- Lexemes that are told by facts of states.
 use Rattle.std.proofs.Common.{◌≡◌, ◌≢◌, ◌∙◌, ◌≤◌, ◌+◌, ◌-◌, ℕ, zero, suc, List, [], ◌∷◌, Bool, Option, Some, None, Ok}
-use Rattle.std.proofs.Common.{Err, Result, ap, arith, drop, false, get_or, length, length-drop, map, refl, slice_get}
+use Rattle.std.proofs.Common.{Err, Result, ap, arith, false, get_or, length, length-drop, map, refl, slice_get}
 use Rattle.std.proofs.Common.{subst, sym, take}
 use Rattle.std.proofs.Common.{true}
 use Rattle.std.proofs.lemmas.Bool.Decides.{nat_tests}
 use Rattle.std.proofs.lemmas.Option.{slice_get-map}
-use Rattle.std.specs.Prelude.{IsErrAnd, if◌then◌else◌, nat_eq, nat_lt, option_and_then, option_map}
+use Rattle.std.specs.Prelude.{IsErrAnd, IsSome, if◌then◌else◌, nat_eq, nat_lt, option_and_then, option_map}
 use Rattle.std.specs.Prelude.{slice_index, unwrap_or}
-use Rattle.ly_base.specs.Lexed.{Place, moved, place_after}
+use Rattle.ly_base.specs.Lexed.{Place, Token, moved, place_after}
+use Rattle.ly_base.specs.declared.lexeme.Lexeme.{Lexeme}
 use Rattle.ly_base.specs.declared.numbers.Sym.{Sym}
 use Rattle.ly_base.specs.declared.scan_action.Emitted.{Emitted}
 use Rattle.ly_base.specs.declared.scan_action.Emitted.TheVariants.{FirstByte, Nothing, Terminal}
@@ -15,10 +16,10 @@ use Rattle.ly_feed.proofs.OnwardLemmas.{onward_on}
 use Rattle.ly_feed.proofs.RunLemmas.{settled_there}
 use Rattle.ly_feed.specs.Closed.{progress_of}
 use Rattle.ly_feed.specs.LexerOf.{IsLexerOf}
-use Rattle.ly_feed.specs.Onward.{Onward}
-use Rattle.ly_feed.specs.Private.Running.{IsRunOn}
+use Rattle.ly_feed.specs.Onward.{IsTokenAt, Onward}
+use Rattle.ly_feed.specs.Private.Running.{IsRunOn, IsTaken}
 use Rattle.ly_feed.specs.Private.Told.{AreFactsOf, AreNumbersOf, IsAhead, IsRunOverTold, IsToldAt, SaysOf, number_by}
-use Rattle.ly_feed.specs.Private.Told.{HaltsAhead, number_for, terminal_told}
+use Rattle.ly_feed.specs.Private.Told.{number_for, terminal_told}
 use Rattle.ly_feed.specs.ScanPart.{ScanPart, condition_in, scan_part_of, scanner_in}
 use Rattle.ly_feed.specs.ScanPart as part
 use Rattle.ly_feed.specs.TableAnswer.{Progress}
@@ -29,11 +30,11 @@ use Rattle.ly_feed.specs.declared.text_fault.TextFault.{TextFault}
 use Rattle.ly_feed.specs.declared.text_fault.TextFault.TheVariants as text
 use Rattle.ly_pack.specs.Machine.{Machine}
 use Rattle.ly_parse.specs.Parse.{Parse}
+use Rattle.ly_parse.specs.declared.answer.Answer.{Answer}
 use Rattle.ly_scan.proofs.KnownWalkLemmas.{known_on}
 use Rattle.ly_scan.proofs.LexerLemmas.{known_passed}
 use Rattle.ly_scan.specs.Facts.{IsTold}
 use Rattle.ly_scan.specs.KnownWalks.{AreKnown}
-use Rattle.ly_scan.specs.Lexer.{Scanner}
 use Rattle.ly_scan.specs.Lexers.{Lexer, scanner_of}
 use Rattle.ly_scan.specs.Pieces.{PassesOver, StandsFast}
 use Rattle.ly_scan.specs.declared.told.Told.{Told}
@@ -118,6 +119,19 @@ terminal_there p q told is text first o here begins says =
     let bytes : text ≡ take is.lexeme.taken q.rest = here ∙ ap (λ n. take n q.rest) (sym is.taken) in
     says ∙ ap (terminal_told p told.fact) (begins ∙ ap (λ xs. slice_index xs 0) bytes)
     ∙ sym (is.says.terminal (take is.lexeme.taken q.rest))
+
+-- what becomes of a lexeme, by the answer that is given
+pub answered : (ended : Bool) (p : ScanPart) (m : Machine) (w : Progress) (t : Lexeme) (r : Parse) (a b : Answer)
+    → a ≡ b → IsTaken ended p m w t r a → IsTaken ended p m w t r b
+answered ended p m w t r a b is = subst (IsTaken ended p m w t r) is
+
+-- a lexeme that has a token has a terminal
+pub has_terminal : (p : ScanPart) (q : Place) (t : Lexeme) (token : Token ℕ) (o : Option Sym) → IsTokenAt p q t token
+    → option_map (λ (s : Sym). s.0) o ≡ part.terminal_in p t.rule.0 (take t.taken q.rest) → IsSome o
+has_terminal p q t token (Some s) here is = refl
+has_terminal p q t token None here is =
+    let no : None ≡ Some token.terminal = is ∙ ap (part.terminal_in p t.rule.0) (sym here.bytes) ∙ here.terminal in
+    absurd cc
 
 -- where a lexeme leads of which this is told
 pub told_after : (p : ScanPart) (q next : Place) (told : Told) (is : IsToldAt p q told)

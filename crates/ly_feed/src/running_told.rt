@@ -1,23 +1,27 @@
 //! The run over lexemes that are told by the states where their walks end.
-ghost use Rattle.std.specs.Prelude.{◌≡◌, ◌<◌, Bool, IfOk, IfSome, length, false, slice_index};
+ghost use Rattle.std.specs.Prelude.{◌≡◌, ◌<◌, ◌≤◌, Bool, IfOk, IfSome, IsSome, false, length, option_map, slice_index};
+ghost use Rattle.std.specs.Prelude.{take};
+ghost use Rattle.ly_base.specs.declared.lexeme.Lexeme.{Lexeme};
 ghost use Rattle.ly_feed.specs.Closed.{progress_of, CanRun};
 ghost use Rattle.ly_feed.specs.LexerOf.{IsLexerOf};
-ghost use Rattle.ly_feed.specs.Private.Running.{HasToken, IsRefusalAt, IsTaken};
+ghost use Rattle.ly_feed.specs.Private.Running.{IsRefusalAt, IsTaken};
 ghost use Rattle.ly_feed.specs.Private.Told.{AreFactsOf, HaltsAhead, IsRunOverTold, IsToldAt};
-ghost use Rattle.ly_feed.specs.ScanPart.{scan_part_of};
+ghost use Rattle.ly_feed.specs.ScanPart.{scan_part_of, terminal_in, ScanPart};
 ghost use Rattle.ly_parse.specs.Parse.{IsTellable};
+ghost use Rattle.ly_scan.specs.Beginning.{IsBegun};
 
 use crate::flaw::Flaw;
 use crate::running::{Halt, TableParser};
 use crate::text_fault::TextFault;
 use crate::told::told_terminal;
-use ly_base::{OutOfMemory, Place};
+use ly_base::{OutOfMemory, Place, Sym};
 use ly_parse::{Answer, Refusal, Token};
 use ly_print::Front;
-use ly_scan::{KnownWalks, Lexer, Told};
+use ly_scan::{Beginning, KnownWalks, Lexer, Told};
 use ly_tables::TableSet;
 
-/// Runs on over lexemes that are told by facts of states, if there are facts, as `run_told` does.
+/// Runs on over lexemes that are told by facts of states, if there are facts, as `run_told` does, unless something is
+/// known of walks.
 pub(crate) fn run_told_by<'t>(
     set: &TableSet,
     lexer: &Lexer,
@@ -35,8 +39,18 @@ pub(crate) fn run_told_by<'t>(
     ensures ahead { HaltsAhead place.entry result }
     ensures machine { parser.new.machine ≡ parser.old.machine }
 {
-    match facts {
-        Some(facts) => run_told(set, lexer, facts, parser, place, known),
+    let Some(facts) = facts else {
+        return Ok(Halt::At(place));
+    };
+    // no less is left anywhere in the loop
+    if known.reaches(place.rest().len()) {
+        return Ok(Halt::At(place));
+    }
+    if let Some(anywhere) = lexer.anywhere() {
+        return run_told(set, lexer, &anywhere, facts, parser, place);
+    }
+    match lexer.by_line() {
+        Some(by_line) => run_told(set, lexer, &by_line, facts, parser, place),
         None => Ok(Halt::At(place)),
     }
 }
@@ -44,15 +58,16 @@ pub(crate) fn run_told_by<'t>(
 /// Runs scanner and parser on from a place, as long as lexemes are told by the facts of states, and answers where the
 /// next one stands, or what is wrong with the text as soon as that is known.
 #[inline(never)] // so that it has the registers
-fn run_told<'t>(
+fn run_told<'t, B: Beginning>(
     set: &TableSet,
     lexer: &Lexer,
+    beginning: &B,
     facts: &[u32],
     parser: &mut TableParser<'_>,
     start: Place<'t>,
-    known: &KnownWalks,
 ) -> Result<Halt<'t>, TextFault>
     requires lexer { IsLexerOf (scan_part_of set.now) lexer.now }
+    requires begun { IsBegun lexer.now.scanner (B.begun beginning.now) }
     requires facts { AreFactsOf (scan_part_of set.now) lexer.now.scanner facts.now }
     requires runs { CanRun (scan_part_of set.now) parser.old.machine }
     requires goes_on { parser.old.over ≡ false }
@@ -67,12 +82,16 @@ fn run_told<'t>(
     }
     let mut place = start;
     loop {
-        let Some(told) = lexer.tell(facts, &mut place, known) else {
+        let Some(told) = lexer.tell_from(beginning, facts, &mut place) else {
             return Ok(Halt::At(place));
         };
-        match take_told(set, parser, &place, told) {
+        let (answer, terminal) = take_told(set, parser, &place, told);
+        match answer {
             Answer::Reads => place.advance(told.taken, None),
-            Answer::Refuses => return Ok(Halt::Flawed(told_refusal(set, parser, place, told)?)),
+            Answer::Refuses => {
+                let flaw = told_refusal(parser, place, told.taken, terminal)?;
+                return Ok(Halt::Flawed(flaw));
+            }
             Answer::FaultyTables => return Err(TextFault::FaultyTables),
             Answer::OutOfMemory => return Err(TextFault::OutOfMemory),
             // the end alone is accepted
@@ -83,23 +102,32 @@ fn run_told<'t>(
     }
 }
 
-/// Takes a lexeme at a place by what is told of it, as `take` does.
+/// Takes a lexeme at a place by what is told of it, as `take` does. Answers its terminal too, if it has one, so that
+/// what is told needn't be kept for a refusal.
 #[inline(always)] // as `run_told`
-fn take_told(set: &TableSet, parser: &mut TableParser<'_>, place: &Place<'_>, told: Told) -> Answer
+fn take_told(
+    set: &TableSet,
+    parser: &mut TableParser<'_>,
+    place: &Place<'_>,
+    told: Told,
+) -> (Answer, Option<Sym>)
     requires runs { CanRun (scan_part_of set.now) parser.old.machine }
     requires goes_on { parser.old.over ≡ false }
     requires told { IsToldAt (scan_part_of set.now) place.now told }
     ensures taken { (ended : Bool) (is : IsToldAt (scan_part_of set.now) place.now told)
         → IsTaken ended (scan_part_of set.now) parser.old.machine (progress_of place.now parser.old) is.lexeme
-        parser.new result }
+        parser.new result.0 }
+    ensures terminal { (is : IsToldAt (scan_part_of set.now) place.now told) → option_map (λ t. t.0) result.1
+        ≡ terminal_in (scan_part_of set.now) is.lexeme.rule.0 (take is.lexeme.taken place.now.rest) }
     ensures machine { parser.new.machine ≡ parser.old.machine }
 {
     let text = Front::new(place.rest(), told.taken);
     let Some(terminal) = told_terminal(set.literals(), told.fact, first_of(&text)) else {
-        return Answer::Reads;
+        return (Answer::Reads, None);
     };
     let at = place.at() as u64;
-    parser.go_on(&Token { terminal, at, text })
+    let answer = parser.go_on(&Token { terminal, at, text });
+    (answer, Some(terminal))
 }
 
 /// The first byte.
@@ -111,23 +139,23 @@ fn first_of(text: &Front<'_>) -> u8
     text.bytes()[0]
 }
 
-/// What is wrong where the token of a lexeme was refused of which this is told.
+/// What is wrong where the token of a lexeme of so many bytes was refused; this is its terminal, which it has.
 #[inline(never)] // so that a token that is read has the registers
 fn told_refusal<'t>(
-    set: &TableSet,
     parser: &TableParser<'_>,
     place: Place<'t>,
-    told: Told,
+    taken: usize,
+    terminal: Option<Sym>,
 ) -> Result<Flaw<'t>, OutOfMemory>
-    requires told { IsToldAt (scan_part_of set.now) place told }
-    requires token { (is : IsToldAt (scan_part_of set.now) place told)
-        → HasToken (scan_part_of set.now) place is.lexeme }
+    requires within { taken ≤ length place.rest }
+    requires token { IsSome terminal }
     requires tellable { IsTellable parser.now }
-    ensures { (is : IsToldAt (scan_part_of set.now) place.entry told)
-        → IfOk result (IsRefusalAt (scan_part_of set.now) place.entry is.lexeme parser.now) }
+    ensures { (p : ScanPart) (t : Lexeme) → t.taken ≡ taken
+        → option_map (λ s. s.0) terminal ≡ terminal_in p t.rule.0 (take t.taken place.entry.rest)
+        → IfOk result (IsRefusalAt p place.entry t parser.now) }
 {
-    let text = Front::new(place.rest(), told.taken);
-    let Some(terminal) = told_terminal(set.literals(), told.fact, first_of(&text)) else {
+    let text = Front::new(place.rest(), taken);
+    let Some(terminal) = terminal else {
         unreachable!();
     };
     let Refusal { number, expected } = parser.refusal()?;

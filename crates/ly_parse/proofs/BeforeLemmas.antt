@@ -103,6 +103,12 @@ alike_below p m f levels low under k l h term =
     (subst (AreAlikeBelow (level_from f k ∷ stack_from f (take low levels)))
     (sym (passed_stack f levels low k l h.size term)) refl)
 
+-- and leave one there
+pub still_some : (p : Parse) (m : Machine) (f : Grown) (levels : List code.Level) (low under : ℕ) (k l : code.Level)
+    → HasTop p m f levels low under k → l.term ≡ k.term → 0 < length (stack_from f (slice_set levels low l))
+still_some p m f levels low under k l h term =
+    subst (λ w. 0 < length w) (sym (passed_stack f levels low k l h.size term)) (omega arith)
+
 -- What a reduction pops is noted: the levels up to a height stay, and another stands on them.
 pub note_kept : (p : Parse) (n : ℕ) (r : TableRule) (low : ℕ) (m : Machine) (f : Grown)
     (levels seen left after : List code.Level) (a b : Before) (l : code.Level)

@@ -5,7 +5,7 @@ use Rattle.std.proofs.lemmas.List.Elements.{Contains-push_cases}
 use Rattle.ly_base.specs.SparseSet.{with_member}
 use Rattle.ly_base.proofs.SparseSetLemmas.{with_member-new, with_member-old}
 use Rattle.ly_pack.specs.Machine.{Machine, TableAction, accept, action_of, error, reduce, shift, states_of}
-use Rattle.ly_pack.specs.Steady.{RunEnd, accepts, ends, goes_on, move, perform, reads, refuses}
+use Rattle.ly_pack.specs.Steady.{RunEnd, ends, goes_on, move, perform, refuses}
 use Rattle.ly_base.specs.declared.numbers.Sym.{Sym}
 use Rattle.ly_parse.specs.declared.last_run.LastRun.{LastRun}
 use Rattle.ly_parse.specs.Expected.{IsExpected, onward, read}

@@ -1,5 +1,5 @@
 //! What a stack was before the token that a parse is at, while reductions take it down.
-ghost use Rattle.std.specs.Prelude.{◌≡◌, ◌≤◌, [], ◌∷◌, IfOk, OnOk, length};
+ghost use Rattle.std.specs.Prelude.{◌≡◌, ◌<◌, ◌≤◌, [], ◌∷◌, IfOk, OnOk, length};
 ghost use Rattle.ly_parse.specs.Private.Before.{before_of, before_on, levels_with_top};
 ghost use Rattle.ly_parse.specs.Private.Copied.{states_in};
 
@@ -51,6 +51,18 @@ impl Before {
                 self.top = None;
             }
         }
+    }
+
+    /// Begins anew, as `begin` does, where a state stands above the bottom.
+    #[inline(always)] // by stores alone
+    pub(crate) fn begin_above(&mut self, stack: &[Level], first: StateNo)
+        requires { 0 < length stack.now }
+        ensures kept { self.new.kept ≤ length stack.now }
+        ensures before { before_of stack.now self.new ≡ levels_with_top first.0 stack.now }
+    {
+        self.noted = 0;
+        self.kept = stack.len() - 1;
+        self.top = Some(first);
     }
 
     /// Notes the states above a height, which are popped next.

@@ -27,11 +27,11 @@ pub(crate) struct Numbers {
 }
 
 impl Numbers {
-    /// Where a shortcut from there is kept, in a table of 2^15 places (multiplicative hashing, Knuth 1973, 6.4).
+    /// Where a shortcut from there is kept, in a table of 2^15 places (multiplicative hashing, Knuth 1973, 6.4). Those
+    /// of the same states lie side by side, by their terminals. There may be no place for terminals past 2^15.
     pub(crate) fn place(self) -> usize {
         let below = self.below.wrapping_mul(0x9e37_79b1);
         let above = self.above.wrapping_mul(0x85eb_ca77);
-        let terminal = self.terminal.wrapping_mul(0xc2b2_ae3d);
-        ((below ^ above ^ terminal) >> 17) as usize
+        ((below ^ above) >> 17) as usize ^ self.terminal as usize
     }
 }

@@ -1,4 +1,4 @@
-ghost use Rattle.std.specs.Prelude.{◌≡◌, ◌≢◌, ◌<◌, ◌+◌, ℕ, [], ◌∷◌, false, map, IfOk, OnOk};
+ghost use Rattle.std.specs.Prelude.{◌≡◌, ◌≢◌, ◌<◌, ◌+◌, ℕ, [], ◌∷◌, false, length, map, vec_capacity, IfOk, OnOk};
 ghost use Rattle.ly_pack.specs.Machine.{action_of, shift};
 ghost use Rattle.ly_pack.specs.Steady.{IsSteady};
 ghost use Rattle.ly_parse.specs.Expected.{AreExpected};
@@ -26,6 +26,7 @@ use crate::step::Step;
 use crate::token::Token;
 use ly_base::{OutOfMemory, StateNo, Sym};
 use ly_pack::{MachineView, Rows, TableAction};
+use ly_print::Front;
 use ly_tree::{Forest, TermRef};
 use std::alloc::Global;
 use std::marker::Model;
@@ -222,11 +223,31 @@ impl<'a, A: Rows<TableAction> + Drop, G: Rows<StateNo> + Drop> Running<'a, A, G>
         ensures over { self.new.over ≡ self.old.over }
         ensures machine { self.new.machine ≡ self.old.machine }
     {
-        let count = self.number()?;
-        let term = self.forest.leaf(token.terminal, &token.text)?;
+        self.count = self.number()?;
+        make_room(&mut self.stack)?;
+        let Some(term) = self.forest.leaf_as_block(token.terminal, &token.text) else {
+            return self.read_long(state, token.terminal, token.text.bytes());
+        };
+        self.stack.push_reserved(Level { state, term });
+        Ok(())
+    }
+
+    /// Puts a token that is read and counted onto the stack, whose text isn't copied as a block.
+    #[inline(never)] // so that the others have the registers; a token that is handed to it would lie in memory
+    fn read_long(&mut self, state: StateNo, terminal: Sym, text: &[u8]) -> Result<(), OutOfMemory>
+        requires { action_of self.old.machine (top_of self.old.stack) terminal.0 ≡ shift state.0 }
+        ensures stack { OnOk result (self.new.stack ≡ record {
+          state = state.0;
+          term = leaf terminal.0 text.now;
+        } ∷ self.old.stack) }
+        ensures count { self.new.count ≡ self.old.count }
+        ensures over { self.new.over ≡ self.old.over }
+        ensures machine { self.new.machine ≡ self.old.machine }
+    {
+        let text = Front::new(text, text.len());
+        let term = self.forest.leaf_without_block(terminal, &text)?;
         self.stack.reserve(1)?;
         self.stack.push_reserved(Level { state, term });
-        self.count = count;
         Ok(())
     }
 
@@ -258,4 +279,26 @@ impl<'a, A: Rows<TableAction> + Drop, G: Rows<StateNo> + Drop> Running<'a, A, G>
     {
         self.count.checked_add(1).ok_or(OutOfMemory)
     }
+}
+
+/// Makes room for a level more, where there is none.
+#[inline(always)] // as `read`
+fn make_room(stack: &mut Vec<Level>) -> Result<(), OutOfMemory>
+    ensures items { stack.new.items ≡ stack.old.items }
+    ensures room { OnOk result (length stack.new.items < vec_capacity stack.new) }
+{
+    if stack.len() == stack.capacity() {
+        return grow(stack);
+    }
+    Ok(())
+}
+
+/// Makes room for a level more.
+#[inline(never)] // so that most tokens have the registers
+fn grow(stack: &mut Vec<Level>) -> Result<(), OutOfMemory>
+    ensures items { stack.new.items ≡ stack.old.items }
+    ensures room { OnOk result (length stack.new.items < vec_capacity stack.new) }
+{
+    stack.reserve(1)?;
+    Ok(())
 }

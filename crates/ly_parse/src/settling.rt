@@ -6,7 +6,7 @@ ghost use Rattle.ly_pack.specs.Machine.{action_of, states_of, IsLegal, IsRuleNum
 ghost use Rattle.ly_pack.specs.Values.{action_from};
 ghost use Rattle.ly_parse.specs.Feeding.{faulty, states_on, top_of};
 ghost use Rattle.ly_parse.specs.Private.Answered.{IsSettled};
-ghost use Rattle.ly_parse.specs.Private.Before.{with_top, AreAlikeBelow, IsNoteOf, IsOpen};
+ghost use Rattle.ly_parse.specs.Private.Before.{before_on, with_top, AreAlikeBelow, IsNoteOf, IsOpen};
 ghost use Rattle.ly_parse.specs.Private.Paying.{places_in};
 ghost use Rattle.ly_parse.specs.Private.Stack.{terms_onto, FailsByRule, FeedAs, LeadsByReductions, LeadsByRule};
 ghost use Rattle.ly_parse.specs.declared.fault.ParseFault.TheVariants as fault;
@@ -37,6 +37,10 @@ impl<A: Rows<TableAction> + Drop, G: Rows<StateNo> + Drop> Running<'_, A, G> {
         ensures count { self.new.count ≡ self.old.count }
         ensures over { self.new.over ≡ self.old.over }
     {
+        // else no place is asked for whether the bottom is there
+        if self.stack.len() < 2 {
+            return self.settle_low(terminal, before);
+        }
         let Some((first, action)) = self.pass(terminal) else {
             return self.settle_by_tables(terminal, before);
         };
@@ -44,7 +48,23 @@ impl<A: Rows<TableAction> + Drop, G: Rows<StateNo> + Drop> Running<'_, A, G> {
         if let TableAction::Shift(state) = action {
             return Settled::Reads(state);
         }
-        self.settle_behind(action, terminal, first, before)
+        self.settle_above(action, terminal, first, before)
+    }
+
+    /// Makes the reductions before a terminal, as `settle` does, where few states are on the stack.
+    #[inline(never)] // so that the others have the registers
+    fn settle_low(&mut self, terminal: Sym, before: &mut Before) -> Settled
+        requires { terminal.0 < self.old.machine.terminals }
+        ensures settled { IsSettled self.old.machine terminal.0 self.old.stack (states_on self.old.stack) self.new.stack
+            before.new result }
+        ensures machine { self.new.machine ≡ self.old.machine }
+        ensures count { self.new.count ≡ self.old.count }
+        ensures over { self.new.over ≡ self.old.over }
+    {
+        match self.pass(terminal) {
+            Some((first, action)) => self.settle_above(action, terminal, first, before),
+            None => self.settle_by_tables(terminal, before),
+        }
     }
 
     /// Makes the reductions before a terminal, the passes that come first by the tables, and answers what is done then.
@@ -60,17 +80,16 @@ impl<A: Rows<TableAction> + Drop, G: Rows<StateNo> + Drop> Running<'_, A, G> {
     {
         let first = self.top();
         match self.pass_by_tables(terminal) {
-            Ok(action) => self.settle_behind(action, terminal, first, before),
+            Ok(action) => self.settle_from(action, terminal, first, before),
             Err(ParseFault::FaultyTables) => Settled::FaultyTables,
             Err(ParseFault::OutOfMemory) => Settled::OutOfMemory,
             Err(ParseFault::Over) => unreachable!(),
         }
     }
 
-    /// Does what the tables do before a terminal, as long as they reduce, and answers what is done then. Where the
-    /// terminal is refused, what the stack was, with this state on top, is noted.
-    #[inline(never)] // so that a token that is read at once has the registers
-    fn settle_behind(
+    /// Does what the tables do before a terminal, as `settle_behind` does. Where the terminal is refused, what the
+    /// stack was, with this state on top, is noted.
+    fn settle_from(
         &mut self,
         action: TableAction,
         terminal: Sym,
@@ -87,6 +106,46 @@ impl<A: Rows<TableAction> + Drop, G: Rows<StateNo> + Drop> Running<'_, A, G> {
         ensures over { self.new.over ≡ self.old.over }
     {
         before.begin(&self.stack, first);
+        self.settle_behind(action, terminal, before)
+    }
+
+    /// Does what the tables do before a terminal, as `settle_from` does, where a state stands above the bottom.
+    #[inline(always)] // so that most tokens needn't ask for it
+    fn settle_above(
+        &mut self,
+        action: TableAction,
+        terminal: Sym,
+        first: StateNo,
+        before: &mut Before,
+    ) -> Settled
+        requires terminal { terminal.0 < self.old.machine.terminals }
+        requires action { action_from action ≡ action_of self.old.machine (top_of self.old.stack) terminal.0 }
+        requires legal { IsLegal self.old.machine terminal.0 (action_from action) }
+        requires some { 0 < length self.old.stack }
+        ensures settled { IsSettled self.old.machine terminal.0 self.old.stack (with_top first.0 self.old.stack)
+            self.new.stack before.new result }
+        ensures machine { self.new.machine ≡ self.old.machine }
+        ensures count { self.new.count ≡ self.old.count }
+        ensures over { self.new.over ≡ self.old.over }
+    {
+        before.begin_above(&self.stack, first);
+        self.settle_behind(action, terminal, before)
+    }
+
+    /// Does what the tables do before a terminal, as long as they reduce, and answers what is done then. Where the
+    /// terminal is refused, what is noted says of the stack what it said before.
+    #[inline(never)] // so that a token that is read at once has the registers
+    fn settle_behind(&mut self, action: TableAction, terminal: Sym, before: &mut Before) -> Settled
+        requires terminal { terminal.0 < self.old.machine.terminals }
+        requires action { action_from action ≡ action_of self.old.machine (top_of self.old.stack) terminal.0 }
+        requires legal { IsLegal self.old.machine terminal.0 (action_from action) }
+        requires kept { before.old.kept ≤ length self.old.stack }
+        ensures settled { IsSettled self.old.machine terminal.0 self.old.stack (before_on self.old.stack before.old)
+            self.new.stack before.new result }
+        ensures machine { self.new.machine ≡ self.old.machine }
+        ensures count { self.new.count ≡ self.old.count }
+        ensures over { self.new.over ≡ self.old.over }
+    {
         // the invariant says that the run on a token ends
         let _ = &self.machine;
         let mut next = action;
@@ -108,6 +167,7 @@ impl<A: Rows<TableAction> + Drop, G: Rows<StateNo> + Drop> Running<'_, A, G> {
 
     /// Makes the passes before a terminal, if they are kept as a shortcut. Answers which state stood on top before, and
     /// what is done then.
+    #[inline(always)] // as `settle`
     fn pass(&mut self, terminal: Sym) -> Option<(StateNo, TableAction)>
         requires { terminal.0 < self.old.machine.terminals }
         ensures first { IfSome result (λ r. r.0.0 ≡ top_of self.old.stack) }
@@ -117,6 +177,7 @@ impl<A: Rows<TableAction> + Drop, G: Rows<StateNo> + Drop> Running<'_, A, G> {
             ≡ action_of self.old.machine (top_of self.new.stack) terminal.0) }
         ensures legal { IfSome result (λ r. IsLegal self.old.machine terminal.0 (action_from r.1)) }
         ensures below { IfSome result (λ r. AreAlikeBelow self.old.stack self.new.stack) }
+        ensures some { IfSome result (λ r. 0 < length self.new.stack) }
         ensures none { result ≡ None → self.new ≡ self.old }
         ensures machine { self.new.machine ≡ self.old.machine }
         ensures count { self.new.count ≡ self.old.count }

@@ -1,6 +1,6 @@
 -- Lexemes that are told by the state where their walk ends.
 use Rattle.std.proofs.Common.{◌≡◌, ◌≢◌, ◌∙◌, ◌<◌, ◌+◌, ◌++◌, ℕ, List, Option, Some, None, Bool, true, false, ap, arith}
-use Rattle.std.proofs.Common.{get_or, length, map, refl, sym, take}
+use Rattle.std.proofs.Common.{get_or, length, refl, sym, take}
 use Rattle.std.proofs.lemmas.List.{get_or-map}
 use Rattle.std.specs.Prelude.{if◌then◌else◌, option_map, slice_index_or}
 use Rattle.ly_base.specs.Lexed.{Place}

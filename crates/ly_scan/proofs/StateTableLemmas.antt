@@ -1,17 +1,19 @@
 -- A scanner as plain data.
 use Rattle.std.proofs.Common.{◌≡◌, ◌∙◌, ◌<◌, ◌≤◌, ◌+◌, ◌*◌, ℕ, List, Bool, Option, None, ap, arith, inl, inr, length}
-use Rattle.std.proofs.Common.{map, subst, sym}
+use Rattle.std.proofs.Common.{false, map, subst, sym, true}
 use Rattle.std.specs.Prelude.{IfSome, if◌then◌else◌, option_and_then, option_map, slice_index_or}
 use Rattle.std.proofs.lemmas.Bool.{cases_lt, le-ltb, lt-ltb}
 use Rattle.std.proofs.lemmas.List.{get_or-map, get_or_past, length-map}
 use Rattle.std.proofs.lemmas.Option.{slice_get_past}
 use Rattle.ly_base.specs.declared.cut.Cut.{Cut}
 use Rattle.ly_base.specs.declared.numbers.RuleNo.{RuleNo}
+use Rattle.ly_scan.specs.Beginning.{IsBegun, anywhere}
 use Rattle.ly_scan.specs.Lexer.{Scanner}
 use Rattle.ly_scan.specs.Lexers.{scanner_of}
 use Rattle.ly_scan.specs.StateRows.{row_entry}
-use Rattle.ly_scan.specs.StateTable.{StateTable, cut_at, next_at, rule_at, start_at}
+use Rattle.ly_scan.specs.StateTable.{StandsIn, StateTable, ahead_at, cut_at, next_at, rule_at, start_at, states_of}
 use Rattle.ly_scan.specs.StateWalk.{States, state_walk}
+use Rattle.ly_scan.specs.declared.state_rows.RowStart.{RowStart}
 
 -- A table says of each condition, state and rule what states and cuts do.
 pub record IsTableOf (t : StateTable) (S : States) (cuts : ℕ → Cut) : Type 0 where
@@ -31,6 +33,17 @@ same_scanner t S cuts is = λ i. record {
   } in states);
   cut = λ rule. is.cut rule i;
 }
+
+-- where no line is minded, walks begin anywhere as they do elsewhere than at the start of a line
+pub begun_anywhere : (t : StateTable) (start : RowStart) → StandsIn t start
+    → ((text : List ℕ) → ahead_at t start text ≡ state_walk (states_of t) 0 false text)
+    → ((condition : ℕ) → state_walk (states_of t) condition true ≡ state_walk (states_of t) condition false)
+    → IsBegun t (anywhere (record { start = start }))
+begun_anywhere t start stands begun alike = record { stands = λ line. stands; there = there }
+  where
+    there : (line : Bool) (text : List ℕ) → ahead_at t start text ≡ state_walk (states_of t) 0 line text
+    there false text = begun text
+    there true text = begun text ∙ sym (ap (λ walk. walk text) (alike 0))
 
 -- the rule of a state, of rules by their numbers
 pub numbered : (rules : List (Option RuleNo)) (state : ℕ)

@@ -1,3 +1,4 @@
+pub mod Beginning
 pub mod Cuts
 pub mod Facts
 pub mod KnownWalks

@@ -79,7 +79,7 @@ impl KnownWalks {
 
     /// Whether something is known of the places behind one where so many bytes are left.
     #[inline(always)]
-    pub(crate) fn reaches(&self, left: usize) -> bool {
+    pub fn reaches(&self, left: usize) -> bool {
         self.reach < left
     }
 

@@ -1,12 +1,14 @@
 ghost use Rattle.std.specs.Prelude.{◌≡◌, ◌<◌, ◌≤◌, ◌+◌, ◌^◌, ℕ, List, drop, false, true, length, IfErr, IfOk};
 ghost use Rattle.std.specs.Prelude.{IfSome, MatchOption};
 ghost use Rattle.ly_base.specs.Lexed as lexed;
+ghost use Rattle.ly_scan.specs.Beginning.{anywhere, by_line, IsBegun};
 ghost use Rattle.ly_scan.specs.Facts.{fact_by, facts_by, IsTold};
 ghost use Rattle.ly_scan.specs.KnownWalks.{AreKnown};
 ghost use Rattle.ly_scan.specs.Lexers.{scanner_of, IsUnderwayAt};
 ghost use Rattle.ly_scan.specs.Pieces.{behind, EndsFast, IsUndecided, PassesOver, StandsFast};
-ghost use Rattle.ly_scan.specs.StateTable.{ahead_in, StandsIn};
+ghost use Rattle.ly_scan.specs.StateTable.{ahead_at, ahead_in, StandsIn};
 
+use crate::beginning::{Anywhere, Beginning, ByLine};
 use crate::known_walks::KnownWalks;
 use crate::lexeme::{line_at, next_lexeme};
 use crate::lone_bytes::LoneBytes;
@@ -119,6 +121,59 @@ impl Lexer {
         }
         let line = line_at(&self.scanner, place);
         let start = self.scanner.start(0, line)?;
+        self.tell_behind(start, facts, place)
+    }
+
+    /// Where walks of the initial condition begin, if that is one place, at the start of a line or not.
+    pub fn anywhere(&self) -> Option<Anywhere>
+        ensures { IfSome result (λ b. IsBegun self.now.scanner (anywhere b)) }
+    {
+        self.scanner.anywhere()
+    }
+
+    /// Where walks of the initial condition begin, if they do at the start of a line and elsewhere.
+    pub fn by_line(&self) -> Option<ByLine>
+        ensures { IfSome result (λ b. IsBegun self.now.scanner (by_line b)) }
+    {
+        self.scanner.by_line()
+    }
+
+    /// Tells what is taken, as `tell` does, where it is known where walks of the initial condition begin, and a caller
+    /// asks himself whether something is known of walks behind the place.
+    #[inline(always)] // as `tell`
+    pub fn tell_from<B: Beginning>(
+        &self,
+        beginning: &B,
+        facts: &[u32],
+        place: &mut Place<'_>,
+    ) -> Option<Told>
+        requires begun { IsBegun self.now.scanner (B.begun beginning.now) }
+        requires full { length facts.now ≡ length self.now.scanner.rules }
+        ensures passed { PassesOver (scanner_of self.now.scanner) self.now.passed place.old place.new }
+        ensures left { length place.new.rest ≤ length place.old.rest }
+        ensures told { (by_rule : List ℕ) → facts.now ≡ facts_by self.now.scanner by_rule
+            → IfSome result (IsTold (scanner_of self.now.scanner) by_rule place.new) }
+    {
+        self.pass_over(place);
+        if place.condition() != 0 {
+            return None;
+        }
+        let start = beginning.start(place);
+        self.tell_behind(start, facts, place)
+    }
+
+    /// Tells what is taken at a place in the initial condition, whose walk begins there.
+    #[inline(always)] // as `tell`
+    fn tell_behind(&self, start: RowStart, facts: &[u32], place: &Place<'_>) -> Option<Told>
+        requires full { length facts.now ≡ length self.now.scanner.rules }
+        requires initial { place.now.condition ≡ 0 }
+        requires stands { StandsIn self.now.scanner start }
+        requires there { (text : List ℕ) → ahead_at self.now.scanner start text
+            ≡ (scanner_of self.now.scanner).walk 0 place.now.line text }
+        ensures { (by_rule : List ℕ) → facts.now ≡ facts_by self.now.scanner by_rule
+            → IfSome result (IsTold (scanner_of self.now.scanner) by_rule place.now) }
+    {
+        let rest = place.rest();
         let (taken, at) = walk_on(&self.scanner, start, rest);
         if taken == 0 || taken == rest.len() {
             return None;

@@ -5,7 +5,8 @@
 //! bytes that are known, or not yet. A `Matcher` does so where the bytes of a match come in pieces. `LoneBytes` tells
 //! some lexemes that are passed over by two bytes, without a walk.
 //! The program's one walk is that of a `Scanner`, which is plain rows (`StateTable`), and a `Lexer` runs it. Most
-//! lexemes of a text are told by the state where their walk ends (`Lexer::tell`), without their rule.
+//! lexemes of a text are told by the state where their walk ends (`Lexer::tell`), without their rule; `tell_from` does
+//! so where it was looked up before where walks begin.
 //!
 //! What walks over a text have shown is kept where they went far (`KnownWalks`), so that a text takes no more time than
 //! it is long, whatever the rules.
@@ -13,6 +14,7 @@
 //! Left out: what the rules mean, which a walk knows.
 #![tactic(auto)]
 
+mod beginning;
 mod known_walks;
 mod lexeme;
 mod lexer;
@@ -26,6 +28,7 @@ mod state_rows;
 mod steps;
 mod told;
 
+pub use beginning::{Anywhere, Beginning, ByLine};
 pub use known_walks::KnownWalks;
 pub use lexeme::next_lexeme;
 pub use lexer::Lexer;

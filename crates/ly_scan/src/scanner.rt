@@ -1,11 +1,13 @@
 ghost use Rattle.std.specs.Bool.{OnTrue};
 ghost use Rattle.std.specs.Prelude.{◌≡◌, ◌<◌, ℕ, Some, false, length, IfSome, All, option_map};
 ghost use Rattle.ly_base.specs.declared.cut.Cut.TheVariants.{Whole};
+ghost use Rattle.ly_scan.specs.Beginning.{anywhere, by_line, IsBegun};
 ghost use Rattle.ly_scan.specs.StateRows.{state_at, Begins};
 ghost use Rattle.ly_scan.specs.StateTable.{ahead_at, ahead_in, cut_at, start_at, states_of, table_from};
 ghost use Rattle.ly_scan.specs.StateTable.{LeadsWithin, StandsIn};
 ghost use Rattle.ly_scan.specs.StateWalk.{ahead_of-ended, state_walk, MindsNoLine};
 
+use crate::beginning::{Anywhere, ByLine};
 use crate::scanner_parts::ScannerParts;
 use crate::state_rows::RowStart;
 use crate::steps::Steps;
@@ -55,6 +57,26 @@ impl Scanner {
         ensures { result.now ≡ self.now.rules }
     {
         &self.parts.rules
+    }
+
+    /// Where walks of the initial condition begin, if that is one place, at the start of a line or not.
+    pub(crate) fn anywhere(&self) -> Option<Anywhere>
+        ensures { IfSome result (λ b. IsBegun self.now (anywhere b)) }
+    {
+        if self.minds_lines() {
+            return None;
+        }
+        let start = self.start(0, false)?;
+        Some(Anywhere { start })
+    }
+
+    /// Where walks of the initial condition begin, if they do at the start of a line and elsewhere.
+    pub(crate) fn by_line(&self) -> Option<ByLine>
+        ensures { IfSome result (λ b. IsBegun self.now (by_line b)) }
+    {
+        let at_line = self.start(0, true)?;
+        let elsewhere = self.start(0, false)?;
+        Some(ByLine { at_line, elsewhere })
     }
 
     /// Where a walk begins, looked up.

@@ -1,5 +1,5 @@
 ghost use Rattle.std.specs.Prelude.{◌≡◌, ◌<◌, ◌≤◌, ◌+◌, ◌*◌, ◌^◌, ℕ, List, [], ◌++◌, drop, length, map, take};
-ghost use Rattle.std.specs.Prelude.{All, IfOk, IfSome, IsSome, OnErr, OnOk};
+ghost use Rattle.std.specs.Prelude.{All, IfOk, IfSome, IsSome, None, OnErr, OnOk};
 ghost use Rattle.ly_tree.specs.Look.{AreChildren, IsSeen};
 ghost use Rattle.ly_tree.specs.Private.Headed.{ref_at};
 ghost use Rattle.ly_tree.specs.Private.OfBytes.{IsOfBytes};
@@ -119,23 +119,38 @@ impl Forest {
             ≡ budget each byte self.old + byte * length text.now) }
         ensures err { OnErr result (self.new ≡ self.old) }
     {
-        if terminal.0 <= u16::MAX as u32 {
-            if let Some(start) = self.texts.push_block(text) {
-                let length = text.len() as u8;
-                let terminal = terminal.0 as u16;
-                return Ok(TermRef::ShortLeaf {
-                    length,
-                    terminal,
-                    start,
-                });
-            }
+        if let Some(term) = self.leaf_as_block(terminal, text) {
+            return Ok(term);
         }
         self.leaf_without_block(terminal, text)
     }
 
+    /// Adds a leaf whose text is copied as a block, and answers it. None where it isn't short, or there is no room for
+    /// a block; the forest is then as it was.
+    #[inline(always)] // as `leaf`
+    pub fn leaf_as_block(&mut self, terminal: Sym, text: &Front<'_>) -> Option<TermRef>
+        ensures stands { IfSome result (λ r. StandsFor self.new r (leaf terminal.0 text.now)) }
+        ensures keeps { IfSome result (λ _. Keeps self.old self.new) }
+        ensures pays { IfSome result (λ _. (each byte : ℕ) → budget each byte self.new
+            ≡ budget each byte self.old + byte * length text.now) }
+        ensures none { result ≡ None → self.new ≡ self.old }
+    {
+        if terminal.0 > u16::MAX as u32 {
+            return None;
+        }
+        let start = self.texts.push_block(text)?;
+        let length = text.len() as u8;
+        let terminal = terminal.0 as u16;
+        Some(TermRef::ShortLeaf {
+            length,
+            terminal,
+            start,
+        })
+    }
+
     /// Adds a leaf whose text isn't copied as a block, as `leaf` does.
     #[inline(always)] // as `leaf`
-    fn leaf_without_block(
+    pub fn leaf_without_block(
         &mut self,
         terminal: Sym,
         text: &Front<'_>,

@@ -1,5 +1,5 @@
 -- What is told of a lexeme by the state where its walk ends.
-use Rattle.std.specs.Prelude.{◌≡◌, ◌≢◌, ◌+◌, ◌-◌, ◌≤◌, ℕ, List, Bool, Option, None, Some, true, false, get_or, length}
+use Rattle.std.specs.Prelude.{◌≡◌, ◌≢◌, ◌+◌, ◌-◌, ◌≤◌, ℕ, List, Bool, Option, None, Some, false, get_or, length}
 use Rattle.std.specs.Prelude.{if◌then◌else◌, nat_eq, nat_lt, slice_get, slice_index, Result, Ok, Err}
 use Rattle.ly_base.specs.Lexed.{Place}
 use Rattle.ly_base.specs.declared.lexeme.Lexeme.{Lexeme}

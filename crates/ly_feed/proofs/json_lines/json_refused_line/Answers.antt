@@ -1,4 +1,4 @@
-use Rattle.std.proofs.Common.{◌≡◌, List, map, subst}
+use Rattle.std.proofs.Common.{◌≡◌, map, subst}
 use Rattle.std.specs.Prelude.{IfOk}
 use Rattle.ly_feed.specs.JsonLines.{json_refused_with}
 use Rattle.ly_feed.specs.Flaw.{token_of}

@@ -8,7 +8,7 @@ use Rattle.ly_feed.proofs.running_told.run_told.Given as goal
 
 -- decided matches lead from where the run began to where it stands
 abbrev pub invariant-loop-told : goal.invariant-loop-told
-invariant-loop-told l = record {
+invariant-loop-told g l = record {
   onward : (ended : Bool) → Onward ended (scan_part_of l.fn.set) l.fn.parser.machine
       (progress_of l.fn.start l.fn.parser) (progress_of l.place l.parser);
   machine : l.parser.machine ≡ l.fn.parser.machine;
@@ -17,4 +17,4 @@ invariant-loop-told l = record {
 }
 
 abbrev pub decreases-loop-told : goal.decreases-loop-told
-decreases-loop-told l = length l.place.rest
+decreases-loop-told g l = length l.place.rest

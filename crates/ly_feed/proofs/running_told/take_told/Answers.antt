@@ -35,8 +35,8 @@ returns-in_default-clause-taken c ended is =
       c.requires.goes_on,
     )
 
-pub go_on-requires-clause-not_end : goal.go_on-requires-clause-not_end
-go_on-requires-clause-not_end c =
+pub go_on-answer-requires-clause-not_end : goal.go_on-answer-requires-clause-not_end
+go_on-answer-requires-clause-not_end c =
     let p = scan_part_of c.args.set.now in
     let q = c.args.place.now in
     let is = c.requires.told in
@@ -46,8 +46,8 @@ go_on-requires-clause-not_end c =
     c.first_of.ensures (c.told_terminal.ensures p c.literals.ensures.literals)) c.in-Some.is)).0 in
     omega (arith, low)
 
-pub go_on-requires-clause-terminal : goal.go_on-requires-clause-terminal
-go_on-requires-clause-terminal c =
+pub go_on-answer-requires-clause-terminal : goal.go_on-answer-requires-clause-terminal
+go_on-answer-requires-clause-terminal c =
     let p = scan_part_of c.args.set.now in
     let q = c.args.place.now in
     let is = c.requires.told in
@@ -65,11 +65,28 @@ returns-clause-taken c ended is =
     c.new-text.result c.first_of.result c.told_terminal.result text c.first_of.ensures
     (c.told_terminal.ensures p c.literals.ensures.literals)) c.in-Some.is in
     let bytes = text ∙ ap (λ n. take n q.rest) (sym is.taken) in
-    taken ended p c.args.parser.now.machine q c.args.parser.now c.go_on.new.self is.lexeme _ c.go_on.result
+    taken ended p c.args.parser.now.machine q c.args.parser.now c.go_on-answer.new.self is.lexeme _
+    c.go_on-answer.result
     c.requires.runs.machine refl c.requires.goes_on
     (c.requires.runs.returned is.lexeme.rule.0 (take is.lexeme.taken q.rest) c.in-Some.terminal.0 there).0
     (fast_of ended (scanner_in p) q is.lexeme is.stands) (record {
       at = c.at-at.ensures;
       bytes = bytes;
       terminal = ap (terminal_in p is.lexeme.rule.0) bytes ∙ there;
-    }) c.go_on.ensures
+    }) c.go_on-answer.ensures
+
+pub returns-in_default-clause-terminal : goal.returns-in_default-clause-terminal
+returns-in_default-clause-terminal c is =
+    let p = scan_part_of c.args.set.now in
+    let q = c.args.place.now in
+    sym (no_terminal c.told_terminal.result _ (terminal_there p q c.args.told is c.new-text.result c.first_of.result
+    c.told_terminal.result (c.new-text.ensures ∙ ap (take c.args.told.taken) c.rest.ensures) c.first_of.ensures
+    (c.told_terminal.ensures p c.literals.ensures.literals)) c.in_default.is)
+
+pub returns-clause-terminal : goal.returns-clause-terminal
+returns-clause-terminal c is =
+    let p = scan_part_of c.args.set.now in
+    let q = c.args.place.now in
+    sym (terminal_is c.told_terminal.result c.in-Some.terminal _ (terminal_there p q c.args.told is c.new-text.result
+    c.first_of.result c.told_terminal.result (c.new-text.ensures ∙ ap (take c.args.told.taken) c.rest.ensures)
+    c.first_of.ensures (c.told_terminal.ensures p c.literals.ensures.literals)) c.in-Some.is)

@@ -1,6 +1,6 @@
-use Rattle.std.proofs.Common.{◌∙◌, ap, map}
+use Rattle.std.proofs.Common.{◌∙◌}
 use Rattle.std.proofs.lemmas.Result.{IfOk-weaker}
-use Rattle.ly_feed.specs.Private.Told.{AreFactsOf, number_for}
+use Rattle.ly_feed.specs.Private.Told.{AreFactsOf}
 use Rattle.ly_feed.specs.ScanPart.{scan_part_of}
 use Rattle.ly_feed.proofs.ToldLemmas.{numbers_say}
 use Rattle.ly_feed.proofs.told.facts_of.Goals as goal

@@ -6,7 +6,8 @@ use Rattle.ly_parse.proofs.before.Before.note_further.Given as goal
 -- what the stack was stays
 abbrev pub invariant-loop-kept : goal.invariant-loop-kept
 invariant-loop-kept l = record {
-  same : under_top l.stack (record l.self { kept = l.kept; noted = vec_len l.self.popped }) ≡ under_top l.stack l.fn.self;
+  same : under_top l.stack (record l.self { kept = l.kept; noted = vec_len l.self.popped })
+      ≡ under_top l.stack l.fn.self;
   top : l.self.top ≡ l.fn.self.top;
   kept : l.kept ≤ length l.stack;
   room : vec_len l.self.popped + l.kept ≤ vec_capacity l.self.popped + l.height;

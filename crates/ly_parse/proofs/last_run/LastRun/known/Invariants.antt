@@ -1,5 +1,4 @@
-use Rattle.std.proofs.Common.{ℕ, Contains, take}
-use Rattle.ly_pack.specs.Machine.{action_of}
+use Rattle.std.proofs.Common.{take}
 use Rattle.ly_parse.specs.Private.LastRun.{AreAlike}
 use Rattle.ly_parse.proofs.last_run.LastRun.known.Given as goal
 

@@ -1,5 +1,5 @@
 use Rattle.std.proofs.Common.{◌-◌, ap, refl}
-use Rattle.ly_parse.proofs.BeforeLemmas.{alike_below}
+use Rattle.ly_parse.proofs.BeforeLemmas.{alike_below, still_some}
 use Rattle.ly_parse.proofs.PassLemmas.{acts_on, counts, has_top, one_level, passed_on, passes_lead, situated}
 use Rattle.ly_parse.proofs.ShortcutLemmas.{passes_from}
 use Rattle.ly_parse.proofs.running.Running.pass.Goals as goal
@@ -67,6 +67,19 @@ returns-in-Some-clause-below g c =
     c.self.inside.count c.self.inside.over place c.top_at.result.0 c.index.result.now c.self.view_is
     c.self.invariant.0 size c.index.ensures c.top_at.ensures.top in
     alike_below c.args.self.now c.self.inside.machine c.self.inside.forest c.self.inside.stack.items place
+    c.top_at.result.0 c.index.result.now
+    (record { state = c.in-Some.shortcut.state; term = c.index_mut.result.now.term }) top
+    (ap (λ x. x.term) (one_level c.self.inside.stack.items place c.index.result.now
+    c.index_mut.result.now size c.index.ensures c.index_mut.ensures.value))
+
+pub returns-in-Some-clause-some : goal.returns-in-Some-clause-some
+returns-in-Some-clause-some g c =
+    let place = c.len-height.result - 1 in
+    let size = counts c.self.inside.stack c.len-height.result place c.len-height.ensures (c.if-height-gt0.true, refl) in
+    let top = has_top c.self.inside.machine c.self.inside.forest c.self.inside.stack.items c.args.self.now
+    c.self.inside.count c.self.inside.over place c.top_at.result.0 c.index.result.now c.self.view_is
+    c.self.invariant.0 size c.index.ensures c.top_at.ensures.top in
+    still_some c.args.self.now c.self.inside.machine c.self.inside.forest c.self.inside.stack.items place
     c.top_at.result.0 c.index.result.now
     (record { state = c.in-Some.shortcut.state; term = c.index_mut.result.now.term }) top
     (ap (λ x. x.term) (one_level c.self.inside.stack.items place c.index.result.now

@@ -3,8 +3,7 @@ use Rattle.ly_pack.specs.Machine.{action_of, IsLegal, IsRuleNumber}
 use Rattle.ly_pack.specs.Steady.{run_bound}
 use Rattle.ly_pack.specs.Values.{action_from}
 use Rattle.ly_parse.specs.Feeding.{states_on, top_of}
-use Rattle.ly_parse.specs.Private.Before.{with_top, IsOpen}
-use Rattle.ly_parse.proofs.BeforeLemmas.{begins}
+use Rattle.ly_parse.specs.Private.Before.{before_on, IsOpen}
 use Rattle.ly_parse.proofs.SettleLemmas.{behind_turn, fails_by_rule, run_ends}
 use Rattle.ly_parse.proofs.running.Running.settle_behind.Goals as goal
 
@@ -21,10 +20,7 @@ loop-next-init g c = record {
   legal = c.requires.legal;
   count = refl;
   over = refl;
-  noted = λ opens. begins c.self.inside.machine c.self.inside.forest c.self.inside.stack.items c.deref.result.now
-      c.args.self.now c.self.inside.count c.self.inside.over c.begin.new.self c.args.first.0
-      (with_top c.args.first.0 c.args.self.now.stack) c.self.view_is c.deref.ensures.value c.begin.ensures.kept
-      c.begin.ensures.before refl;
+  noted = λ opens. record { kept = c.requires.kept; same = refl };
 }
 
 pub loop-next-smaller : goal.loop-next-smaller
@@ -49,7 +45,7 @@ loop-next-preserved g c = record {
       c.in-Ok.ensures.legal;
   count = c.in-Ok.ensures.count ∙ c.loop-next.invariant.count;
   over = c.in-Ok.ensures.over ∙ c.loop-next.invariant.over;
-  noted = λ opens. c.in-Ok.ensures.noted opens (with_top c.args.first.0 c.args.self.now.stack)
+  noted = λ opens. c.in-Ok.ensures.noted opens (before_on c.args.self.now.stack c.args.before.now)
       (c.loop-next.invariant.noted (subst (λ a. IsOpen (action_from a)) (sym c.in-Reduce.is) tt));
 }
 

@@ -4,7 +4,7 @@ use Rattle.ly_pack.specs.Steady.{run_bound}
 use Rattle.ly_pack.specs.SteadyLaws.{reductions}
 use Rattle.ly_pack.specs.Values.{action_from}
 use Rattle.ly_parse.specs.Feeding.{states_on, top_of}
-use Rattle.ly_parse.specs.Private.Before.{with_top, IsNoteOf, IsOpen}
+use Rattle.ly_parse.specs.Private.Before.{before_on, IsNoteOf, IsOpen}
 use Rattle.ly_parse.proofs.SettleLemmas.{IsWithinRun}
 use Rattle.ly_parse.proofs.running.Running.settle_behind.Given as goal
 
@@ -17,7 +17,7 @@ invariant-loop-next g l = record {
   legal : IsLegal l.fn.self.machine l.terminal.0 (action_from l.next);
   count : l.self.count ≡ l.fn.self.count;
   over : l.self.over ≡ l.fn.self.over;
-  noted : IsOpen (action_from l.next) → IsNoteOf (with_top l.fn.first.0 l.fn.self.stack) l.self.stack l.before;
+  noted : IsOpen (action_from l.next) → IsNoteOf (before_on l.fn.self.stack l.fn.before) l.self.stack l.before;
 }
 
 abbrev pub decreases-loop-next : goal.decreases-loop-next
