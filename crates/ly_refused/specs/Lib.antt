@@ -1,3 +1,4 @@
 pub mod Indented
 pub mod Lines
 pub mod Private
+pub mod Telling

@@ -4,7 +4,7 @@ use crate::lex_names::{defined_names, known_conditions};
 use crate::lex_units::{Kind, Unit, action_start, first_line};
 use crate::location::{bytes_before, from_offset, line_start};
 use crate::nearest::nearest;
-use ly_base::{Language, Location, OutOfMemory, is_blank, leading_name};
+use ly_base::{Language, Location, OutOfMemory, is_blank, leading_name, locate};
 use ly_ere::EreFaultKind;
 use ly_lexread::LexFaultKind;
 use std::alloc::Global;
@@ -23,6 +23,9 @@ pub(crate) fn lex_advice(
     }
     if unit.open && at.line > unit.last {
         return Ok(Advice::Words("close the braces of the action before this line with `}`"));
+    }
+    if unit.open && at == locate(text, text.len().saturating_sub(1)) {
+        return Ok(Advice::Words("close the braces of the action with `}`"));
     }
     let rest = from_offset(line, bytes_before(at));
     let near = match kind {

@@ -1,3 +1,10 @@
+ghost use Rattle.std.specs.Prelude.{◌≡◌, ◌⊎◌, ◌++◌, false, true};
+ghost use Rattle.ly_generate.specs.declared.gen_fault.GenFault.TheVariants as gen;
+ghost use Rattle.ly_lexread.specs.declared.fault.LexFault as lex_fault;
+ghost use Rattle.ly_page.specs.Page.{Says, SaysMore};
+ghost use Rattle.ly_refused.specs.Telling.{fault_words, place_words, SaysFirst};
+ghost use Rattle.ly_yaccread.specs.declared.fault.YaccFault as yacc_fault;
+
 use crate::advice::Advice;
 use crate::finding::Findings;
 use ly_base::Location;
@@ -15,8 +22,7 @@ pub(crate) fn say_findings(page: &mut Page, lex: Named<'_>, yacc: Named<'_>, fin
     }
 }
 
-/// Says a fault: the file, the location, its number, its name and what it is, the line with a caret under the byte
-/// there, and what to write instead.
+/// Says a fault of one of two files.
 pub(crate) fn say_fault(
     page: &mut Page,
     lex: Named<'_>,
@@ -24,8 +30,41 @@ pub(crate) fn say_fault(
     fault: &GenFault,
     at: Option<Location>,
     advice: &Advice,
-) {
-    let file = if is_of_lex(fault) { lex } else { yacc };
+)
+    ensures told { SaysFirst page.old (place_words lex.entry.name.now at ++ fault_words fault.now) page.new
+        ⊎ SaysFirst page.old (place_words yacc.entry.name.now at ++ fault_words fault.now) page.new }
+    ensures of_lex { (f : lex_fault.LexFault) → fault.now ≡ gen.Lex f
+        → SaysFirst page.old (place_words lex.entry.name.now at ++ fault_words fault.now) page.new }
+    ensures of_yacc { (f : yacc_fault.YaccFault) → fault.now ≡ gen.Yacc f
+        → SaysFirst page.old (place_words yacc.entry.name.now at ++ fault_words fault.now) page.new }
+{
+    if is_of_lex(fault) {
+        say_fault_of(page, lex, fault, at, advice);
+    } else {
+        say_fault_of(page, yacc, fault, at, advice);
+    }
+}
+
+/// Says a fault of a file: the location, its number, its name and what it is, the line with a caret under the byte
+/// there, and what to write instead.
+fn say_fault_of(
+    page: &mut Page,
+    file: Named<'_>,
+    fault: &GenFault,
+    at: Option<Location>,
+    advice: &Advice,
+)
+    ensures { SaysFirst page.old (place_words file.entry.name.now at ++ fault_words fault.now) page.new }
+{
+    say_place(page, file, at);
+    say_number_and_name(page, fault);
+    say_rest(page, file, fault, at, advice);
+}
+
+/// Says where something stands in a file, if it has a place.
+fn say_place(page: &mut Page, file: Named<'_>, at: Option<Location>)
+    ensures { Says page.old (place_words file.entry.name.now at) page.new }
+{
     match at {
         Some(at) => page.say_location_in(file, at),
         None => {
@@ -33,16 +72,43 @@ pub(crate) fn say_fault(
             page.say(b": ");
         }
     }
-    say_heading(page, fault);
-    page.say(b"\n");
-    if let Some(at) = at {
-        page.say_excerpt(file, at);
+}
+
+/// Says the number of a fault, if it has one, and its name.
+fn say_number_and_name(page: &mut Page, fault: &GenFault)
+    ensures { Says page.old (fault_words fault.now) page.new }
+{
+    if let Some(number) = fault.number() {
+        page.say_number(u64::from(number));
+        page.say(b" ");
     }
-    say_advice(page, advice)
+    page.say(fault.name().as_bytes());
+}
+
+/// Says what is at fault and what it is, the line with a caret, and what to write instead.
+fn say_rest(
+    page: &mut Page,
+    file: Named<'_>,
+    fault: &GenFault,
+    at: Option<Location>,
+    advice: &Advice,
+)
+    ensures { SaysMore page.old page.new }
+{
+    let mut rest = page.beside();
+    say_heading(&mut rest, fault);
+    if let Some(at) = at {
+        rest.say_excerpt(file, at);
+    }
+    say_advice(&mut rest, advice);
+    page.say_page(rest);
 }
 
 /// Whether a fault is one of the lex file.
-pub(crate) fn is_of_lex(fault: &GenFault) -> bool {
+pub(crate) fn is_of_lex(fault: &GenFault) -> bool
+    ensures lex { (f : lex_fault.LexFault) → fault.now ≡ gen.Lex f → result ≡ true }
+    ensures yacc { (f : yacc_fault.YaccFault) → fault.now ≡ gen.Yacc f → result ≡ false }
+{
     matches!(
         fault,
         GenFault::Lex(_)
@@ -57,13 +123,8 @@ pub(crate) fn is_of_lex(fault: &GenFault) -> bool {
     )
 }
 
-/// Says a fault by its number, its name, what is at fault and what it is.
+/// Says what is at fault, and what it is.
 fn say_heading(page: &mut Page, fault: &GenFault) {
-    if let Some(number) = fault.number() {
-        page.say_number(u64::from(number));
-        page.say(b" ");
-    }
-    page.say(fault.name().as_bytes());
     let mut what = page.beside();
     say_what(&mut what, fault);
     if what.len() > 0 {
@@ -72,6 +133,7 @@ fn say_heading(page: &mut Page, fault: &GenFault) {
     }
     page.say(b": ");
     say_words(page, fault);
+    page.say(b"\n");
 }
 
 /// Says what is at fault, if the words of a fault don't say so.
