@@ -160,9 +160,9 @@ MENDED = (
 def explained(value):
     """The lines that an answer of `explain --json` says."""
     if not value["accepted"]:
-        if value["faults"][-1]["name"] == "ExchangedFiles":
-            return exchanged_lines(value["faults"])
-        lines = [line for fault in value["faults"] for line in fault_lines(fault)]
+        exchanged = [it for it in value["faults"] if it["name"] == "ExchangedFiles"]
+        lines = exchanged_lines(exchanged)
+        lines += [line for fault in value["faults"][len(exchanged) :] for line in fault_lines(fault)]
         if value["more"]:
             lines.append("there may be more faults behind these")
         return lines

@@ -43,6 +43,15 @@ pub(crate) fn exchange_of(
     }
 }
 
+/// Whether both files are exchanged beyond doubt: the first one reads as a yacc file. Much that is none reads as a lex
+/// file, so the second one alone doesn't say so.
+pub(crate) fn is_certain(exchange: Option<Exchange>) -> bool {
+    match exchange {
+        Some(exchange) => exchange.first_is_yacc,
+        None => false,
+    }
+}
+
 /// Says that both files seem to be exchanged.
 pub(crate) fn say_exchange(page: &mut Page, lex: Named<'_>, yacc: Named<'_>, exchange: Exchange) {
     if exchange.first_is_yacc {

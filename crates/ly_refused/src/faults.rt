@@ -2,7 +2,7 @@ ghost use Rattle.std.specs.Prelude.{◌≡◌, OnOk, OnErr};
 ghost use Rattle.ly_page.specs.Page.{SaysMore};
 
 use crate::causes::{Cause, cause_of};
-use crate::exchange::{exchange_of, say_exchange};
+use crate::exchange::{exchange_of, is_certain, say_exchange};
 use crate::finding::Findings;
 use crate::join_faults::find_join_faults;
 use crate::lex_faults::find_lex_faults;
@@ -52,7 +52,7 @@ pub fn say_lex_faults(
     Ok(())
 }
 
-/// The faults of two files, as they are said, or that both are exchanged.
+/// The faults of two files, as they are said, or that both are exchanged, or both of these.
 fn told_faults(
     alloc: Global,
     lex: Named<'_>,
@@ -61,12 +61,13 @@ fn told_faults(
     fault: &GenFault,
 ) -> Result<Vec<u8>, OutOfMemory> {
     let mut page = Page::new(alloc);
-    match exchange_of(alloc, lex.bytes, yacc.bytes, limits)? {
-        Some(exchange) => say_exchange(&mut page, lex, yacc, exchange),
-        None => {
-            let findings = findings_in(alloc, lex.bytes, yacc.bytes, limits)?;
-            page.say(&told(alloc, lex, yacc, limits, &findings, fault)?);
-        }
+    let exchange = exchange_of(alloc, lex.bytes, yacc.bytes, limits)?;
+    if let Some(exchange) = exchange {
+        say_exchange(&mut page, lex, yacc, exchange);
+    }
+    if !is_certain(exchange) {
+        let findings = findings_in(alloc, lex.bytes, yacc.bytes, limits)?;
+        page.say(&told(alloc, lex, yacc, limits, &findings, fault)?);
     }
     page.finish()
 }

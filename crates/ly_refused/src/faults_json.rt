@@ -3,7 +3,9 @@ ghost use Rattle.ly_page.specs.Page.{SaysMore};
 
 use crate::advice::Advice;
 use crate::causes::{Cause, cause_of};
-use crate::exchange::{ARE_EXCHANGED, Exchange, READS_AS_LEX, READS_AS_YACC, exchange_of};
+use crate::exchange::{
+    ARE_EXCHANGED, Exchange, READS_AS_LEX, READS_AS_YACC, exchange_of, is_certain,
+};
 use crate::faults::findings_in;
 use crate::finding::Findings;
 use crate::telling::{is_of_lex, say_advice_words, say_what, say_words};
@@ -43,21 +45,21 @@ fn told_faults(
     let mut page = Page::new(alloc);
     page.say_json_key(b"faults");
     page.say(b"[");
-    let more = match exchange_of(alloc, lex.bytes, yacc.bytes, limits)? {
-        Some(exchange) => {
-            say_exchange(&mut page, lex, yacc, exchange);
-            false
+    let exchange = exchange_of(alloc, lex.bytes, yacc.bytes, limits)?;
+    if let Some(exchange) = exchange {
+        say_exchange(&mut page, lex, yacc, exchange);
+    }
+    let mut more = false;
+    if !is_certain(exchange) {
+        page.say(if exchange.is_some() { b"," } else { b"" });
+        let findings = findings_in(alloc, lex.bytes, yacc.bytes, limits)?;
+        say_findings(&mut page, lex, yacc, &findings);
+        if findings.is_empty() {
+            let Cause { at, advice } = cause_of(alloc, lex.bytes, yacc.bytes, limits, fault)?;
+            say_fault(&mut page, lex, yacc, fault, at, &advice);
         }
-        None => {
-            let findings = findings_in(alloc, lex.bytes, yacc.bytes, limits)?;
-            say_findings(&mut page, lex, yacc, &findings);
-            if findings.is_empty() {
-                let Cause { at, advice } = cause_of(alloc, lex.bytes, yacc.bytes, limits, fault)?;
-                say_fault(&mut page, lex, yacc, fault, at, &advice);
-            }
-            findings.has_more()
-        }
-    };
+        more = findings.has_more();
+    }
     page.say(if more {
         b"],\"more\":true".as_slice()
     } else {
