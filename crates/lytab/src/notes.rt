@@ -1,9 +1,11 @@
 //! What `--where` adds to standard error: where something is wrong, and why.
+ghost use Rattle.lytab.specs.Notes.{SaysPlaceOf};
+
 use crate::completion::Completion;
 use crate::failure::Failure;
 use crate::remembering::Recall;
 use crate::shown_path::ShownPath;
-use ly_base::{Limits, OutOfMemory, locate};
+use ly_base::{Limits, Location, OutOfMemory, locate};
 use ly_engine::{GenFault, Outcome, TextFault, TokenEnd};
 use ly_page::{Named, Page};
 use ly_refused::{say_faults, say_lex_faults};
@@ -85,33 +87,46 @@ impl Notes {
     }
 
     /// A token that can't stand at a byte of a text, or its end, which has no bytes.
-    fn point_at_token(&mut self, text: Named<'_>, byte: u64, length: usize) {
+    fn point_at_token(&mut self, text: Named<'_>, byte: u64, length: usize)
+        ensures { SaysPlaceOf text.entry.name.now text.entry.bytes.now byte self.old.page self.new.page }
+    {
         let start = usize::try_from(byte).unwrap_or(usize::MAX);
         let token = text.bytes.get(start..).unwrap_or(b"");
         let token = token.get(..length).unwrap_or(token);
         let at = locate(text.bytes, start);
         self.page.say_location_in(text, at);
+        let mut rest = self.page.beside();
         if token.is_empty() {
-            self.page.say(b"the text can't end here\n");
+            rest.say(b"the text can't end here\n");
         } else {
-            self.page.say_quoted(token.get(..LONGEST).unwrap_or(token));
+            rest.say_quoted(token.get(..LONGEST).unwrap_or(token));
             let is_cut = token.len() > LONGEST;
-            self.page.say(if is_cut { b".." } else { b"" });
-            self.page.say(b" can't stand here\n");
+            rest.say(if is_cut { b".." } else { b"" });
+            rest.say(b" can't stand here\n");
         }
-        self.page.say_excerpt(text, at);
+        rest.say_excerpt(text, at);
+        self.page.say_page(rest);
     }
 
     /// A byte of a text at which no rule matches.
-    fn point_at_byte(&mut self, text: Named<'_>, byte: u64) {
+    fn point_at_byte(&mut self, text: Named<'_>, byte: u64)
+        ensures { SaysPlaceOf text.entry.name.now text.entry.bytes.now byte self.old.page self.new.page }
+    {
         let start = usize::try_from(byte).unwrap_or(usize::MAX);
         let at = locate(text.bytes, start);
         self.page.say_location_in(text, at);
-        self.page.say(b"no rule matches ");
-        self.page
-            .say_byte(text.bytes.get(start).copied().unwrap_or(0));
-        self.page.say(b"\n");
-        self.page.say_excerpt(text, at);
+        let rest = self.unmatched(text, start, at);
+        self.page.say_page(rest);
+    }
+
+    /// That no rule matches at an offset of a text, and the line of its location.
+    fn unmatched(&self, text: Named<'_>, start: usize, at: Location) -> Page {
+        let mut page = self.page.beside();
+        page.say(b"no rule matches ");
+        page.say_byte(text.bytes.get(start).copied().unwrap_or(0));
+        page.say(b"\n");
+        page.say_excerpt(text, at);
+        page
     }
 
     /// All faults of a lex file and a yacc file by which a command ended that are refused within limits, as `explain`
