@@ -9,7 +9,7 @@ ghost use Rattle.ly_feed.specs.LexerOf.{IsLexerOf};
 ghost use Rattle.ly_feed.specs.Private.ScannerOf.{is_passed, IsScannerOf};
 ghost use Rattle.ly_pack.specs.Rows.{comb_entry, Used};
 ghost use Rattle.ly_scan.specs.Lexers.{scanner_of};
-ghost use Rattle.ly_scan.specs.StateRows.{row_entry};
+ghost use Rattle.ly_scan.specs.StateRows.{row_entry, row_width};
 ghost use Rattle.ly_scan.specs.StateTable.{table_from};
 ghost use Rattle.ly_tables.specs.Ranges.{IsWithinVersion};
 
@@ -98,7 +98,7 @@ fn spread(
     requires states { states < 4294967296 }
     requires targets { (k : ℕ) (u : Used number.StateNo) → slice_get comb.now.slots k ≡ Some (Some u)
         → u.entry.0 < states }
-    ensures count { IfOk result (λ r. length r ≡ states * 256) }
+    ensures count { IfOk result (λ r. length r ≡ states * row_width) }
     ensures same { IfOk result (λ r. (state byte : ℕ) → state < states → byte < 256
         → row_entry r state byte ≡ states_from (comb_entry comb.now) state (slice_index classes.now byte)) }
     ensures within { IfOk result (λ r. (state byte : ℕ) → state < states → byte < 256

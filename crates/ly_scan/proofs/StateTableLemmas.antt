@@ -10,7 +10,7 @@ use Rattle.ly_base.specs.declared.numbers.RuleNo.{RuleNo}
 use Rattle.ly_scan.specs.Beginning.{IsBegun, anywhere}
 use Rattle.ly_scan.specs.Lexer.{Scanner}
 use Rattle.ly_scan.specs.Lexers.{scanner_of}
-use Rattle.ly_scan.specs.StateRows.{row_entry}
+use Rattle.ly_scan.specs.StateRows.{row_entry, row_width}
 use Rattle.ly_scan.specs.StateTable.{StandsIn, StateTable, ahead_at, cut_at, next_at, rule_at, start_at, states_of}
 use Rattle.ly_scan.specs.StateWalk.{States, state_walk}
 use Rattle.ly_scan.specs.declared.state_rows.RowStart.{RowStart}
@@ -56,11 +56,11 @@ numbered rules state = elim (cases_lt state (length rules)) [
       (omega (arith, past, length-map rules (option_map (λ (r : RuleNo). r.0)))))
 ]
 
-module _ (t : StateTable) (full : length t.rows ≡ length t.rules * 256) where
+module _ (t : StateTable) (full : length t.rows ≡ length t.rules * row_width) where
   -- no row is there for a state that isn't
   past_rows : (state byte : ℕ) → length t.rules ≤ state → row_entry t.rows state byte ≡ None
   past_rows state byte past = ap (option_and_then (λ next. next))
-      (slice_get_past t.rows (state * 256 + byte) (omega (arith, past, full)))
+      (slice_get_past t.rows (state * row_width + byte) (omega (arith, past, full)))
 
   -- where a byte leads, by the rows of the states that are there
   pub next_as : (next : ℕ → ℕ → Option ℕ)

@@ -6,14 +6,14 @@ use Rattle.ly_base.specs.declared.cut.Cut.{Cut}
 use Rattle.ly_base.specs.declared.cut.Cut.TheVariants.{Whole}
 use Rattle.ly_base.specs.declared.numbers.RuleNo.{RuleNo}
 use Rattle.ly_scan.specs.declared.starts.Starts.{Starts}
-use Rattle.ly_scan.specs.StateRows.{row_entry, state_at, Begins}
+use Rattle.ly_scan.specs.StateRows.{row_entry, row_width, state_at, Begins}
 use Rattle.ly_scan.specs.StateWalk.{States, ahead_of}
 use Rattle.ly_scan.specs.Walk.{Walk}
 use Rattle.ly_scan.specs.declared.scanner_parts.ScannerParts.{ScannerParts}
 use Rattle.ly_scan.specs.declared.state_rows.RowStart.{RowStart}
 
--- Where each condition begins; where states lead, row after row of 256 entries, one for each byte; the rule of each
--- state, if it has one; and what is cut off the matches of each rule.
+-- Where each condition begins; where states lead, row after row, an entry for each byte; the rule of each state,
+-- if it has one; and what is cut off the matches of each rule.
 pub record StateTable : Type 0 where
   pub starts : List Starts
   pub rows : List (Option ℕ)
@@ -56,7 +56,7 @@ StandsIn t at = Begins at × (state_at at < length t.rules)
 
 -- Each state has a row, and conditions and rows lead to states that there are.
 pub record LeadsWithin (t : StateTable) : Type 0 where
-  pub full : length t.rows ≡ length t.rules * 256
+  pub full : length t.rows ≡ length t.rules * row_width
   pub starts : (condition : ℕ) (line : Bool) → IfSome (start_at t condition line) (λ s. s < length t.rules)
   pub targets : (state byte : ℕ) → byte < 256 → IfSome (row_entry t.rows state byte) (λ next. next < length t.rules)
 

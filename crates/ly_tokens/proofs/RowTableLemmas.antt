@@ -17,7 +17,7 @@ use Rattle.ly_ere.specs.declared.pattern.Rule.{Rule}
 use Rattle.ly_scan.proofs.StateTableLemmas.{next_as, numbered, same_scanner, targets_within}
 use Rattle.ly_scan.specs.Lexer.{Scanner}
 use Rattle.ly_scan.specs.Lexers.{scanner_of}
-use Rattle.ly_scan.specs.StateRows.{row_entry}
+use Rattle.ly_scan.specs.StateRows.{row_entry, row_width}
 use Rattle.ly_scan.specs.StateTable.{LeadsWithin, StateTable, start_at, start_by}
 use Rattle.ly_subset.specs.Automaton.{Automaton, entry_at, next_by_class, next_of, start_of, start_place}
 use Rattle.ly_tokens.specs.Private.RowTable.{IsTableOf, begin_of, state_of}
@@ -32,8 +32,8 @@ module _ (A : Automaton) (rules : List Rule) (t : StateTable) (is : IsTableOf A 
   count : length t.rules ≡ length A.rules
   count = sym (length-map t.rules (option_map (λ (r : RuleNo). r.0))) ∙ ap (λ xs. length xs) is.states
 
-  full : length t.rows ≡ length t.rules * 256
-  full = is.full ∙ ap (λ n. n * 256) (sym count)
+  full : length t.rows ≡ length t.rules * row_width
+  full = is.full ∙ ap (λ n. n * row_width) (sym count)
 
   -- a condition past the starts has none
   no_start : (c : ℕ) (line : Bool) → A.starts ≤ c → start_of A c line ≡ None

@@ -5,6 +5,7 @@ ghost use Rattle.ly_ere.specs.Names.{defined};
 ghost use Rattle.ly_lexread.specs.LexText.{LexText};
 ghost use Rattle.ly_position.specs.TotalWeight.{total_weight};
 ghost use Rattle.ly_scan.specs.Lexers.{scanner_of};
+ghost use Rattle.ly_scan.specs.StateRows.{row_width};
 ghost use Rattle.ly_scan.specs.StateTable.{table_from};
 ghost use Rattle.ly_subset.specs.RuleSets.{HaveMoreSets};
 ghost use Rattle.ly_tokens.specs.Agreement.{Agrees};
@@ -121,7 +122,7 @@ fn cuts_of(alloc: Global, rules: &[Rule]) -> Result<Vec<Cut>, OutOfMemory>
 /// The rows of an automaton's states, which are so many, spread over all bytes.
 fn spread(alloc: Global, dfa: &Dfa, states: u32) -> Result<StateRows, OutOfMemory>
     requires { states ≡ length dfa.now.rules }
-    ensures counted { IfOk result (λ rows. length rows ≡ length dfa.now.rules * 256) }
+    ensures counted { IfOk result (λ rows. length rows ≡ length dfa.now.rules * row_width) }
     ensures spread { IfOk result (AreRowsOf dfa.now) }
 {
     let mut rows = StateRows::new(alloc, states as usize)?;

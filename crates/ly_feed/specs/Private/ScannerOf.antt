@@ -6,7 +6,7 @@ use Rattle.ly_base.specs.declared.scan_action.Emitted.{Emitted}
 use Rattle.ly_base.specs.declared.scan_action.Emitted.TheVariants.{Nothing}
 use Rattle.ly_feed.specs.ScanPart.{states_from}
 use Rattle.ly_pack.specs.Rows.{comb_entry}
-use Rattle.ly_scan.specs.StateRows.{row_entry}
+use Rattle.ly_scan.specs.StateRows.{row_entry, row_width}
 use Rattle.ly_scan.specs.StateTable.{StateTable}
 use Rattle.ly_tables.specs.TableSet.{TableSet}
 use Rattle.ly_tables.specs.Values.{scan_rule_from, starts_from}
@@ -31,7 +31,7 @@ pub record IsScannerOf (s : TableSet) (t : StateTable) : Type 0 where
   pub rules : List scan.ScanRule
   pub all_rules : map scan_rule_from rules ≡ s.scan_rules
   pub cuts : t.cuts ≡ map (λ (r : scan.ScanRule). r.cut) rules
-  pub full : length t.rows ≡ length t.rules * 256
+  pub full : length t.rows ≡ length t.rules * row_width
   pub rows : (state byte : ℕ) → state < length t.rules → byte < 256
       → row_entry t.rows state byte ≡ states_from (comb_entry s.scan_rows) state (slice_index s.classes byte)
   pub targets : (state byte : ℕ) → state < length t.rules → byte < 256

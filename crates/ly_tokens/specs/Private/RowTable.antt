@@ -5,7 +5,7 @@ use Rattle.ly_base.specs.declared.numbers.RuleNo.{RuleNo}
 use Rattle.ly_base.specs.declared.numbers.StateNo.{StateNo}
 use Rattle.ly_scan.specs.declared.starts.Starts.{Starts}
 use Rattle.ly_ere.specs.declared.pattern.Rule.{Rule}
-use Rattle.ly_scan.specs.StateRows.{row_entry}
+use Rattle.ly_scan.specs.StateRows.{row_entry, row_width}
 use Rattle.ly_scan.specs.StateTable.{StateTable}
 use Rattle.ly_subset.specs.Automaton.{Automaton, IsAutomaton, next_of, start_of}
 
@@ -35,6 +35,6 @@ pub record IsTableOf (A : Automaton) (rules : List Rule) (t : StateTable) : Type
   pub whole : IsAutomaton A
   pub starts : t.starts ≡ map (begin_of A) (range_with_len 0 A.starts)
   pub states : AreRulesOf A t.rules
-  pub full : length t.rows ≡ length A.rules * 256
+  pub full : length t.rows ≡ length A.rules * row_width
   pub rows : AreRowsOf A t.rows
   pub cuts : t.cuts ≡ map (λ r. r.pattern.cut) rules

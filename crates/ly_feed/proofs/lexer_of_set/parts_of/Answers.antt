@@ -3,7 +3,7 @@ use Rattle.std.specs.Prelude.{IfSome, slice_index}
 use Rattle.ly_base.specs.declared.numbers.RuleNo.{RuleNo}
 use Rattle.ly_feed.specs.ScanPart.{states_from}
 use Rattle.ly_pack.specs.Rows.{comb_entry}
-use Rattle.ly_scan.specs.StateRows.{row_entry}
+use Rattle.ly_scan.specs.StateRows.{row_entry, row_width}
 use Rattle.ly_feed.proofs.lexer_of_set.parts_of.Goals as goal
 
 pub returns : goal.returns
@@ -20,7 +20,7 @@ returns c =
       rules = c.scan_rules.result.now;
       all_rules = c.scan_rules.ensures;
       cuts = c.in_ok-cuts_of.ensures;
-      full = c.in_ok-spread.ensures.count ∙ ap (λ n. n * 256) (sym count);
+      full = c.in_ok-spread.ensures.count ∙ ap (λ n. n * row_width) (sym count);
       rows = λ state byte row lt. c.in_ok-spread.ensures.same state byte (omega (arith, row, count)) lt
           ∙ ap (λ comb. states_from (comb_entry comb) state (slice_index c.classes.result.now byte)) c.scan_rows.ensures
           ∙ ap (λ classes. states_from (comb_entry s.scan_rows) state (slice_index classes byte)) c.classes.ensures;
