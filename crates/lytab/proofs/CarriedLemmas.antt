@@ -1,6 +1,6 @@
 -- What a command did is said of its request, whose paths are the bytes of those that the command has.
-use Rattle.std.proofs.Common.{◌≡◌, ap, Bool, Err, IfErr, IfOk, inl, inr, ◌∷◌, [], List, None, Ok, OnOk, Option}
-use Rattle.std.proofs.Common.{option_map, refl, Result, Some, subst, sym, ℕ}
+use Rattle.std.proofs.Common.{◌≡◌, ◌⊎◌, ap, Bool, Err, IfErr, IfOk, inl, inr, ◌∷◌, [], List, None, Ok, OnErr, OnOk}
+use Rattle.std.proofs.Common.{Option, option_map, refl, Result, Some, subst, sym, ℕ}
 use Rattle.std.specs.Prelude.{IsSome}
 use Rattle.std.specs.Result.{IsErrAnd}
 use Rattle.std.specs.Io.KnownBytes.{IsAtEnd}
@@ -15,18 +15,19 @@ use Rattle.ly_words.specs.Request.{Request, build, check, explain, lines, run, r
 use Rattle.ly_words.specs.Request.{tokens, try, try_placed}
 use Rattle.ly_words.specs.declared.command.Answering.{Answering}
 use Rattle.ly_words.specs.declared.command.Strictness.{Strictness}
-use Rattle.lytab.specs.Answering.{AreTokensPrinted, IsAnsweredByFiles, IsAnsweredByTables, text_from}
-use Rattle.lytab.specs.CarriedOut.{Ends, IsBuildTold, IsCarriedOut, IsExplanationTold, IsInputTold, lex_text}
-use Rattle.lytab.specs.CarriedOut.{wanted_for}
-use Rattle.lytab.specs.Devices.{AreAnswersTold, AreWritesTold, IsLeftOrFailed, IsOutputTold, IsToldOf}
+use Rattle.lytab.specs.Answering.{AreTokensBegun, AreTokensPrinted, IsAnsweredByFiles, IsAnsweredByTables}
+use Rattle.lytab.specs.Answering.{IsBegunByFiles, IsBegunByTables, text_from}
+use Rattle.lytab.specs.CarriedOut.{Ends, HasBegunAtMost, IsBuildTold, IsCarriedOut, IsExplanationTold, IsInputTold}
+use Rattle.lytab.specs.CarriedOut.{lex_text, wanted_for}
+use Rattle.lytab.specs.Devices.{AreAnswersTold, AreWritesTold, IsLeftOrFailed, IsOutputTold, IsToldOrStopped, IsToldOf}
 use Rattle.lytab.specs.Failure.{IsOfDevice, IsOfWriter, failure_of_file}
 use Rattle.lytab.specs.Files.{IsWrittenIf}
 use Rattle.lytab.specs.Lines.{AreLinesAnsweredBy, AreLinesFailed, AreLinesRead}
-use Rattle.lytab.specs.Placing.{IsPlacedByFiles, IsPlacedByTables}
+use Rattle.lytab.specs.Placing.{IsPlacedByFiles, IsPlacedByTables, IsPlacingBegunByFiles, IsPlacingBegunByTables}
 use Rattle.lytab.specs.Reading.{IsOfRules, IsReadByFiles, IsReadByTables}
 use Rattle.lytab.specs.Refusal.{IsRefusalOfBuild, IsRefusalOfCheck, IsRefusalOfFiles, IsRefusalOfLex}
 use Rattle.lytab.specs.Refusal.{IsRefusalOfTables}
-use Rattle.lytab.specs.TableTokens.{AreTableTokens, IsRefusalOfScanner}
+use Rattle.lytab.specs.TableTokens.{AreTableTokens, AreTableTokensBegun, IsRefusalOfScanner}
 use Rattle.lytab.specs.declared.completion.Completion.{Completion}
 use Rattle.lytab.specs.declared.failure.Failure.{Failure}
 use Rattle.lytab.specs.declared.failure.Failure.TheVariants.{FaultyTables, Refused, Tables, TooLong, Unexpected}
@@ -95,18 +96,21 @@ failed_first contents (tokens lex text by) fault e same kept = (
   [],
   tt,
   fails_lex [] fault,
+  inl kept,
   untouched text (Err (failure_of_file fault)) e _ same (λ _. same) tt,
 )
 failed_first contents (table_tokens table_file text by) fault e same kept = (
   [],
   tt,
   fails_scanner [] (text_from text e.given) fault,
+  inl kept,
   untouched text (Err (failure_of_file fault)) e _ same (λ _. same) tt,
 )
 failed_first contents (run table_file text by) fault e same kept = (
   [],
   tt,
   fails_tables [] (text_from text e.given) fault,
+  inl kept,
   untouched text (Err (failure_of_file fault)) e _ same (λ _. same) (inl same),
 )
 failed_first contents (lines table_file text by) fault e same kept = (
@@ -119,6 +123,7 @@ failed_first contents (run_placed table_file text points) fault e same kept = (
   [],
   tt,
   fails_tables [] (text_from text e.given) fault,
+  inl kept,
   untouched text (Err (failure_of_file fault)) e _ same (λ _. same) tt,
 )
 failed_first contents (try_placed lex yacc text points) fault e same kept = (
@@ -126,6 +131,7 @@ failed_first contents (try_placed lex yacc text points) fault e same kept = (
   [],
   tt,
   fails_files [] [] (text_from text e.given) fault,
+  inl kept,
   untouched text (Err (failure_of_file fault)) e _ same (λ _. same) tt,
 )
 failed_first contents (try lex yacc text by) fault e same kept = (
@@ -133,12 +139,14 @@ failed_first contents (try lex yacc text by) fault e same kept = (
   [],
   tt,
   fails_files [] [] (text_from text e.given) fault,
+  inl kept,
   untouched text (Err (failure_of_file fault)) e _ same (λ _. same) (inl same),
 )
 failed_first contents (build lex yacc table_file report version expected points) fault e same kept =
-    (tt, fails_build version expected fault, same)
-failed_first contents (check table_file by) fault e same kept = (tt, fails_check fault, same)
-failed_first contents (explain lex yacc states graph strictness form) fault e same kept = (tt, fails_device fault, same)
+    (inl kept, fails_build version expected fault, same)
+failed_first contents (check table_file by) fault e same kept = (inl kept, fails_check fault, same)
+failed_first contents (explain lex yacc states graph strictness form) fault e same kept =
+    (inl kept, fails_device fault, same)
 
 pub failed_with : {R D : Type 0} (contents : D → Option (List ℕ)) (request : Request) (fault : FileFault) (e : Ends R)
     (r : Result Completion Failure) → IsErrAnd r (λ f. f ≡ failure_of_file fault) → e.input_after ≡ e.input_before
@@ -161,19 +169,37 @@ input_mapped : {A B R : Type 0} (f : A → B) (text : Option A) (r : Result Comp
 input_mapped f None r e read elsewhere refused needed = (refused refl, needed refl)
 input_mapped f (Some path) r e read elsewhere refused needed = elsewhere refl
 
+-- where a command failed that answers a text, nothing was written, or a beginning of the answer
+pub begun_at_most : {W : Type 0} (known : W → Option (List ℕ)) (r : Result Completion Failure) (old new : W)
+    (begun : Type 0) → IfErr r (λ f. IsOfWriter f → begun) → IfErr r (λ f. (IsOfWriter f → ⊥) → new ≡ old)
+    → OnErr r ((known new ≡ known old) ⊎ begun)
+begun_at_most known (Ok c) old new begun begins stays = tt
+begun_at_most known (Err (failure.CannotWrite path)) old new begun begins stays = inr (begins tt)
+begun_at_most known (Err (failure.CannotRead path)) old new begun begins stays = inl (ap known (stays (λ no. no)))
+begun_at_most known (Err (Unreadable path reason)) old new begun begins stays = inl (ap known (stays (λ no. no)))
+begun_at_most known (Err (Refused fault line)) old new begun begins stays = inl (ap known (stays (λ no. no)))
+begun_at_most known (Err (Unexpected counts wanted)) old new begun begins stays = inl (ap known (stays (λ no. no)))
+begun_at_most known (Err (Tables fault)) old new begun begins stays = inl (ap known (stays (λ no. no)))
+begun_at_most known (Err FaultyTables) old new begun begins stays = inl (ap known (stays (λ no. no)))
+begun_at_most known (Err TooLong) old new begun begins stays = inl (ap known (stays (λ no. no)))
+begun_at_most known (Err failure.OutOfMemory) old new begun begins stays = inl (ap known (stays (λ no. no)))
+
 -- a command that answers a text, by the bytes of its files
 pub carried_tokens : {A R D : Type 0} (contents : D → Option (List ℕ)) (f : A → List ℕ) (path lex : List ℕ)
     (text : Option A) (by : Answering) (r : Result Completion Failure) (e : Ends R)
     → IfOk r (AreTokensPrinted by.form lex (text_from text e.given) e.before e.after) → IfErr r (IsRefusalOfLex lex)
+    → HasBegunAtMost r e (AreTokensBegun by.form lex (text_from text e.given) e.before e.after)
     → (IsSome text → e.input_after ≡ e.input_before)
     → (text ≡ None → IfErr r (λ g. IsOfRules g → e.input_after ≡ e.input_before))
     → (text ≡ None → OnOk r (IsAtEnd e.left))
     → IsCarriedOut contents (tokens path (option_map f text) by) r e
-carried_tokens contents f path lex text by r e answered refused elsewhere unread needed = (
+carried_tokens contents f path lex text by r e answered refused begins elsewhere unread needed = (
   lex,
   subst (λ given. IfOk r (AreTokensPrinted by.form lex given e.before e.after)) (sym (text_mapped f text e.given))
       answered,
   refused,
+  subst (λ given. HasBegunAtMost r e (AreTokensBegun by.form lex given e.before e.after))
+      (sym (text_mapped f text e.given)) begins,
   input_mapped f text r e (OnOk r (IsAtEnd e.left)) elsewhere unread needed,
 )
 
@@ -181,15 +207,18 @@ pub carried_table_tokens : {A R D : Type 0} (contents : D → Option (List ℕ))
     (text : Option A) (by : Answering) (r : Result Completion Failure) (e : Ends R)
     → IfOk r (AreTableTokens by.form bytes (text_from text e.given) e.before e.after)
     → IfErr r (IsRefusalOfScanner bytes (text_from text e.given))
+    → HasBegunAtMost r e (AreTableTokensBegun by.form bytes (text_from text e.given) e.before e.after)
     → (IsSome text → e.input_after ≡ e.input_before)
     → (text ≡ None → IfErr r (λ g. IsOfRules g → e.input_after ≡ e.input_before))
     → (text ≡ None → OnOk r (IsAtEnd e.left))
     → IsCarriedOut contents (table_tokens path (option_map f text) by) r e
-carried_table_tokens contents f path bytes text by r e answered refused elsewhere unread needed = (
+carried_table_tokens contents f path bytes text by r e answered refused begins elsewhere unread needed = (
   bytes,
   subst (λ given. IfOk r (AreTableTokens by.form bytes given e.before e.after)) (sym (text_mapped f text e.given))
       answered,
   subst (λ given. IfErr r (IsRefusalOfScanner bytes given)) (sym (text_mapped f text e.given)) refused,
+  subst (λ given. HasBegunAtMost r e (AreTableTokensBegun by.form bytes given e.before e.after))
+      (sym (text_mapped f text e.given)) begins,
   input_mapped f text r e (OnOk r (IsAtEnd e.left)) elsewhere unread needed,
 )
 
@@ -197,15 +226,18 @@ pub carried_run : {A R D : Type 0} (contents : D → Option (List ℕ)) (f : A �
     (text : Option A) (by : Answering) (r : Result Completion Failure) (e : Ends R)
     → IfOk r (IsAnsweredByTables by.form bytes (text_from text e.given) e.before e.after)
     → IfErr r (IsRefusalOfTables bytes (text_from text e.given))
+    → HasBegunAtMost r e (IsBegunByTables by.form bytes (text_from text e.given) e.before e.after)
     → (IsSome text → e.input_after ≡ e.input_before)
     → (text ≡ None → IfErr r (λ g. IsOfRules g → e.input_after ≡ e.input_before))
     → (text ≡ None → IsReadByTables bytes r e.given e.left)
     → IsCarriedOut contents (run path (option_map f text) by) r e
-carried_run contents f path bytes text by r e answered refused elsewhere unread needed = (
+carried_run contents f path bytes text by r e answered refused begins elsewhere unread needed = (
   bytes,
   subst (λ given. IfOk r (IsAnsweredByTables by.form bytes given e.before e.after)) (sym (text_mapped f text e.given))
       answered,
   subst (λ given. IfErr r (IsRefusalOfTables bytes given)) (sym (text_mapped f text e.given)) refused,
+  subst (λ given. HasBegunAtMost r e (IsBegunByTables by.form bytes given e.before e.after))
+      (sym (text_mapped f text e.given)) begins,
   input_mapped f text r e _ elsewhere unread (λ no. inr (needed no)),
 )
 
@@ -230,14 +262,17 @@ pub carried_run_placed : {A R D : Type 0} (contents : D → Option (List ℕ)) (
     (text : Option A) (points : Bool) (r : Result Completion Failure) (e : Ends R)
     → IfOk r (IsPlacedByTables bytes (text_from text e.given) e.before e.after)
     → IfErr r (IsRefusalOfTables bytes (text_from text e.given))
+    → HasBegunAtMost r e (IsPlacingBegunByTables bytes (text_from text e.given) e.before e.after)
     → (IsSome text → e.input_after ≡ e.input_before)
     → (text ≡ None → IfErr r (λ g. IsOfRules g → e.input_after ≡ e.input_before))
     → (text ≡ None → OnOk r (IsAtEnd e.left))
     → IsCarriedOut contents (run_placed path (option_map f text) points) r e
-carried_run_placed contents f path bytes text points r e answered refused elsewhere unread needed = (
+carried_run_placed contents f path bytes text points r e answered refused begins elsewhere unread needed = (
   bytes,
   subst (λ given. IfOk r (IsPlacedByTables bytes given e.before e.after)) (sym (text_mapped f text e.given)) answered,
   subst (λ given. IfErr r (IsRefusalOfTables bytes given)) (sym (text_mapped f text e.given)) refused,
+  subst (λ given. HasBegunAtMost r e (IsPlacingBegunByTables bytes given e.before e.after))
+      (sym (text_mapped f text e.given)) begins,
   input_mapped f text r e (OnOk r (IsAtEnd e.left)) elsewhere unread needed,
 )
 
@@ -245,15 +280,18 @@ pub carried_try_placed : {A R D : Type 0} (contents : D → Option (List ℕ)) (
     (path other lex yacc : List ℕ) (text : Option A) (points : Bool) (r : Result Completion Failure) (e : Ends R)
     → IfOk r (IsPlacedByFiles lex yacc (text_from text e.given) e.before e.after)
     → IfErr r (IsRefusalOfFiles lex yacc (text_from text e.given))
+    → HasBegunAtMost r e (IsPlacingBegunByFiles lex yacc (text_from text e.given) e.before e.after)
     → (IsSome text → e.input_after ≡ e.input_before)
     → (text ≡ None → IfErr r (λ g. IsOfRules g → e.input_after ≡ e.input_before))
     → (text ≡ None → OnOk r (IsAtEnd e.left))
     → IsCarriedOut contents (try_placed path other (option_map f text) points) r e
-carried_try_placed contents f path other lex yacc text points r e answered refused elsewhere unread needed = (
+carried_try_placed contents f path other lex yacc text points r e answered refused begins elsewhere unread needed = (
   lex,
   yacc,
   subst (λ given. IfOk r (IsPlacedByFiles lex yacc given e.before e.after)) (sym (text_mapped f text e.given)) answered,
   subst (λ given. IfErr r (IsRefusalOfFiles lex yacc given)) (sym (text_mapped f text e.given)) refused,
+  subst (λ given. HasBegunAtMost r e (IsPlacingBegunByFiles lex yacc given e.before e.after))
+      (sym (text_mapped f text e.given)) begins,
   input_mapped f text r e (OnOk r (IsAtEnd e.left)) elsewhere unread needed,
 )
 
@@ -261,16 +299,19 @@ pub carried_try : {A R D : Type 0} (contents : D → Option (List ℕ)) (f : A �
     (text : Option A) (by : Answering) (r : Result Completion Failure) (e : Ends R)
     → IfOk r (IsAnsweredByFiles by.form lex yacc (text_from text e.given) e.before e.after)
     → IfErr r (IsRefusalOfFiles lex yacc (text_from text e.given))
+    → HasBegunAtMost r e (IsBegunByFiles by.form lex yacc (text_from text e.given) e.before e.after)
     → (IsSome text → e.input_after ≡ e.input_before)
     → (text ≡ None → IfErr r (λ g. IsOfRules g → e.input_after ≡ e.input_before))
     → (text ≡ None → IsReadByFiles lex yacc r e.input_before e.input_after e.given e.left)
     → IsCarriedOut contents (try path other (option_map f text) by) r e
-carried_try contents f path other lex yacc text by r e answered refused elsewhere unread needed = (
+carried_try contents f path other lex yacc text by r e answered refused begins elsewhere unread needed = (
   lex,
   yacc,
   subst (λ given. IfOk r (IsAnsweredByFiles by.form lex yacc given e.before e.after)) (sym (text_mapped f text e.given))
       answered,
   subst (λ given. IfErr r (IsRefusalOfFiles lex yacc given)) (sym (text_mapped f text e.given)) refused,
+  subst (λ given. HasBegunAtMost r e (IsBegunByFiles by.form lex yacc given e.before e.after))
+      (sym (text_mapped f text e.given)) begins,
   input_mapped f text r e _ elsewhere unread needed,
 )
 
@@ -285,10 +326,10 @@ wanted_mapped f None = refl
 wanted_mapped f (Some path) = refl
 
 build_told : {A B D : Type 0} (f : A → B) (contents : D → Option (List ℕ)) (limits : Sizes) (version : Version)
-    (path : Option A) (expected : Option ℕ) (before after : Option (List ℕ)) (c : Completion)
-    → IsBuildTold contents limits version path expected before after c
-    → IsBuildTold contents limits version (option_map f path) expected before after c
-build_told f contents limits version path expected before after c h = record {
+    (path : Option A) (expected : Option ℕ) (before after : Option (List ℕ)) (r : Result Completion Failure)
+    → IsBuildTold contents limits version path expected before after r
+    → IsBuildTold contents limits version (option_map f path) expected before after r
+build_told f contents limits version path expected before after r h = record {
   lex = h.lex;
   yacc = h.yacc;
   set = h.set;
@@ -312,11 +353,12 @@ text_named f None bytes = refl
 text_named f (Some path) bytes = refl
 
 explanation_told : {A B D : Type 0} (f : A → B) (contents : D → Option (List ℕ)) (lex states graph : Option A)
-    (strictness : Strictness) (form : AnswerForm) (before after : Option (List ℕ)) (c : Completion)
-    → IsExplanationTold contents lex states graph strictness form before after c
-    → IsExplanationTold contents (option_map f lex) (option_map f states) (option_map f graph) strictness form before
-    after c
-explanation_told f contents lex states graph strictness form before after c h = record {
+    (strictness : Strictness) (form : AnswerForm) (before after : Option (List ℕ))
+    (r : Result Completion Failure)
+    → IsExplanationTold contents lex states graph strictness form before after r
+    → IsExplanationTold contents (option_map f lex) (option_map f states) (option_map f graph) strictness form
+    before after r
+explanation_told f contents lex states graph strictness form before after r h = record {
   lex = h.lex;
   yacc = h.yacc;
   explanation = h.explanation;
@@ -329,40 +371,45 @@ explanation_told f contents lex states graph strictness form before after c h = 
   completed = h.completed;
 }
 
-if_build_told : {A B D : Type 0} (f : A → B) (contents : D → Option (List ℕ)) (limits : Sizes) (version : Version)
-    (path : Option A) (expected : Option ℕ) (before after : Option (List ℕ)) (r : Result Completion Failure)
-    → IfOk r (IsBuildTold contents limits version path expected before after)
-    → IfOk r (IsBuildTold contents limits version (option_map f path) expected before after)
-if_build_told f contents limits version path expected before after (Ok c) h =
-    build_told f contents limits version path expected before after c h
-if_build_told f contents limits version path expected before after (Err g) h = h
+-- what is told of a command is told in other words
+told_by : {A B : Type 0} (r : Result Completion Failure) (before after : Option (List ℕ)) → (A → B)
+    → IsToldOrStopped r before after A → IsToldOrStopped r before after B
+told_by (Ok c) before after to h = to h
+told_by (Err f) before after to (inl stays) = inl stays
+told_by (Err f) before after to (inr h) = inr (to h)
 
-if_explanation_told : {A B D : Type 0} (f : A → B) (contents : D → Option (List ℕ)) (lex states graph : Option A)
-    (strictness : Strictness) (form : AnswerForm) (before after : Option (List ℕ)) (r : Result Completion Failure)
-    → IfOk r (IsExplanationTold contents lex states graph strictness form before after)
-    → IfOk r (IsExplanationTold contents (option_map f lex) (option_map f states) (option_map f graph) strictness form
-    before after)
-if_explanation_told f contents lex states graph strictness form before after (Ok c) h =
-    explanation_told f contents lex states graph strictness form before after c h
-if_explanation_told f contents lex states graph strictness form before after (Err g) h = h
+-- it is told, however the command ends
+pub is_told : {A : Type 0} (r : Result Completion Failure) (before after : Option (List ℕ)) → A
+    → IsToldOrStopped r before after A
+is_told (Ok c) before after h = h
+is_told (Err f) before after h = inr h
 
 pub carried_build : {A R D : Type 0} (contents : D → Option (List ℕ)) (f : A → List ℕ) (lex yacc tables : List ℕ)
     (path : Option A) (version : Version) (expected : Option ℕ) (points : Bool) (r : Result Completion Failure)
-    (e : Ends R) → IfOk r (IsBuildTold contents version_2 version path expected e.before e.after)
+    (e : Ends R)
+    → IsToldOrStopped r e.before e.after (IsBuildTold contents version_2 version path expected e.before e.after r)
     → IfErr r (IsRefusalOfBuild version expected) → e.input_after ≡ e.input_before
     → IsCarriedOut contents (build lex yacc tables (option_map f path) version expected points) r e
-carried_build contents f lex yacc tables path version expected points r e told refused same =
-    (if_build_told f contents version_2 version path expected e.before e.after r told, refused, same)
+carried_build contents f lex yacc tables path version expected points r e told refused same = (
+  told_by r e.before e.after (build_told f contents version_2 version path expected e.before e.after r) told,
+  refused,
+  same,
+)
 
 pub carried_explain : {A R D : Type 0} (contents : D → Option (List ℕ)) (f : A → List ℕ) (lex : Option A)
     (yacc : List ℕ) (states graph : Option A) (strictness : Strictness) (form : AnswerForm)
     (r : Result Completion Failure) (e : Ends R)
-    → IfOk r (IsExplanationTold contents lex states graph strictness form e.before e.after) → IfErr r IsOfDevice
-    → e.input_after ≡ e.input_before
+    → IsToldOrStopped r e.before e.after
+    (IsExplanationTold contents lex states graph strictness form e.before e.after r)
+    → IfErr r IsOfDevice → e.input_after ≡ e.input_before
     → IsCarriedOut contents
     (explain (option_map f lex) yacc (option_map f states) (option_map f graph) strictness form) r e
-carried_explain contents f lex yacc states graph strictness form r e told failed same =
-    (if_explanation_told f contents lex states graph strictness form e.before e.after r told, failed, same)
+carried_explain contents f lex yacc states graph strictness form r e told failed same = (
+  told_by r e.before e.after
+      (explanation_told f contents lex states graph strictness form e.before e.after r) told,
+  failed,
+  same,
+)
 
 -- what is told of a device is told of what is known of it
 left_or_failed : {W : Type 0} (known : W → Option (List ℕ)) (old new : W) (before after : ℕ) (f : Failure)

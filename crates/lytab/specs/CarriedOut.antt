@@ -1,9 +1,9 @@
 -- What a command has written, or why it failed, and what it read of standard input. Of what the files of its words hold
 -- nothing is known, so it is said for some bytes.
 use Rattle.std.specs.Prelude.{◌≡◌, ◌⊎◌, ◌++◌, ℕ, Bool, IfErr, IfOk, List, MatchResult}
-use Rattle.std.specs.Prelude.{None, OnOk, Option, Result, Some, codes, false, length, true}
+use Rattle.std.specs.Prelude.{None, OnErr, OnOk, Option, Result, Some, codes, false, length, true}
 use Rattle.std.specs.Fmt.{decimal}
-use Rattle.std.specs.Io.KnownBytes.{Appends, IsAtEnd}
+use Rattle.std.specs.Io.KnownBytes.{IsAtEnd}
 use Rattle.std.specs.declared.alloc.Global.{Global}
 use Rattle.std.specs.declared.vec.Vec.{Vec}
 use Rattle.ly_base.specs.Limits.{Sizes, least_of, sizes_in, version_2}
@@ -27,16 +27,17 @@ use Rattle.ly_tables.specs.declared.set_counts.SetCounts.{SetCounts}
 use Rattle.ly_words.specs.Request.{Request, build, check, explain, lines, run, run_placed, table_tokens}
 use Rattle.ly_words.specs.Request.{tokens, try, try_placed}
 use Rattle.ly_words.specs.declared.command.Strictness.{Strictness}
-use Rattle.lytab.specs.Answering.{IsAnsweredByFiles, IsAnsweredByTables, AreTokensPrinted, text_from}
+use Rattle.lytab.specs.Answering.{IsAnsweredByFiles, IsAnsweredByTables, AreTokensBegun, AreTokensPrinted}
+use Rattle.lytab.specs.Answering.{IsBegunByFiles, IsBegunByTables, text_from}
 use Rattle.lytab.specs.Completion.{completion_of_findings, completion_status}
-use Rattle.lytab.specs.Devices.{IsToldOf}
+use Rattle.lytab.specs.Devices.{IsSaid, IsToldOrStopped, IsToldOf}
 use Rattle.lytab.specs.Failure.{failure_status, IsOfDevice}
 use Rattle.lytab.specs.Files.{HasTaken, IsWrittenIf}
 use Rattle.lytab.specs.Lines.{AreLinesAnsweredBy, AreLinesFailed, AreLinesRead}
-use Rattle.lytab.specs.Placing.{IsPlacedByFiles, IsPlacedByTables}
+use Rattle.lytab.specs.Placing.{IsPlacedByFiles, IsPlacedByTables, IsPlacingBegunByFiles, IsPlacingBegunByTables}
 use Rattle.lytab.specs.Reading.{IsOfRules, IsReadByFiles, IsReadByTables}
 use Rattle.lytab.specs.Refusal.{IsRefusalOfBuild, IsRefusalOfCheck, IsRefusalOfFiles, IsRefusalOfLex, IsRefusalOfTables}
-use Rattle.lytab.specs.TableTokens.{AreTableTokens, IsRefusalOfScanner}
+use Rattle.lytab.specs.TableTokens.{AreTableTokens, AreTableTokensBegun, IsRefusalOfScanner}
 use Rattle.lytab.specs.declared.completion.Completion.{Completion}
 use Rattle.lytab.specs.declared.completion.Completion.TheVariants.{Done}
 use Rattle.lytab.specs.declared.failure.Failure.{Failure}
@@ -55,7 +56,8 @@ AreAsExpected (Some n) counts = (counts.shift_reduce ≡ n) × (counts.reduce_re
 -- written, and the specification's report where a file is named for it; and it is told how many conflicts there are,
 -- which are as many as there are to be.
 pub record IsBuildTold {D A : Type 0} (contents : D → Option (List ℕ)) (limits : Sizes) (version : Version)
-    (report_path : Option A) (expected : Option ℕ) (before after : Option (List ℕ)) (c : Completion) : Type 0 where
+    (report_path : Option A) (expected : Option ℕ) (before after : Option (List ℕ))
+    (result : Result Completion Failure) : Type 0 where
   pub lex : List ℕ
   pub yacc : List ℕ
   pub set : TableSet
@@ -69,8 +71,8 @@ pub record IsBuildTold {D A : Type 0} (contents : D → Option (List ℕ)) (limi
   pub counts : ConflictCounts
   pub are_counts : AreCounts generated.spec counts
   pub as_expected : AreAsExpected expected counts
-  pub line : Appends before after (counts_line counts.shift_reduce counts.reduce_reduce)
-  pub done : c ≡ Done
+  pub line : IsSaid result before after (counts_line counts.shift_reduce counts.reduce_reduce)
+  pub done : IfOk result (λ c. c ≡ Done)
 
 -- what the table set is made of that the bytes of a table file of a version spell
 pub record HasCounts (bytes : List ℕ) (version : Version) (counts : SetCounts) : Type 0 where
@@ -118,13 +120,15 @@ set_told Plain counts version = set_line counts version
 set_told Json counts version = set_json counts version
 
 -- that line was written
-pub record IsCheckTold (form : AnswerForm) (before after : Option (List ℕ)) (c : Completion) : Type 0 where
-  pub bytes : List ℕ
-  pub version : Version
-  pub counts : SetCounts
-  pub has : HasCounts bytes version counts
-  pub line : Appends before after (set_told form counts version)
-  pub done : c ≡ Done
+pub record IsCheckTold (form : AnswerForm) (before after : Option (List ℕ)) (result : Result Completion Failure)
+    : Type 0
+  where
+    pub bytes : List ℕ
+    pub version : Version
+    pub counts : SetCounts
+    pub has : HasCounts bytes version counts
+    pub line : IsSaid result before after (set_told form counts version)
+    pub done : IfOk result (λ c. c ≡ Done)
 
 -- the bytes of the lex file: where none is named it is one without rules
 abbrev pub lex_text : {A : Type 0} → Option A → List ℕ → List ℕ
@@ -141,7 +145,8 @@ is_json Json = true
 -- whether they pass
 pub record IsExplanationTold {D A : Type 0} (contents : D → Option (List ℕ))
     (lex_path states_path graph_path : Option A)
-    (strictness : Strictness) (form : AnswerForm) (before after : Option (List ℕ)) (c : Completion) : Type 0 where
+    (strictness : Strictness) (form : AnswerForm) (before after : Option (List ℕ))
+    (result : Result Completion Failure) : Type 0 where
   pub lex : List ℕ
   pub yacc : List ℕ
   pub explanation : Explanation
@@ -149,8 +154,8 @@ pub record IsExplanationTold {D A : Type 0} (contents : D → Option (List ℕ))
   pub in_form : IsInForm (is_json form) explanation.findings explanation.text.items
   pub states_written : IsWrittenIf contents states_path explanation.states
   pub picture_written : IsWrittenIf contents graph_path explanation.picture
-  pub text : Appends before after explanation.text.items
-  pub completed : c ≡ completion_of_findings strictness explanation.findings
+  pub text : IsSaid result before after explanation.text.items
+  pub completed : IfOk result (λ c. c ≡ completion_of_findings strictness explanation.findings)
 
 -- What a command's devices were before it and after it: standard input, what it had and has left, and what stood and
 -- stands on standard output.
@@ -175,19 +180,27 @@ IsReadForTables tables result e = (e.input_after ≡ e.input_before) ⊎ IsReadB
 abbrev pub IsReadForFiles : {R : Type 0} → List ℕ → List ℕ → Result Completion Failure → Ends R → Type 0
 IsReadForFiles lex yacc result e = IsReadByFiles lex yacc result e.input_before e.input_after e.given e.left
 
+-- where a command failed that answers a text, nothing was written to standard output, or a beginning of the answer
+abbrev pub HasBegunAtMost : {R : Type 0} → Result Completion Failure → Ends R → Type 0 → Type 0
+HasBegunAtMost result e begun = OnErr result ((e.after ≡ e.before) ⊎ begun)
+
 -- what a command did that asks for this, and how it ended, where of a file that it writes this is known
 abbrev pub IsCarriedOut : {R D : Type 0} → (D → Option (List ℕ)) → Request → Result Completion Failure → Ends R
     → Type 0
 IsCarriedOut contents (tokens lex text by) result e = (bytes : List ℕ)
     × IfOk result (AreTokensPrinted by.form bytes (text_from text e.given) e.before e.after)
-    × IfErr result (IsRefusalOfLex bytes) × IsInputTold text result e (OnOk result (IsAtEnd e.left))
+    × IfErr result (IsRefusalOfLex bytes)
+    × HasBegunAtMost result e (AreTokensBegun by.form bytes (text_from text e.given) e.before e.after)
+    × IsInputTold text result e (OnOk result (IsAtEnd e.left))
 IsCarriedOut contents (table_tokens table_file text by) result e = (bytes : List ℕ)
     × IfOk result (AreTableTokens by.form bytes (text_from text e.given) e.before e.after)
     × IfErr result (IsRefusalOfScanner bytes (text_from text e.given))
+    × HasBegunAtMost result e (AreTableTokensBegun by.form bytes (text_from text e.given) e.before e.after)
     × IsInputTold text result e (OnOk result (IsAtEnd e.left))
 IsCarriedOut contents (run table_file text by) result e = (bytes : List ℕ)
     × IfOk result (IsAnsweredByTables by.form bytes (text_from text e.given) e.before e.after)
     × IfErr result (IsRefusalOfTables bytes (text_from text e.given))
+    × HasBegunAtMost result e (IsBegunByTables by.form bytes (text_from text e.given) e.before e.after)
     × IsInputTold text result e (IsReadForTables bytes result e)
 IsCarriedOut contents (lines table_file text by) result e = (bytes : List ℕ)
     × IfOk result (AreLinesAnsweredBy by.form bytes (text_from text e.given) e.before e.after)
@@ -197,24 +210,30 @@ IsCarriedOut contents (lines table_file text by) result e = (bytes : List ℕ)
 IsCarriedOut contents (run_placed table_file text points) result e = (bytes : List ℕ)
     × IfOk result (IsPlacedByTables bytes (text_from text e.given) e.before e.after)
     × IfErr result (IsRefusalOfTables bytes (text_from text e.given))
+    × HasBegunAtMost result e (IsPlacingBegunByTables bytes (text_from text e.given) e.before e.after)
     × IsInputTold text result e (OnOk result (IsAtEnd e.left))
 IsCarriedOut contents (try_placed lex yacc text points) result e = (lex_bytes yacc_bytes : List ℕ)
     × IfOk result (IsPlacedByFiles lex_bytes yacc_bytes (text_from text e.given) e.before e.after)
     × IfErr result (IsRefusalOfFiles lex_bytes yacc_bytes (text_from text e.given))
+    × HasBegunAtMost result e (IsPlacingBegunByFiles lex_bytes yacc_bytes (text_from text e.given) e.before e.after)
     × IsInputTold text result e (OnOk result (IsAtEnd e.left))
 IsCarriedOut contents (try lex yacc text by) result e = (lex_bytes yacc_bytes : List ℕ)
     × IfOk result (IsAnsweredByFiles by.form lex_bytes yacc_bytes (text_from text e.given) e.before e.after)
     × IfErr result (IsRefusalOfFiles lex_bytes yacc_bytes (text_from text e.given))
+    × HasBegunAtMost result e (IsBegunByFiles by.form lex_bytes yacc_bytes (text_from text e.given) e.before e.after)
     × IsInputTold text result e (IsReadForFiles lex_bytes yacc_bytes result e)
 IsCarriedOut contents (build lex yacc table_file report version expected points) result e =
-    IfOk result (IsBuildTold contents version_2 version report expected e.before e.after)
+    IsToldOrStopped result e.before e.after
+    (IsBuildTold contents version_2 version report expected e.before e.after result)
     × IfErr result (IsRefusalOfBuild version expected)
     × (e.input_after ≡ e.input_before)
 IsCarriedOut contents (check table_file by) result e =
-    IfOk result (IsCheckTold by.form e.before e.after) × IfErr result IsRefusalOfCheck
+    IsToldOrStopped result e.before e.after (IsCheckTold by.form e.before e.after result)
+    × IfErr result IsRefusalOfCheck
     × (e.input_after ≡ e.input_before)
 IsCarriedOut contents (explain lex yacc states graph strictness form) result e =
-    IfOk result (IsExplanationTold contents lex states graph strictness form e.before e.after)
+    IsToldOrStopped result e.before e.after
+    (IsExplanationTold contents lex states graph strictness form e.before e.after result)
     × IfErr result IsOfDevice
     × (e.input_after ≡ e.input_before)
 
@@ -225,9 +244,9 @@ IsStatusOf status result = MatchResult result (λ c. status ≡ completion_statu
 
 -- A command was carried out that asks for this, with its exit status. Where it is completed standard output's count of
 -- failures is as it was. Where it failed standard output and its count of failures are as they were, or a write to it
--- failed: the count went on by one, and the status is 3. So standard output is as it was with status 1 or 2 of a
--- failure, and with any where its count of failures is; but the answers of the lines in front of a failure stand there,
--- where each line is a text of its own.
+-- failed: the count went on by one, the status is 3, and a beginning of what the command says stands there. So standard
+-- output is as it was with status 1 or 2 of a failure, and with any where its count of failures is; but the answers of
+-- the lines in front of a failure stand there, where each line is a text of its own.
 pub record HasPerformed {R D : Type 0} (contents : D → Option (List ℕ)) (request : Request) (e : Ends R)
     (failures new_failures status : ℕ) : Type 0 where
   pub result : Result Completion Failure

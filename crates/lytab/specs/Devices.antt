@@ -1,10 +1,21 @@
 -- Which failures of devices are told: by how often they had failed before a call and after it.
-use Rattle.std.specs.Prelude.{◌≡◌, ◌⊎◌, ℕ, IfErr, MatchResult, OnOk, Result}
+use Rattle.std.specs.Prelude.{◌≡◌, ◌⊎◌, ◌<◌, ℕ, IfErr, List, MatchResult, OnOk, Option, Result, length, take}
+use Rattle.std.specs.Io.KnownBytes.{Appends}
 use Rattle.ly_print.specs.Device.{next_count}
 use Rattle.ly_words.specs.Request.{Request, lines}
 use Rattle.lytab.specs.Failure.{IsOfReader, IsOfWriter}
 use Rattle.lytab.specs.declared.completion.Completion.{Completion}
 use Rattle.lytab.specs.declared.failure.Failure.{Failure}
+
+-- A text was written to what had this before it, and has that after it; or, where a command failed, a beginning of the
+-- text and not all of it.
+abbrev pub IsSaid : Result Completion Failure → Option (List ℕ) → Option (List ℕ) → List ℕ → Type 0
+IsSaid result before after text = MatchResult result (λ _. Appends before after text)
+    (λ _. (written : ℕ) × (written < length text) × Appends before after (take written text))
+
+-- this is told; or a command stopped by a failure before anything was
+abbrev pub IsToldOrStopped : Result Completion Failure → Option (List ℕ) → Option (List ℕ) → Type 0 → Type 0
+IsToldOrStopped result before after told = MatchResult result (λ _. told) (λ _. (after ≡ before) ⊎ told)
 
 -- that a write failed is told only where one did, and a command is completed only where none did
 pub record AreWritesTold (result : Result Completion Failure) (before after : ℕ) : Type 0 where

@@ -4,7 +4,7 @@ ghost use Rattle.ly_base.specs.Limits.{version_2};
 ghost use Rattle.ly_report.specs.Report.{counts_line};
 ghost use Rattle.lytab.specs.CarriedOut.{wanted_for, IsBuildTold};
 ghost use Rattle.lytab.specs.Completion.{missed_count};
-ghost use Rattle.lytab.specs.Devices.{IsOutputTold};
+ghost use Rattle.lytab.specs.Devices.{IsOutputTold, IsToldOrStopped};
 ghost use Rattle.lytab.specs.Files.{HasTaken, IsWrittenIf};
 ghost use Rattle.lytab.specs.Refusal.{IsRefusalOfBuild};
 
@@ -33,8 +33,9 @@ pub fn build_tables<'a, F: Files, W: Sink>(
     output: &mut W,
     notes: &mut Notes,
 ) -> Result<Completion, Failure<'a>>
-    ensures built { IfOk result (IsBuildTold ⟦<Counted<F::File> as Sink>⟧.contents version_2 version
-        paths.entry.report expected (W.contents output.old) (W.contents output.new)) }
+    ensures built { IsToldOrStopped result (W.contents output.old) (W.contents output.new)
+        (IsBuildTold ⟦<Counted<F::File> as Sink>⟧.contents version_2 version paths.entry.report expected
+        (W.contents output.old) (W.contents output.new) result) }
     ensures refused { IfErr result (IsRefusalOfBuild version expected) }
     ensures devices { IsOutputTold result output.old output.new (W.failures output.old) (W.failures output.new) }
 {

@@ -3,7 +3,7 @@ ghost use Rattle.std.specs.Prelude.{◌≡◌, ◌++◌, IfErr, IfOk, OnOk, stri
 ghost use Rattle.std.specs.Fmt.{decimal};
 ghost use Rattle.lytab.specs.CarriedOut.{counts_json, counts_text, HasCounts, IsCheckTold, set_json, set_line};
 ghost use Rattle.lytab.specs.CarriedOut.{set_told, version_number};
-ghost use Rattle.lytab.specs.Devices.{IsOutputTold};
+ghost use Rattle.lytab.specs.Devices.{IsOutputTold, IsToldOrStopped};
 ghost use Rattle.lytab.specs.Refusal.{IsRefusalOfCheck};
 ghost use Rattle.ly_tables.specs.Refusal.{IsRefusedAs};
 
@@ -28,7 +28,8 @@ pub fn check_tables<'a, F: Files, W: Sink>(
     output: &mut W,
     notes: &mut Notes,
 ) -> Result<Completion, Failure<'a>>
-    ensures checked { IfOk result (IsCheckTold form (W.contents output.old) (W.contents output.new)) }
+    ensures checked { IsToldOrStopped result (W.contents output.old) (W.contents output.new)
+        (IsCheckTold form (W.contents output.old) (W.contents output.new) result) }
     ensures refused { IfErr result IsRefusalOfCheck }
     ensures devices { IsOutputTold result output.old output.new (W.failures output.old) (W.failures output.new) }
 {

@@ -1,10 +1,9 @@
 //! How a command is completed.
 ghost use Rattle.std.specs.Prelude.{◌≡◌, IfErr, IfOk};
-ghost use Rattle.std.specs.Io.KnownBytes.{Appends};
 ghost use Rattle.lytab.specs.Completion.{completion_of_findings, completion_of_lines, completion_of_outcome};
 ghost use Rattle.lytab.specs.Completion.{are_expected, completion_of_tokens, completion_status, count_due};
 ghost use Rattle.lytab.specs.Completion.{pass};
-ghost use Rattle.lytab.specs.Devices.{IsOutputTold};
+ghost use Rattle.lytab.specs.Devices.{IsOutputTold, IsSaid};
 ghost use Rattle.lytab.specs.Failure.{IsOfDevice};
 
 use crate::failure::Failure;
@@ -72,8 +71,8 @@ impl Completion {
 
     /// Writes what a command says to standard output, which completes it so.
     pub fn said<'a, W: Sink>(self, output: &mut W, text: &[u8]) -> Result<Completion, Failure<'a>>
-        ensures said { IfOk result (λ c. (c ≡ self)
-            × Appends (W.contents output.old) (W.contents output.new) text.now) }
+        ensures said { IsSaid result (W.contents output.old) (W.contents output.new) text.now }
+        ensures completed { IfOk result (λ c. c ≡ self) }
         ensures failed { IfErr result IsOfDevice }
         ensures devices { IsOutputTold result output.old output.new (W.failures output.old) (W.failures output.new) }
     {

@@ -4,7 +4,7 @@ ghost use Rattle.ly_accepted.specs.Findings.{IsInForm};
 ghost use Rattle.ly_base.specs.Limits.{version_2};
 ghost use Rattle.ly_explain.specs.Explained.{IsExplained};
 ghost use Rattle.lytab.specs.CarriedOut.{IsExplanationTold, is_json, lex_text};
-ghost use Rattle.lytab.specs.Devices.{IsOutputTold};
+ghost use Rattle.lytab.specs.Devices.{IsOutputTold, IsToldOrStopped};
 ghost use Rattle.lytab.specs.Failure.{IsOfDevice};
 ghost use Rattle.lytab.specs.Files.{IsWrittenIf};
 
@@ -34,9 +34,9 @@ pub fn explain_files<'a, F: Files, W: Sink>(
     output: &mut W,
     notes: &mut Notes,
 ) -> Result<Completion, Failure<'a>>
-    ensures said { IfOk result (IsExplanationTold ⟦<Counted<F::File> as Sink>⟧.contents
-        paths.entry.lex paths.entry.states paths.entry.graph strictness form (W.contents output.old)
-        (W.contents output.new)) }
+    ensures said { IsToldOrStopped result (W.contents output.old) (W.contents output.new)
+        (IsExplanationTold ⟦<Counted<F::File> as Sink>⟧.contents paths.entry.lex paths.entry.states
+        paths.entry.graph strictness form (W.contents output.old) (W.contents output.new) result) }
     ensures failed { IfErr result IsOfDevice }
     ensures devices { IsOutputTold result output.old output.new (W.failures output.old) (W.failures output.new) }
 {

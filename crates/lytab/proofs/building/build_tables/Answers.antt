@@ -1,12 +1,12 @@
-use Rattle.std.proofs.Common.{◌≡◌, ◌∙◌, IfErr, IfOk, rules, subst, sym}
-use Rattle.std.specs.Io.KnownBytes.{Appends}
+use Rattle.std.proofs.Common.{◌≡◌, ◌∙◌, IfErr, rules, subst, sym}
 use Rattle.ly_print.specs.declared.counted.Counted.{Counted}
 use Rattle.ly_generate.specs.Parser.{IsReportIf}
-use Rattle.ly_generate.proofs.GenFaultLemmas.{err_weaker, ok_weaker}
+use Rattle.ly_generate.proofs.GenFaultLemmas.{err_weaker}
 use Rattle.lytab.specs.CarriedOut.{IsBuildTold}
+use Rattle.lytab.specs.Devices.{IsSaid, IsToldOrStopped}
 use Rattle.lytab.specs.Failure.{IsOfDevice}
 use Rattle.lytab.specs.Refusal.{HasOtherCounts}
-use Rattle.lytab.specs.declared.completion.Completion.TheVariants.{Done}
+use Rattle.lytab.proofs.CarriedLemmas.{is_told}
 use Rattle.lytab.proofs.CountLemmas.{counts_differ, counts_hold, device_of_build}
 use Rattle.lytab.proofs.building.build_tables.Goals as goal
 
@@ -15,14 +15,12 @@ returns-clause-built g c =
     let built = c.in-Ok.ensures.built in
     let before = g.W.Sink.contents c.args.output.now in
     let after = g.W.Sink.contents c.said.new.output in
-    let is_said : IfOk c.said.result (λ done. (done ≡ Done) × Appends before after c.in_ok-line.line.items) =
-    search rules in
-    subst (λ limits. IfOk c.said.result (IsBuildTold
+    let is_said : IsSaid c.said.result before after c.in_ok-line.line.items = search rules in
+    subst (λ limits. IsToldOrStopped c.said.result before after (IsBuildTold
     (λ (d : Counted g.row.F-File.Denot). g.F.File.Write.contents d.inner)
-    limits c.args.version c.args.paths.report c.args.expected before after))
+    limits c.args.version c.args.paths.report c.args.expected before after c.said.result))
     c.version_2-limits.ensures
-    (ok_weaker c.said.result _ _
-    (λ done said. record {
+    (is_told c.said.result before after (record {
       lex = _;
       yacc = _;
       set = built.0;
@@ -36,10 +34,9 @@ returns-clause-built g c =
       counts = c.in-Ok.built.conflicts;
       are_counts = built.3;
       as_expected = counts_hold c.args.expected c.in-Ok.built.conflicts (sym c.missed_count.ensures ∙ c.in_default.is);
-      line = rw (sym c.in_ok-line.ensures) said.1;
-      done = said.0;
-    })
-    is_said)
+      line = subst (IsSaid c.said.result before after) c.in_ok-line.ensures is_said;
+      done = c.said.ensures.completed;
+    }))
 
 pub returns-in-Some-clause-refused : goal.returns-in-Some-clause-refused
 returns-in-Some-clause-refused g c =

@@ -1,7 +1,8 @@
-use Rattle.std.proofs.Common.{◌≡◌, ◌∙◌, IfOk, rules, subst}
-use Rattle.std.specs.Io.KnownBytes.{Appends}
+use Rattle.std.proofs.Common.{◌≡◌, ◌∙◌, rules, subst}
 use Rattle.ly_accepted.specs.Findings.{IsInForm}
 use Rattle.ly_generate.proofs.GenFaultLemmas.{ok_weaker}
+use Rattle.lytab.specs.Devices.{IsSaid}
+use Rattle.lytab.proofs.CarriedLemmas.{is_told}
 use Rattle.lytab.proofs.explaining.explain_files.Goals as goal
 
 pub returns-clause-said : goal.returns-clause-said
@@ -9,10 +10,8 @@ returns-clause-said g c =
     let explanation = c.in_ok-explanation.explanation in
     let before = g.W.Sink.contents c.args.output.now in
     let after = g.W.Sink.contents c.said.new.output in
-    let is_said : IfOk c.said.result (λ done. (done ≡ c.of_findings.result)
-    × Appends before after explanation.text.items) = search rules in
-    ok_weaker c.said.result _ _
-    (λ done said. record {
+    let is_said : IsSaid c.said.result before after explanation.text.items = search rules in
+    is_told c.said.result before after (record {
       lex = _;
       yacc = _;
       explanation = explanation;
@@ -21,7 +20,6 @@ returns-clause-said g c =
           c.in_ok-explanation.ensures.form;
       states_written = c.in_ok-write_files.ensures.states;
       picture_written = c.in_ok-write_files.ensures.picture;
-      text = said.1;
-      completed = said.0 ∙ c.of_findings.ensures;
+      text = is_said;
+      completed = ok_weaker c.said.result _ _ (λ done same. same ∙ c.of_findings.ensures) c.said.ensures.completed;
     })
-    is_said

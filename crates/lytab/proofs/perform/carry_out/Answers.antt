@@ -1,8 +1,8 @@
 use Rattle.std.proofs.Common.{refl}
 use Rattle.ly_print.specs.declared.counted.Counted.{Counted}
-use Rattle.lytab.proofs.CarriedLemmas.{carried_build, carried_explain, carried_lines, carried_run, carried_tokens}
+use Rattle.lytab.proofs.CarriedLemmas.{begun_at_most, carried_build, carried_explain, carried_lines, carried_run}
 use Rattle.lytab.proofs.CarriedLemmas.{carried_run_placed, carried_table_tokens, carried_try, carried_try_placed}
-use Rattle.lytab.proofs.CarriedLemmas.{lines_told}
+use Rattle.lytab.proofs.CarriedLemmas.{carried_tokens, lines_told}
 use Rattle.lytab.proofs.perform.carry_out.Goals as goal
 
 pub returns-in_ok-bytes-in-Tokens-clause-carried_out : goal.returns-in_ok-bytes-in-Tokens-clause-carried_out
@@ -10,7 +10,8 @@ returns-in_ok-bytes-in-Tokens-clause-carried_out g c =
     let r = c.answer_text-ended.ensures in
     rw c.in-Tokens.is (carried_tokens
     (λ (d : Counted g.row.F-File.Denot). g.F.File.Write.contents d.inner) (λ s. s.now)
-    c.in-Tokens.lex.now _ c.in-Tokens.text c.in-Tokens.by c.answer_text-ended.result _ r.answered r.refused r.unread
+    c.in-Tokens.lex.now _ c.in-Tokens.text c.in-Tokens.by c.answer_text-ended.result _ r.answered r.refused
+    (begun_at_most g.W.Sink.contents c.answer_text-ended.result _ _ _ r.beginning (r.untouched tt)) r.unread
     (λ no. (r.needed no).unread) (λ no. (r.needed no).needed))
 
 pub returns-in_ok-bytes-in-TableTokens-clause-carried_out
@@ -20,14 +21,17 @@ returns-in_ok-bytes-in-TableTokens-clause-carried_out g c =
     rw c.in-TableTokens.is (carried_table_tokens
     (λ (d : Counted g.row.F-File.Denot). g.F.File.Write.contents d.inner) (λ s. s.now)
     c.in-TableTokens.tables.now _ c.in-TableTokens.text c.in-TableTokens.by c.answer_text-ended-in-TableTokens.result _
-    r.answered r.refused r.unread (λ no. (r.needed no).unread) (λ no. (r.needed no).needed))
+    r.answered r.refused
+    (begun_at_most g.W.Sink.contents c.answer_text-ended-in-TableTokens.result _ _ _ r.beginning (r.untouched tt))
+    r.unread (λ no. (r.needed no).unread) (λ no. (r.needed no).needed))
 
 pub returns-in_ok-bytes-in-Run-clause-carried_out : goal.returns-in_ok-bytes-in-Run-clause-carried_out
 returns-in_ok-bytes-in-Run-clause-carried_out g c =
     let r = c.answer_text-ended-in-Run.ensures in
     rw c.in-Run.is (carried_run
     (λ (d : Counted g.row.F-File.Denot). g.F.File.Write.contents d.inner) (λ s. s.now)
-    c.in-Run.tables.now _ c.in-Run.text c.in-Run.by c.answer_text-ended-in-Run.result _ r.answered r.refused r.unread
+    c.in-Run.tables.now _ c.in-Run.text c.in-Run.by c.answer_text-ended-in-Run.result _ r.answered r.refused
+    (begun_at_most g.W.Sink.contents c.answer_text-ended-in-Run.result _ _ _ r.beginning (r.untouched tt)) r.unread
     (λ no. (r.needed no).unread) (λ no. (r.needed no).needed))
 
 pub returns-in_ok-bytes-in-Lines-clause-carried_out : goal.returns-in_ok-bytes-in-Lines-clause-carried_out
@@ -49,7 +53,9 @@ returns-in_ok-bytes-in-RunPlaced-clause-carried_out g c =
     rw c.in-RunPlaced.is (carried_run_placed
     (λ (d : Counted g.row.F-File.Denot). g.F.File.Write.contents d.inner) (λ s. s.now)
     c.in-RunPlaced.tables.now _ c.in-RunPlaced.text c.in-RunPlaced.points c.answer_text-ended-in-RunPlaced.result _
-    r.answered r.refused r.unread (λ no. (r.needed no).unread) (λ no. (r.needed no).needed))
+    r.answered r.refused
+    (begun_at_most g.W.Sink.contents c.answer_text-ended-in-RunPlaced.result _ _ _ r.beginning (r.untouched tt))
+    r.unread (λ no. (r.needed no).unread) (λ no. (r.needed no).needed))
 
 pub returns-in_ok-yacc_bytes-in-TryPlaced-clause-carried_out
     : goal.returns-in_ok-yacc_bytes-in-TryPlaced-clause-carried_out
@@ -58,8 +64,9 @@ returns-in_ok-yacc_bytes-in-TryPlaced-clause-carried_out g c =
     rw c.in-TryPlaced.is (carried_try_placed
     (λ (d : Counted g.row.F-File.Denot). g.F.File.Write.contents d.inner) (λ s. s.now)
     c.in-TryPlaced.lex.now c.in-TryPlaced.yacc.now _ _ c.in-TryPlaced.text c.in-TryPlaced.points
-    c.answer_text-ended-in-TryPlaced.result _ r.answered r.refused r.unread
-    (λ no. (r.needed no).unread) (λ no. (r.needed no).needed))
+    c.answer_text-ended-in-TryPlaced.result _ r.answered r.refused
+    (begun_at_most g.W.Sink.contents c.answer_text-ended-in-TryPlaced.result _ _ _ r.beginning (r.untouched tt))
+    r.unread (λ no. (r.needed no).unread) (λ no. (r.needed no).needed))
 
 pub returns-in_ok-yacc_bytes-in-Try-clause-carried_out : goal.returns-in_ok-yacc_bytes-in-Try-clause-carried_out
 returns-in_ok-yacc_bytes-in-Try-clause-carried_out g c =
@@ -67,7 +74,8 @@ returns-in_ok-yacc_bytes-in-Try-clause-carried_out g c =
     rw c.in-Try.is (carried_try
     (λ (d : Counted g.row.F-File.Denot). g.F.File.Write.contents d.inner) (λ s. s.now)
     c.in-Try.lex.now c.in-Try.yacc.now _ _ c.in-Try.text c.in-Try.by
-    c.answer_text-ended-in-Try.result _ r.answered r.refused r.unread
+    c.answer_text-ended-in-Try.result _ r.answered r.refused
+    (begun_at_most g.W.Sink.contents c.answer_text-ended-in-Try.result _ _ _ r.beginning (r.untouched tt)) r.unread
     (λ no. (r.needed no).unread) (λ no. (r.needed no).needed))
 
 pub returns-in-Build-clause-carried_out : goal.returns-in-Build-clause-carried_out
