@@ -2,9 +2,11 @@
 use Rattle.std.proofs.lemmas.List.{append-nil}
 use Rattle.std.proofs.Common.{◌≡◌, ◌≢◌, inl, inr, ℕ, append_assoc, List, [], ◌∷◌, ◌++◌, refl, sym, ap, ◌∙◌, subst, drop}
 use Rattle.std.proofs.Common.{◌+◌, ◌-◌, ◌<◌, ◌≤◌, ◌⊎◌, arith, length, length-append, length-drop, take}
-use Rattle.std.proofs.Common.{Global, Option, Some, Vec, take-append-drop}
+use Rattle.std.proofs.Common.{Global, Option, Some, take-append-drop}
 use denote.Ref.{Bor}
 use Rattle.std.specs.Option.{MatchOption}
+use Rattle.std.specs.Rc.{rc_slice_items}
+use Rattle.std.specs.declared.rc.RcSlice.{RcSlice}
 use Rattle.std.proofs.Math.Seq.{drop-append_seam, take-append_seam}
 use Rattle.ly_ere.specs.Names.{Definition}
 use Rattle.ly_ere.specs.Patterns.{IsFrontPattern}
@@ -341,13 +343,14 @@ pub heavy_rule : (most : ℕ) (cs : List Condition) (names : List Definition) (t
     → RuleBefore cs names text r s rest → HasHeavyRule most cs names rest → HasHeavyRule most cs names text
 heavy_rule most cs names text rest r s b h = rules.rule text rest r s b h
 
-pub active_found : (cs : List Condition) (line : List ℕ) (o : Option (Vec ℕ Global × Bor (List ℕ))) (a : Vec ℕ Global)
-    (b : Bor (List ℕ)) → o ≡ Some (a, b)
+pub active_found : (cs : List Condition) (line : List ℕ) (o : Option (RcSlice ℕ Global × Bor (List ℕ)))
+    (a : RcSlice ℕ Global) (b : Bor (List ℕ)) → o ≡ Some (a, b)
     → MatchOption o ((active rest : List ℕ) → ActiveBefore cs line active rest → ⊥)
-    (λ found. ActiveBefore cs line found.0.items found.1.now) → ActiveBefore cs line a.items b.now
+    (λ found. ActiveBefore cs line (rc_slice_items found.0) found.1.now)
+    → ActiveBefore cs line (rc_slice_items a) b.now
 active_found cs line o a b e h = subst (λ i. MatchOption i ((active rest : List ℕ) → ActiveBefore cs line active rest
     → ⊥)
-    (λ found. ActiveBefore cs line found.0.items found.1.now)) e h
+    (λ found. ActiveBefore cs line (rc_slice_items found.0) found.1.now)) e h
 
 pub rules_begin : (cs : List Condition) (names : List Definition) (text rest : List ℕ) (r : Rule) (s : Saying)
     → RuleBefore cs names text r s rest → BeginsWithRule text
