@@ -79,7 +79,7 @@ impl<'a> Finder<'a> {
             }
         }
         for rule in &file.rules {
-            for condition in &rule.active {
+            for condition in rule.active.as_slice() {
                 mark(&mut active, *condition);
             }
         }

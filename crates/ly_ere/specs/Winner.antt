@@ -1,6 +1,7 @@
 -- Candidates and winners: which rule matches at a place of a text (POSIX, lex, "Regular Expressions in lex").
 use Rattle.std.specs.Prelude.{◌≡◌, ℕ, ◌-◌, ◌≤◌, List, [], ◌++◌, length, take, drop, slice_get, Bool, IsTrue, Contains}
 use Rattle.std.specs.Prelude.{Option, Some, None}
+use Rattle.std.specs.Rc.{rc_slice_items}
 use Rattle.ly_base.specs.declared.cut.Cut.{Cut}
 use Rattle.ly_base.specs.declared.cut.Cut.TheVariants.{Whole, Head, Tail}
 use Rattle.ly_ere.specs.Expression.{Expression, Matches}
@@ -45,10 +46,14 @@ pub record FitsPattern (names : List Expression) (p : Pattern) (rest : List ℕ)
 abbrev pub PatternMatches : List Expression → Pattern → List ℕ → Type 0
 PatternMatches names p w = (u : List ℕ) × (v : List ℕ) × (w ≡ u ++ v) × Matches names p.head u × InTail names p.tail v
 
+-- the numbers of the conditions in which a rule is active, whatever room their list has
+abbrev pub active_of : Rule → List ℕ
+active_of rule = rc_slice_items rule.active
+
 -- Rule i is this one, it is active in the condition, and where it asks for the start of a line, one is there.
 pub record IsActive (rules : List Rule) (condition : ℕ) (line : Bool) (i : ℕ) (rule : Rule) : Type 0 where
   pub is_rule : slice_get rules i ≡ Some rule
-  pub in_condition : Contains rule.active.items condition
+  pub in_condition : Contains (active_of rule) condition
   pub at_line : IsTrue rule.pattern.line_start → IsTrue line
 
 -- w is a string of rule i, active here

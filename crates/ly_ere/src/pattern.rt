@@ -1,5 +1,6 @@
 use crate::re::Re;
 use ly_base::Cut;
+use std::rc::RcSlice;
 
 /// What a rule matches.
 #[derive(Drop)]
@@ -19,6 +20,6 @@ pub struct Pattern {
 pub struct Rule {
     /// What it matches.
     pub pattern: Pattern,
-    /// The numbers of the conditions in which it is active.
-    pub active: Vec<u32>,
+    /// The numbers of the conditions in which it is active. The list may be held in common with other rules.
+    pub active: RcSlice<u32>,
 }

@@ -1,9 +1,7 @@
 -- The conditions of a rule are determined.
-use denote.Ref.{Bor}
-use Rattle.std.specs.Option.{MatchOption}
 use Rattle.std.specs.Prelude.{codes}
 use Rattle.std.proofs.Common.{◌≡◌, ◌≢◌, ℕ, List, [], ◌∷◌, ◌++◌, refl, sym, ap, ◌∙◌}
-use Rattle.std.proofs.Common.{subst, arith, Option, Some, None, Vec, Global, drop, inl, inr, append_assoc}
+use Rattle.std.proofs.Common.{subst, arith, Option, Some, None, drop, inl, inr, append_assoc}
 use Rattle.std.proofs.lemmas.Bool.{false≢true}
 use Rattle.ly_base.specs.Language.{NameBefore, starts_name}
 use Rattle.ly_base.specs.declared.language.Language.TheVariants.{Lex}
@@ -102,21 +100,6 @@ active_one cs line a b r s (inl h) (inl k) =
 active_one cs line a b r s (inl h) (inr k) = absurd (k.0 h.0 h.1)
 active_one cs line a b r s (inr h) (inl k) = absurd (h.0 k.0 k.1)
 active_one cs line a b r s (inr h) (inr k) = (h.1 ∙ sym k.1, h.2 ∙ sym k.2)
-
--- a line with a list in front
-pub active_listed : (cs : List Condition) (line list : List ℕ) (o : Option (Vec ℕ Global × Bor (List ℕ)))
-    → line ≡ codes "<" ++ list
-    → MatchOption o ((active rest : List ℕ) → Listed cs [] list active rest → ⊥)
-    (λ found. Listed cs [] list found.0.items found.1.now)
-    → MatchOption o ((active rest : List ℕ) → ActiveBefore cs line active rest → ⊥)
-    (λ found. ActiveBefore cs line found.0.items found.1.now)
-active_listed cs line list (Some found) e h = inl (list, e, h)
-active_listed cs line list None e h = λ active rest a. at active rest a
-  where
-    at : (active rest : List ℕ) → ActiveBefore cs line active rest → ⊥
-    at active rest (inl k)
-        = h active rest (subst (λ i. Listed cs [] i active rest) (ap (drop 1) (sym k.1 ∙ e)) k.2)
-    at active rest (inr k) = k.0 list e
 
 -- what stands behind the conditions is an end of the line
 listed_suffix : (cs : List Condition) (ns text all rest : List ℕ) → Listed cs ns text all rest

@@ -11,6 +11,7 @@ use Rattle.ly_ere.specs.declared.fault.EreFault.TheVariants as ere
 use Rattle.ly_ere.specs.declared.fault.EreFaultKind.{EreFaultKind}
 use Rattle.ly_ere.specs.declared.fault.EreFaultKind.TheVariants.{TooHeavy}
 use Rattle.ly_ere.specs.declared.pattern.Rule.{Rule}
+use Rattle.ly_ere.specs.Winner.{active_of}
 use Rattle.ly_lexread.specs.Action.{Saying}
 use Rattle.ly_lexread.specs.Conditions.{Condition}
 use Rattle.ly_lexread.specs.declared.fault.LexFault.{LexFault}
@@ -98,9 +99,9 @@ module _ {T : Type 0} (value : T → Rule × Saying × List ℕ) (most : ℕ) (c
       → (n : ℕ) × IsFrontPattern names body x.0.pattern n
   pattern_of x v =
       let same = line_one text v.line.line line.line v.end end v.line.is_line line.is_line in
-      let there : ActiveBefore cs line.line x.0.active.items v.body
-      = subst (λ i. ActiveBefore cs i x.0.active.items v.body) same.0 v.line.is_active in
-      let e = (active_one cs line.line x.0.active.items active v.body body there line.is_active).1 in
+      let there : ActiveBefore cs line.line (active_of x.0) v.body
+      = subst (λ i. ActiveBefore cs i (active_of x.0) v.body) same.0 v.line.is_active in
+      let e = (active_one cs line.line (active_of x.0) active v.body body there line.is_active).1 in
       (v.taken, subst (λ i. IsFrontPattern names i x.0.pattern v.taken) e v.is_pattern)
 
   pub answer_pattern : IsReadAs value (λ x. RuleBefore cs names text x.0 x.1 x.2)

@@ -10,7 +10,7 @@ use Rattle.std.specs.Prelude.{Contains, IsSome}
 use Rattle.ly_ere.specs.Names.{Definition, defined}
 use Rattle.ly_ere.specs.Expression.{Matches}
 use Rattle.ly_ere.specs.Patterns.{IsCutOf}
-use Rattle.ly_ere.specs.Winner.{AreCut}
+use Rattle.ly_ere.specs.Winner.{AreCut, active_of}
 use Rattle.ly_ere.specs.declared.pattern.Rule.{Rule}
 use Rattle.ly_ere.proofs.PatternLaws.{cut_is_true}
 use Rattle.ly_lexread.specs.declared.action.LexAction.{LexAction}
@@ -175,7 +175,7 @@ lex_text_one bytes f g a b =
 pub record IsOfFile (names : List Definition) (conditions : ℕ) (r : Rule) : Type 0 where
   pub is_cut : IsCutOf (defined names) r.pattern.head r.pattern.tail r.pattern.cut
   pub some_head : IsSome r.pattern.tail → Matches (defined names) r.pattern.head [] → ⊥
-  pub active : (c : ℕ) → Contains r.active.items c → c < conditions
+  pub active : (c : ℕ) → Contains (active_of r) c → c < conditions
 
 -- the numbers of a list are below a bound
 abbrev AreBelow : ℕ → List ℕ → Type 0
@@ -240,7 +240,7 @@ rule_of cs names text rs ss ls zero r some (rule _ u q s ps qs ns b d) e =
     subst (IsOfFile names (length cs)) same (record {
       is_cut = b.is_pattern.is_pattern.is_cut;
       some_head = b.is_pattern.is_pattern.some_head;
-      active = active_below cs b.line.line q.active.items b.body some b.line.is_active;
+      active = active_below cs b.line.line (active_of q) b.body some b.line.is_active;
     })
 rule_of cs names text rs ss ls (suc i) r some (rule _ u q s ps qs ns b d) e = rule_of cs names u ps qs ns i r some d e
 

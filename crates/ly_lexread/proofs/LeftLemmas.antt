@@ -28,6 +28,7 @@ use Rattle.ly_lexread.specs.LexText.{ConditionsBegin, DefinitionStands, Definiti
 use Rattle.ly_lexread.specs.LexText.{RulesBegin, declared_at, said_of}
 use Rattle.ly_lexread.specs.declared.file.LexFile.{LexFile}
 use Rattle.ly_ere.proofs.PlaceLemmas.{some_one}
+use Rattle.ly_ere.specs.Winner.{active_of}
 use Rattle.ly_lexread.specs.Lines.{BeginsWith, BlockEnds, LineBefore, LineOf, kind_of, last, left_in, more}
 use Rattle.ly_lexread.specs.Rules.{RuleBefore, Rules, Skips}
 use Rattle.ly_lexread.specs.Rules as ruling
@@ -163,7 +164,7 @@ rule_left : (cs : List Condition) (names : List Definition) (text rest : List �
 rule_left cs names text rest r s b =
     let inside = drop b.taken b.body in
     let p = left_of_left b.line.line b.body inside
-    (active_suffix cs b.line.line r.active.items b.body b.line.is_active) (behind_so_many b.taken b.body) in
+    (active_suffix cs b.line.line (active_of r) b.body b.line.is_active) (behind_so_many b.taken b.body) in
     left_of_left text (inside ++ b.end) rest
     (p.0, b.line.is_line.2 ∙ ap (λ i. i ++ b.end) p.1 ∙ append_assoc p.0 inside b.end)
     (says_left cs inside b.end s rest b.says)

@@ -2,15 +2,18 @@
 use Rattle.std.proofs.lemmas.List.{append-nil}
 use Rattle.std.proofs.Common.{◌≡◌, ◌≢◌, inl, inr, ℕ, append_assoc, List, [], ◌∷◌, ◌++◌, refl, sym, ap, ◌∙◌, subst, drop}
 use Rattle.std.proofs.Common.{◌+◌, ◌-◌, ◌<◌, ◌≤◌, ◌⊎◌, arith, length, length-append, length-drop, take}
-use Rattle.std.proofs.Common.{Global, Option, Some, Vec, take-append-drop}
+use Rattle.std.proofs.Common.{Global, Option, Some, take-append-drop}
 use denote.Ref.{Bor}
 use Rattle.std.specs.Option.{MatchOption}
+use Rattle.std.specs.Rc.{rc_slice_items}
+use Rattle.std.specs.declared.rc.RcSlice.{RcSlice}
 use Rattle.std.proofs.Math.Seq.{drop-append_seam, take-append_seam}
 use Rattle.ly_ere.specs.Names.{Definition}
 use Rattle.ly_ere.specs.Patterns.{IsFrontPattern}
 use Rattle.ly_ere.specs.declared.pattern.Pattern.{Pattern}
 use Rattle.ly_ere.specs.declared.pattern.Rule.{Rule}
 use Rattle.ly_ere.proofs.FrontLaws.{front_pattern_one}
+use Rattle.ly_ere.specs.Winner.{active_of}
 use Rattle.ly_lexread.specs.Action.{Saying}
 use Rattle.ly_lexread.specs.Conditions.{Condition}
 use Rattle.ly_lexread.specs.Lines.{BlockEnds, LineBefore, LineOf, kind_of}
@@ -97,7 +100,7 @@ rules_skip cs names text rest rs ss ls h (end _ o) = absurd (skip_not_over text 
 rules_skip cs names text rest rs ss ls h (skip _ r _ _ _ k d)
     = subst (λ i. Rules cs names i rs ss ls) (skips_one text r rest k h) d
 rules_skip cs names text rest rs ss ls h (rule _ u r s ps qs ns b d)
-    = absurd (skip_no_rule text rest h (rule_begins cs text r.active.items b.body b.end b.line))
+    = absurd (skip_no_rule text rest h (rule_begins cs text (active_of r) b.body b.end b.line))
 
 -- a block that isn't closed
 pub rules_unclosed : (cs : List Condition) (names : List Definition) (text line behind : List ℕ) (rs : List Rule)
@@ -186,7 +189,7 @@ in_front cs names text rs ss ls b (rule _ u r s ps qs ns h d) = record {
 -- What a rule is that is determined.
 pub record AreEqual (r s : Rule) : Type 0 where
   pub pattern : r.pattern ≡ s.pattern
-  pub active : r.active.items ≡ s.active.items
+  pub active : active_of r ≡ active_of s
 
 pub rule_one : (cs : List Condition) (names : List Definition) (text u v : List ℕ) (r q : Rule) (s t : Saying)
     → RuleBefore cs names text r s u → RuleBefore cs names text q t v → AreEqual r q × (s ≡ t) × (u ≡ v)
@@ -194,9 +197,9 @@ rule_one cs names text u v r q s t a b =
     let l = a.line in
     let m = b.line in
     let line = line_one text m.line l.line b.end a.end m.is_line l.is_line in
-    let there : ActiveBefore cs l.line q.active.items b.body
-    = subst (λ i. ActiveBefore cs i q.active.items b.body) line.0 m.is_active in
-    let active = active_one cs l.line r.active.items q.active.items a.body b.body l.is_active there in
+    let there : ActiveBefore cs l.line (active_of q) b.body
+    = subst (λ i. ActiveBefore cs i (active_of q) b.body) line.0 m.is_active in
+    let active = active_one cs l.line (active_of r) (active_of q) a.body b.body l.is_active there in
     let pattern : IsFrontPattern names a.body q.pattern b.taken
     = subst (λ i. IsFrontPattern names i q.pattern b.taken) (sym active.1) b.is_pattern in
     let same = front_pattern_one names a.body r.pattern q.pattern a.taken b.taken a.is_pattern pattern in
@@ -264,7 +267,7 @@ pub no_active : (cs : List Condition) (names : List Definition) (text line tail 
     → LineOf text line tail → ((active behind : List ℕ) → ActiveBefore cs line active behind → ⊥)
     → RuleBefore cs names text r s rest → ⊥
 no_active cs names text line tail rest r s l none v =
-    none r.active.items v.body (subst (λ i. ActiveBefore cs i r.active.items v.body)
+    none (active_of r) v.body (subst (λ i. ActiveBefore cs i (active_of r) v.body)
     (line_one text v.line.line line v.end tail v.line.is_line l).0 v.line.is_active)
 
 -- what a rule says of its action, where its pattern is known
@@ -274,9 +277,9 @@ pub says_there : (cs : List Condition) (names : List Definition) (text active bo
 says_there cs names text active body tail rest taken p r s l is b =
     let m = b.line in
     let line = line_one text m.line l.line b.end tail m.is_line l.is_line in
-    let there : ActiveBefore cs l.line r.active.items b.body
-    = subst (λ i. ActiveBefore cs i r.active.items b.body) line.0 m.is_active in
-    let same_body = (active_one cs l.line active r.active.items body b.body l.is_active there).1 in
+    let there : ActiveBefore cs l.line (active_of r) b.body
+    = subst (λ i. ActiveBefore cs i (active_of r) b.body) line.0 m.is_active in
+    let same_body = (active_one cs l.line active (active_of r) body b.body l.is_active there).1 in
     let pattern : IsFrontPattern names body r.pattern b.taken
     = subst (λ i. IsFrontPattern names i r.pattern b.taken) (sym same_body) b.is_pattern in
     let same = front_pattern_one names body p r.pattern taken b.taken is pattern in
@@ -317,7 +320,7 @@ rule_shorter cs names text rest r s b = at (says_shorter cs (drop b.taken b.body
 
     at : (length rest < length (drop b.taken b.body) + length b.end) ⊎ (rest ≡ drop 1 b.end) → length rest < length text
     at (inl less) =
-        let p = active_suffix cs b.line.line r.active.items b.body b.line.is_active in
+        let p = active_suffix cs b.line.line (active_of r) b.body b.line.is_active in
         omega (
           arith,
           less,
@@ -340,17 +343,18 @@ pub heavy_rule : (most : ℕ) (cs : List Condition) (names : List Definition) (t
     → RuleBefore cs names text r s rest → HasHeavyRule most cs names rest → HasHeavyRule most cs names text
 heavy_rule most cs names text rest r s b h = rules.rule text rest r s b h
 
-pub active_found : (cs : List Condition) (line : List ℕ) (o : Option (Vec ℕ Global × Bor (List ℕ))) (a : Vec ℕ Global)
-    (b : Bor (List ℕ)) → o ≡ Some (a, b)
+pub active_found : (cs : List Condition) (line : List ℕ) (o : Option (RcSlice ℕ Global × Bor (List ℕ)))
+    (a : RcSlice ℕ Global) (b : Bor (List ℕ)) → o ≡ Some (a, b)
     → MatchOption o ((active rest : List ℕ) → ActiveBefore cs line active rest → ⊥)
-    (λ found. ActiveBefore cs line found.0.items found.1.now) → ActiveBefore cs line a.items b.now
+    (λ found. ActiveBefore cs line (rc_slice_items found.0) found.1.now)
+    → ActiveBefore cs line (rc_slice_items a) b.now
 active_found cs line o a b e h = subst (λ i. MatchOption i ((active rest : List ℕ) → ActiveBefore cs line active rest
     → ⊥)
-    (λ found. ActiveBefore cs line found.0.items found.1.now)) e h
+    (λ found. ActiveBefore cs line (rc_slice_items found.0) found.1.now)) e h
 
 pub rules_begin : (cs : List Condition) (names : List Definition) (text rest : List ℕ) (r : Rule) (s : Saying)
     → RuleBefore cs names text r s rest → BeginsWithRule text
-rules_begin cs names text rest r s b = rule_begins cs text r.active.items b.body b.end b.line
+rules_begin cs names text rest r s b = rule_begins cs text (active_of r) b.body b.end b.line
 
 pub over_none : (cs : List Condition) (names : List Definition) (text : List ℕ) (rs : List Rule) (ss : List Saying)
     (ls : List ℕ) → AreRulesOver text → Rules cs names text rs ss ls → (rs ≡ []) × (ss ≡ []) × (ls ≡ [])

@@ -2,7 +2,7 @@
 use Rattle.std.proofs.Common.{◌≡◌, ℕ, zero, suc, List, [], ◌∷◌, Some, Bool, Option, sym, subst}
 use Rattle.std.specs.Prelude.{Contains, IsTrue, slice_get}
 use Rattle.ly_ere.specs.Expression.{Expression}
-use Rattle.ly_ere.specs.Winner.{Candidate, FitsPattern, Winner}
+use Rattle.ly_ere.specs.Winner.{Candidate, FitsPattern, Winner, active_of}
 use Rattle.ly_ere.specs.declared.pattern.Rule.{Rule}
 use Rattle.ly_lexread.specs.LexText.{AreSameRules}
 use Rattle.ly_base.specs.Lexed.{Place, place_after}
@@ -19,11 +19,11 @@ same_back (r ∷ rs) (s ∷ ss) h = (sym h.0, sym h.1, same_back rs ss h.2)
 
 -- the rule of a number, and the one that says the same
 pub same_rule : (rs ss : List Rule) (i : ℕ) (r : Rule) → AreSameRules rs ss → slice_get rs i ≡ Some r
-    → (s : Rule) × (slice_get ss i ≡ Some s) × (r.pattern ≡ s.pattern) × (r.active.items ≡ s.active.items)
+    → (s : Rule) × (slice_get ss i ≡ Some s) × (r.pattern ≡ s.pattern) × (active_of r ≡ active_of s)
 same_rule [] ss i r h e = cc e
 same_rule (q ∷ rs) [] i r h e = absurd h
 same_rule (q ∷ rs) (s ∷ ss) zero r h e = let same : q ≡ r = cc e
-    in (s, cc, subst (λ x. x.pattern ≡ s.pattern) same h.0, subst (λ x. x.active.items ≡ s.active.items) same h.1)
+    in (s, cc, subst (λ x. x.pattern ≡ s.pattern) same h.0, subst (λ x. active_of x ≡ active_of s) same h.1)
 same_rule (q ∷ rs) (s ∷ ss) (suc i) r h e = same_rule rs ss i r h.2 e
 
 module _ (names : List Expression) (rs ss : List Rule) (same : AreSameRules rs ss) (condition : ℕ) (line : Bool)

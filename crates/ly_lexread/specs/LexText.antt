@@ -4,6 +4,7 @@ use Rattle.std.specs.Prelude.{IfErr, IfOk, drop, length, map, slice_get, if◌th
 use Rattle.ly_ere.specs.Definitions.{AreLightNames}
 use Rattle.ly_ere.specs.Names.{Definition}
 use Rattle.ly_ere.specs.declared.pattern.Rule.{Rule}
+use Rattle.ly_ere.specs.Winner.{active_of}
 use Rattle.ly_lexread.specs.declared.action.LexAction.{LexAction}
 use Rattle.ly_lexread.specs.declared.file.LexFile.{LexFile}
 use Rattle.ly_lexread.specs.declared.file.StartCondition.{StartCondition}
@@ -76,7 +77,7 @@ IsRead most bytes result = IsReadAs (λ file. file) (LexText bytes) (IsLight mos
 -- rules that say the same, whatever room their lists have
 abbrev pub AreSameRules : List Rule → List Rule → Type 0
 AreSameRules [] [] = Unit {0}
-AreSameRules (r ∷ rs) (s ∷ ss) = (r.pattern ≡ s.pattern) × (r.active.items ≡ s.active.items) × AreSameRules rs ss
+AreSameRules (r ∷ rs) (s ∷ ss) = (r.pattern ≡ s.pattern) × (active_of r ≡ active_of s) × AreSameRules rs ss
 AreSameRules _ _ = ⊥
 
 -- actions that say the same

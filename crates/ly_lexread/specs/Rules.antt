@@ -6,6 +6,7 @@ use Rattle.ly_ere.specs.Grammar.{Sides}
 use Rattle.ly_ere.specs.Names.{Definition}
 use Rattle.ly_ere.specs.Patterns.{HasFrontSides, IsFrontPattern, pattern_weight, sides_weight}
 use Rattle.ly_ere.specs.declared.pattern.Rule.{Rule}
+use Rattle.ly_ere.specs.Winner.{active_of}
 use Rattle.ly_lexread.specs.Action.{Saying}
 use Rattle.ly_lexread.specs.Conditions.{Condition, condition_of, inclusive}
 use Rattle.ly_lexread.specs.Lines.{BlockEnds, LineBefore, LineOf, kind_of}
@@ -51,7 +52,7 @@ pub record RuleBefore (cs : List Condition) (names : List Definition) (text : Li
     (rest : List ℕ) : Type 0 where
   pub body : List ℕ
   pub end : List ℕ
-  pub line : RuleLine cs text rule.active.items body end
+  pub line : RuleLine cs text (active_of rule) body end
   pub taken : ℕ
   pub is_pattern : IsFrontPattern names body rule.pattern taken
   pub says : SaysAction cs (drop taken body) end saying rest

@@ -1,9 +1,22 @@
-ghost use Rattle.std.specs.Prelude.{[], ◌≤◌, ◌<◌, ℕ, List, length, IfOk, IfSome, MatchOption};
+ghost use Rattle.std.specs.Prelude.{[], ◌≡◌, ◌≤◌, ◌<◌, ℕ, List, length, IfOk, IfSome, MatchOption};
+ghost use Rattle.std.specs.Rc.{rc_slice_items};
+ghost use Rattle.ly_lexread.specs.Conditions.{inclusive};
 ghost use Rattle.ly_lexread.specs.Rules.{ActiveBefore, ConditionBefore, Listed};
 
 use crate::conditions::Conditions;
 use ly_base::{Language, leading_name};
+use ly_ere::Rule;
 use std::alloc::{AllocError, Global};
+use std::rc::RcSlice;
+
+/// The lists of conditions that a rule may hold in common with others.
+#[derive(Clone, Copy)]
+pub(crate) struct Shared<'s> {
+    /// That of a rule without `<..>`.
+    pub(crate) inclusive: &'s RcSlice<u32>,
+    /// The rules before it: its own list may be that of the last of them.
+    pub(crate) before: &'s [Rule],
+}
 
 /// Reads the conditions in which the rule of a line is active, and answers what stands behind them: those that `<..>`
 /// lists in front, or the inclusive ones. `None` where a list isn't well formed, or names no condition.
@@ -11,14 +24,31 @@ pub(crate) fn read_active<'t>(
     alloc: Global,
     line: &'t [u8],
     conditions: &Conditions,
-) -> Result<Option<(Vec<u32>, &'t [u8])>, AllocError>
+    shared: Shared<'_>,
+) -> Result<Option<(RcSlice<u32>, &'t [u8])>, AllocError>
+    requires { rc_slice_items shared.inclusive.now ≡ inclusive conditions.now }
     ensures { IfOk result (λ read. MatchOption read
         ((active rest : List ℕ) → ActiveBefore conditions.now line.now active rest → ⊥)
-        (λ found. ActiveBefore conditions.now line.now found.0.items found.1.now)) }
+        (λ found. ActiveBefore conditions.now line.now (rc_slice_items found.0) found.1.now)) }
 {
-    match line.strip_prefix(b"<") {
-        Some(list) => read_list(alloc, list, conditions),
-        None => Ok(Some((conditions.inclusive(alloc)?, line))),
+    let Some(list) = line.strip_prefix(b"<") else {
+        return Ok(Some((shared.inclusive.clone()?, line)));
+    };
+    match read_list(alloc, list, conditions)? {
+        Some((numbers, body)) => Ok(Some((shared.list(numbers)?, body))),
+        None => Ok(None),
+    }
+}
+
+impl Shared<'_> {
+    /// A list to be kept: that of the last rule, where it is the same, and else this one.
+    fn list(self, numbers: Vec<u32>) -> Result<RcSlice<u32>, AllocError>
+        ensures { IfOk result (λ list. rc_slice_items list ≡ numbers.items) }
+    {
+        match self.before.last() {
+            Some(rule) if rule.active.as_slice() == numbers.as_slice() => rule.active.clone(),
+            _ => RcSlice::from_vec(numbers),
+        }
     }
 }
 

@@ -1,9 +1,10 @@
 ghost use Rattle.std.specs.Prelude.{◌≡◌, ◌∷◌, ◌++◌, [], ◌≤◌, ◌<◌, ◌⊎◌, ℕ, List, length, map};
 ghost use Rattle.std.specs.Prelude.{IfErr, IfOk, IfSome, MatchBool, MatchOption, OnOk};
+ghost use Rattle.std.specs.Rc.{rc_slice_items};
 ghost use Rattle.ly_ere.specs.declared.pattern.Rule.{Rule};
 ghost use Rattle.ly_ere.specs.Names.{Definition};
 ghost use Rattle.ly_lexread.specs.Action.{Saying};
-ghost use Rattle.ly_lexread.specs.Conditions.{Condition};
+ghost use Rattle.ly_lexread.specs.Conditions.{Condition, inclusive};
 ghost use Rattle.ly_lexread.specs.Faults.{IsAtMost, IsTooHeavy};
 ghost use Rattle.ly_lexread.specs.LexText.{IsReadAs};
 ghost use Rattle.ly_lexread.specs.Private.Rules.{AreSkipped, BeginsWithRule};
@@ -12,7 +13,7 @@ ghost use Rattle.ly_lexread.specs.Private.Rules.{AreRulesAt};
 ghost use Rattle.ly_lexread.specs.Rules.{AreLight, AreRulesOver, HasHeavyRule, IsHeavyRule, RuleBefore, Rules, Skips};
 
 use crate::action::{Said, read_action};
-use crate::active::{fault_in_list, read_active};
+use crate::active::{Shared, fault_in_list, read_active};
 use crate::conditions::Conditions;
 use crate::fault::{LexFault, LexFaultKind};
 use crate::kind::{LineKind, kind_of};
@@ -22,6 +23,7 @@ use crate::skipped::behind_block;
 use ly_base::Limits;
 use ly_ere::{Names, Rule, read_front};
 use std::alloc::{AllocError, Global};
+use std::rc::RcSlice;
 
 /// What the rules say.
 #[derive(Drop)]
@@ -62,6 +64,7 @@ pub(crate) fn read_rules(
         (HasHeavyRule limits.now.pattern_weight conditions.now names.now text.entry.bytes.now) result }
     ensures within { IfErr result (IsAtMost text.entry.whole) }
 {
+    let inclusive = RcSlice::from_vec(conditions.inclusive(alloc)?)?;
     let mut left = skip_unused(text)?;
     let mut section = Section {
         rules: Vec::new(alloc),
@@ -69,7 +72,11 @@ pub(crate) fn read_rules(
         starts: Vec::new(alloc),
     };
     while begins_with_rule(left) {
-        let (rule, saying, behind) = read_rule(alloc, left, conditions, names, limits)?;
+        let shared = Shared {
+            inclusive: &inclusive,
+            before: &section.rules,
+        };
+        let (rule, saying, behind) = read_rule(alloc, left, conditions, shared, names, limits)?;
         section.push(rule, saying, left.offset())?;
         left = skip_unused(behind)?;
     }
@@ -138,10 +145,12 @@ fn read_rule<'t>(
     alloc: Global,
     text: Rest<'t>,
     conditions: &Conditions,
+    shared: Shared<'_>,
     names: &Names,
     limits: &Limits,
 ) -> Result<(Rule, Said, Rest<'t>), LexFault>
-    requires { BeginsWithRule text.bytes.now }
+    requires begins { BeginsWithRule text.bytes.now }
+    requires inclusive { rc_slice_items shared.inclusive.now ≡ inclusive conditions.now }
     ensures read { IsReadAs (λ read. (read.0, saying_of read.1, read.2.bytes.now))
         (λ (x : Rule × Saying × List ℕ). RuleBefore conditions.now names.now text.entry.bytes.now x.0 x.1 x.2)
         (λ x. AreLight limits.now.pattern_weight names.now (x.0 ∷ []))
@@ -151,7 +160,7 @@ fn read_rule<'t>(
 {
     let line = text.line_bytes();
     let here = Line { bytes: line, text };
-    let Some((active, body)) = read_active(alloc, line, conditions)? else {
+    let Some((active, body)) = read_active(alloc, line, conditions, shared)? else {
         let at = fault_in_list(line, conditions);
         return Err(here.fault(LexFaultKind::UnknownCondition, at));
     };

@@ -10,6 +10,7 @@ use Rattle.std.proofs.lemmas.List.Elements.{Contains-append_left, Contains-appen
 use Rattle.std.proofs.lemmas.List.Elements.{Contains-push_cases}
 use Rattle.ly_base.proofs.MemberLemmas.{Contains-none}
 use Rattle.ly_ere.specs.declared.pattern.Rule.{Rule}
+use Rattle.ly_ere.specs.Winner.{active_of}
 use Rattle.ly_position.specs.Private.Program.{ProgramStep}
 use Rattle.ly_position.specs.Private.Link.{IsReachList}
 use Rattle.ly_position.specs.Private.Starts.{key, root_list, PutsIn, AddsIn, AddsInEach, StaysWithin, BeginsBefore}
@@ -204,7 +205,7 @@ roots_skip rules entries done n conditions bound L h none = record {
 pub roots_more : (rules : List Rule) (entries : List (Option ℕ)) (done : List ℕ) (n conditions bound : ℕ)
     (L M : List (List ℕ)) (r : Rule) (x : ℕ) → AreRoots rules entries done conditions bound L
     → slice_get rules n ≡ Some r → get_or entries n None ≡ Some x → x < bound
-    → length M ≡ length L → StaysWithin L M x → AddsInEach L M conditions r.active.items r.pattern.line_start x
+    → length M ≡ length L → StaysWithin L M x → AddsInEach L M conditions (active_of r) r.pattern.line_start x
     → AreRoots rules entries (done ++ n ∷ []) conditions bound M
 roots_more rules entries done n conditions bound L M r x h is at less count stays added = record {
   count = count ∙ h.count;
@@ -213,7 +214,7 @@ roots_more rules entries done n conditions bound L M r x h is at less count stay
 }
   where
     there : (c : ℕ) (line : Bool) (e : ℕ) → Contains (root_list L c line) e
-        ⊎ (Contains r.active.items c × (IsTrue r.pattern.line_start → IsTrue line) × (e ≡ x)) → c < conditions
+        ⊎ (Contains (active_of r) c × (IsTrue r.pattern.line_start → IsTrue line) × (e ≡ x)) → c < conditions
         → BeginsIn rules entries (done ++ n ∷ []) c line e
     there c line e (inl k) l = later rules entries done n c line e ((h.each c line e l).0 k)
     there c line e (inr k) l = (
@@ -225,7 +226,7 @@ roots_more rules entries done n conditions bound L M r x h is at less count stay
     )
 
     back : (c : ℕ) (line : Bool) (e : ℕ) → c < conditions → BeginsIn rules entries (done ++ n ∷ []) c line e
-        → Contains (root_list L c line) e ⊎ (Contains r.active.items c × (IsTrue r.pattern.line_start → IsTrue line)
+        → Contains (root_list L c line) e ⊎ (Contains (active_of r) c × (IsTrue r.pattern.line_start → IsTrue line)
         × (e ≡ x))
     back c line e l k = elim (Contains-push_cases done n k.0 k.2) [
       | inl old ↦ inl ((h.each c line e l).1 (k.0, k.1, old, k.3, k.4))
@@ -236,7 +237,7 @@ roots_more rules entries done n conditions bound L M r x h is at less count stay
           let two : e ≡ x = let a : get_or entries n None ≡ Some e = ap (λ i. get_or entries i None) same ∙ k.4
           in cc in
           inr (
-            subst (λ (q : Rule). Contains q.active.items c) one k.3.in_condition,
+            subst (λ (q : Rule). Contains (active_of q) c) one k.3.in_condition,
             subst (λ (q : Rule). (IsTrue q.pattern.line_start → IsTrue line)) one k.3.at_line,
             two,
           )

@@ -1,4 +1,5 @@
 ghost use Rattle.std.specs.Prelude.{◌≡◌, ℕ, ◌+◌, ◌*◌, ◌<◌, ◌↔◌, List, length, All, Contains, IfOk, OnOk};
+ghost use Rattle.ly_ere.specs.Winner.{active_of};
 ghost use Rattle.ly_position.specs.Private.Grown.{AreTwins};
 ghost use Rattle.ly_position.specs.Private.Plain.{IsPlainPart};
 ghost use Rattle.ly_position.specs.Private.Program.{steps_of};
@@ -17,6 +18,7 @@ use crate::set::PositionSet;
 use crate::shared_lists::SharedLists;
 use ly_ere::Rule;
 use std::alloc::{AllocError, Global};
+use std::rc::RcSlice;
 
 /// The start lists: for each condition that of the middle of a line, then that of its beginning.
 pub fn starts(
@@ -121,7 +123,7 @@ fn common_first(alloc: Global, rules: &[Rule]) -> Result<Vec<usize>, AllocError>
     let mut numbers = Vec::new(alloc);
     let mut others = Vec::new(alloc);
     for (number, rule) in rules.iter().enumerate() {
-        if rule.active.as_slice() == common {
+        if common.is_some_and(|list| is_same(&rule.active, list)) {
             numbers.push(number)?;
         } else {
             others.push(number)?;
@@ -133,21 +135,26 @@ fn common_first(alloc: Global, rules: &[Rule]) -> Result<Vec<usize>, AllocError>
 
 /// The list of conditions that has more than half of all that rules have, where one does: what is left of it when each
 /// of another list takes away as much (Boyer and Moore 1991).
-fn common_list(rules: &[Rule]) -> &[u32] {
-    let mut common: &[u32] = &[];
+fn common_list(rules: &[Rule]) -> Option<&RcSlice<u32>> {
+    let mut common: Option<&RcSlice<u32>> = None;
     let mut left = 0;
     for rule in rules {
         let length = rule.active.len();
-        if rule.active.as_slice() == common {
+        if common.is_some_and(|list| is_same(&rule.active, list)) {
             left = length.saturating_add(left);
         } else if length <= left {
             left -= length;
         } else {
-            common = &rule.active;
+            common = Some(&rule.active);
             left = length - left;
         }
     }
     common
+}
+
+/// Whether two lists of conditions are the same. One that is held in common isn't read for it.
+fn is_same(one: &RcSlice<u32>, other: &RcSlice<u32>) -> bool {
+    RcSlice::ptr_eq(one, other) || one.as_slice() == other.as_slice()
 }
 
 /// Adds where a rule begins to the lists of its conditions.
@@ -156,9 +163,9 @@ fn add_rule(roots: &mut Roots, rule: &Rule, conditions: u32, entry: usize) -> Re
     ensures count { OnOk result (length roots.new ≡ length roots.old) }
     ensures within { OnOk result (StaysWithin roots.old roots.new entry) }
     ensures added { OnOk result (AddsInEach roots.old
-        roots.new conditions rule.now.active.items rule.now.pattern.line_start entry) }
+        roots.new conditions (active_of rule.now) rule.now.pattern.line_start entry) }
 {
-    for condition in &rule.active {
+    for condition in rule.active.as_slice() {
         if *condition < conditions {
             add_root(roots, *condition, rule.pattern.line_start, entry)?;
         }

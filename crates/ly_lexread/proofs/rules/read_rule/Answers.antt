@@ -1,4 +1,5 @@
 use Rattle.std.proofs.Common.{◌-◌, ap, arith, length, length-append, subst, sym, take}
+use Rattle.std.specs.Rc.{rc_slice_items}
 use Rattle.std.proofs.lemmas.Result.{err_from_is_err_and}
 use Rattle.ly_base.proofs.GapLemmas.{at_none}
 use Rattle.ly_lexread.specs.Private.Statements.{saying_of}
@@ -21,10 +22,11 @@ returns-in-Err-clause-read c =
     let active = active_found cs line c.in_ok-active.field-0 c.in-Some.active c.in-Some.body c.in-Some.is
     c.in_ok-active.ensures in
     answer_pattern _ c.args.limits.now.pattern_weight cs c.args.names.now c.args.text.bytes.now
-    c.in-Some.active.items c.in-Some.body.now c.line_bytes-line.ensures.0 c.in-Err.fault
+    (rc_slice_items c.in-Some.active) c.in-Some.body.now c.line_bytes-line.ensures.0 c.in-Err.fault
     c.pattern_fault.result
-    (rule_line cs c.args.text.bytes.now line c.line_bytes-line.ensures.0 c.in-Some.active.items c.in-Some.body.now
-    c.requires c.line_bytes-line.ensures.1 active) c.pattern_fault.ensures.memory c.pattern_fault.ensures.other
+    (rule_line cs c.args.text.bytes.now line c.line_bytes-line.ensures.0 (rc_slice_items c.in-Some.active)
+    c.in-Some.body.now
+    c.requires.begins c.line_bytes-line.ensures.1 active) c.pattern_fault.ensures.memory c.pattern_fault.ensures.other
     c.in-Err.ensures.refused
 
 pub overflow_sub-line : goal.overflow_sub-line
@@ -32,7 +34,7 @@ overflow_sub-line c =
     let line = c.line_bytes-line.result.now in
     let active = active_found c.args.conditions.now line c.in_ok-active.field-0 c.in-Some.active c.in-Some.body
     c.in-Some.is c.in_ok-active.ensures in
-    let p = active_suffix c.args.conditions.now line c.in-Some.active.items c.in-Some.body.now active in
+    let p = active_suffix c.args.conditions.now line (rc_slice_items c.in-Some.active) c.in-Some.body.now active in
     omega (arith, ap length p.1, length-append p.0 c.in-Some.body.now)
 
 pub read_action-requires : goal.read_action-requires
@@ -45,7 +47,7 @@ read_action-requires c =
     let taken = c.in-Ok.front.1 in
     let active = active_found cs line c.in_ok-active.field-0 c.in-Some.active c.in-Some.body c.in-Some.is
     c.in_ok-active.ensures in
-    let p = active_suffix cs line c.in-Some.active.items body active in
+    let p = active_suffix cs line (rc_slice_items c.in-Some.active) body active in
     let at = action_text text line tail p.0 body c.split_at.result.1.now taken c.line_bytes-line.ensures.1.2 p.1
     c.in-Ok.ensures.ok.within c.split_at.ensures.back in
     at.within
@@ -60,14 +62,16 @@ returns-in_err-said-clause-read c =
     let taken = c.in-Ok.front.1 in
     let active = active_found cs line c.in_ok-active.field-0 c.in-Some.active c.in-Some.body c.in-Some.is
     c.in_ok-active.ensures in
-    let p = active_suffix cs line c.in-Some.active.items body active in
+    let p = active_suffix cs line (rc_slice_items c.in-Some.active) body active in
     let at = action_text text line tail p.0 body c.split_at.result.1.now taken c.line_bytes-line.ensures.1.2 p.1
     c.in-Ok.ensures.ok.within c.split_at.ensures.back in
     let on_line = length body - taken in
-    let l = rule_line cs text line tail c.in-Some.active.items body c.requires c.line_bytes-line.ensures.1 active in
+    let l = rule_line cs text line tail (rc_slice_items c.in-Some.active) body c.requires.begins
+    c.line_bytes-line.ensures.1 active in
     let e = err_from_is_err_and c.from_residual-in_err-said.result c.from_residual-in_err-said.ensures.1 in
     rw (e.1, e.2) (answer_fault _ _ _ _ _ c.in_err-said.ensures.light (λ ne x v.
-    let said = says_there cs c.args.names.now text c.in-Some.active.items body tail x.2 taken c.in-Ok.front.0 x.0 x.1 l
+    let said = says_there cs c.args.names.now text (rc_slice_items c.in-Some.active) body tail x.2 taken
+    c.in-Ok.front.0 x.0 x.1 l
     c.in-Ok.ensures.ok v in
     c.in_err-said.ensures.refused ne x.1 x.2
     (subst (λ i. SaysAction cs (take on_line c.split_at.result.1.now) i x.1 x.2) (sym at.ends)
@@ -83,11 +87,12 @@ returns-clause-read c =
     let taken = c.in-Ok.front.1 in
     let active = active_found cs line c.in_ok-active.field-0 c.in-Some.active c.in-Some.body c.in-Some.is
     c.in_ok-active.ensures in
-    let p = active_suffix cs line c.in-Some.active.items body active in
+    let p = active_suffix cs line (rc_slice_items c.in-Some.active) body active in
     let at = action_text text line tail p.0 body c.split_at.result.1.now taken c.line_bytes-line.ensures.1.2 p.1
     c.in-Ok.ensures.ok.within c.split_at.ensures.back in
     let on_line = length body - taken in
-    let l = rule_line cs text line tail c.in-Some.active.items body c.requires c.line_bytes-line.ensures.1 active in
+    let l = rule_line cs text line tail (rc_slice_items c.in-Some.active) body c.requires.begins
+    c.line_bytes-line.ensures.1 active in
     let s = saying_of c.in_ok-said.said in
     let behind = c.in_ok-said.behind.bytes.now in
     answer_ok _ _ _ _ _ (record {

@@ -106,7 +106,7 @@ returns-in_err-rule-clause-read c =
 
 pub returns-in_err-left-clause-read : goal.returns-in_err-left-clause-read
 returns-in_err-left-clause-read c =
-    let p = err_from_is_err_and c.from_residual.result c.from_residual.ensures.1 in
+    let p = err_from_is_err_and c.from_residual-in_err-left.result c.from_residual-in_err-left.ensures.1 in
     rw (p.1, p.2) (answer_fault _ _ _ _ _ c.in_err-left.ensures.light
     (λ _ x d. c.in_err-left.ensures.refused c.args.conditions.now c.args.names.now x.0 x.1 d.0 d.1))
 

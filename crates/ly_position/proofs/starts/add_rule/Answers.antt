@@ -6,6 +6,7 @@ use Rattle.ly_position.proofs.StartLemmas.{each_more, each_skip, within_trans}
 use Rattle.ly_position.proofs.starts.add_rule.Goals as goal
 use Rattle.ly_position.proofs.starts.add_rule.Goals.{then-condition-conditions+in_ok-add_root}
 use Rattle.ly_position.proofs.starts.add_rule.Goals.{else-condition-conditions}
+use Rattle.ly_ere.specs.Winner.{active_of}
 
 pub loop-condition-preserved : goal.loop-condition-preserved
 loop-condition-preserved c =
@@ -13,12 +14,12 @@ loop-condition-preserved c =
     let M = c.loop-condition.roots in
     let n = c.args.conditions in
     let i = c.loop-condition.condition-index in
-    let active = c.args.rule.now.active.items in
-    let d = get_or c.deref-condition-items.result.now i 0 in
+    let active = active_of c.args.rule.now in
+    let d = get_or c.as_slice-condition-items.result.now i 0 in
     let start = c.args.rule.now.pattern.line_start in
     let more : take (i + 1) active ≡ take i active ++ d ∷ []
-    = subst (λ (xs : List ℕ). take (i + 1) xs ≡ take i xs ++ d ∷ []) c.deref-condition-items.ensures.value
-    (take_more c.deref-condition-items.result.now i 0 c.loop-condition-test.true) in
+    = subst (λ (xs : List ℕ). take (i + 1) xs ≡ take i xs ++ d ∷ []) c.as_slice-condition-items.ensures.value
+    (take_more c.as_slice-condition-items.result.now i 0 c.loop-condition-test.true) in
     elim c.if-condition-conditions.branch [
       | then-condition-conditions+in_ok-add_root w ↦ rw w.roots-is (record {
         count = w.in_ok-add_root.ensures.count ∙ c.loop-condition.invariant.count;
@@ -38,8 +39,8 @@ loop-condition-preserved c =
 
 pub returns-clause-added : goal.returns-clause-added
 returns-clause-added c =
-    let active = c.args.rule.now.active.items in
+    let active = active_of c.args.rule.now in
     let all = take_all c.loop-condition.condition-index active (let t = c.loop-condition-test.false
-    in let v = ap length c.deref-condition-items.ensures.value in omega arith) in
+    in let v = ap length c.as_slice-condition-items.ensures.value in omega arith) in
     subst (λ (xs : List ℕ). AddsInEach c.args.roots.now c.loop-condition.roots c.args.conditions
     xs c.args.rule.now.pattern.line_start c.args.entry) all c.loop-condition.invariant.added

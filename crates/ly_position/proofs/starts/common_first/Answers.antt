@@ -2,7 +2,7 @@ use Rattle.std.proofs.Common.{◌≡◌, ◌<◌, length, le_antisymm, subst}
 use Rattle.std.proofs.lemmas.List.Elements.{All-push}
 use Rattle.ly_position.proofs.StartLemmas.{EachIn, all_below, each_left, each_right}
 use Rattle.ly_position.proofs.starts.common_first.Goals as goal
-use Rattle.ly_position.proofs.starts.common_first.Goals.{then-eq+in_ok-push, else-eq+in_ok-push-2}
+use Rattle.ly_position.proofs.starts.common_first.Goals.{then-is_some_and+in_ok-push, else-is_some_and+in_ok-push-2}
 
 pub loop-number-preserved : goal.loop-number-preserved
 loop-number-preserved c =
@@ -10,14 +10,14 @@ loop-number-preserved c =
     let xs = c.loop-number.numbers.items in
     let ys = c.loop-number.others.items in
     let before = c.loop-number.invariant in
-    elim c.if-eq.branch [
-      | then-eq+in_ok-push w ↦
+    elim c.if-is_some_and.branch [
+      | then-is_some_and+in_ok-push w ↦
           rw (w.numbers-is, w.others-is, w.in_ok-push.ensures.items) (record {
             within = All-push (λ i. i < length c.args.rules.now) xs n before.within c.loop-number-test.true;
             others = before.others;
             all = each_left n xs ys before.all;
           })
-      | else-eq+in_ok-push-2 w ↦
+      | else-is_some_and+in_ok-push-2 w ↦
           rw (w.numbers-is, w.others-is, w.in_ok-push-2.ensures.items) (record {
             within = before.within;
             others = All-push (λ i. i < length c.args.rules.now) ys n before.others c.loop-number-test.true;
