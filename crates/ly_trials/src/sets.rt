@@ -34,10 +34,11 @@ fn is_in(held: (bool, bool), number: u32) -> bool {
 }
 
 /// Adds a number to a row that has room for it.
-pub(crate) fn insert(sets: &mut SetMatrix, row: usize, number: u32) {
+pub(crate) fn insert(sets: &mut SetMatrix, row: usize, number: u32) -> Result<(), OutOfMemory> {
     if row < sets.rows() && (number as usize) < sets.width() {
-        sets.insert(row, Sym(number));
+        sets.insert(row, Sym(number))?;
     }
+    Ok(())
 }
 
 /// Whether there is such a row, and a number is in it.
@@ -66,10 +67,10 @@ fn is_row(sets: &SetMatrix, row: usize, width: u32, held: (bool, bool)) -> bool 
 }
 
 /// Grows a row by another, and answers whether it was said rightly that it grew.
-fn unite(sets: &mut SetMatrix, to: usize, from: usize) -> bool {
+fn unite(sets: &mut SetMatrix, to: usize, from: usize) -> Result<bool, OutOfMemory> {
     let before = count(sets, to);
-    let grew = to < sets.rows() && from < sets.rows() && sets.union_row(to, from);
-    grew == (count(sets, to) != before)
+    let grew = to < sets.rows() && from < sets.rows() && sets.union_row(to, from)?;
+    Ok(grew == (count(sets, to) != before))
 }
 
 /// Whether the unions of a width are the plain ones, one change each.
@@ -77,16 +78,16 @@ fn are_united(alloc: Global, width: u32) -> Result<bool, OutOfMemory> {
     let mut sets = SetMatrix::new(alloc, 3, width as usize)?;
     for number in 0..width {
         if is_in(THIRDS, number) {
-            insert(&mut sets, 0, number);
+            insert(&mut sets, 0, number)?;
         }
         if is_in(FIFTHS, number) {
-            insert(&mut sets, 1, number);
+            insert(&mut sets, 1, number)?;
         }
     }
     let inserted = sets.changes();
     let mut same = true;
     for (to, from, rows) in &UNIONS {
-        same &= unite(&mut sets, *to, *from);
+        same &= unite(&mut sets, *to, *from)?;
         for (row, held) in rows.iter().enumerate() {
             same &= is_row(&sets, row, width, *held);
         }

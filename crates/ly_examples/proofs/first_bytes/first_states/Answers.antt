@@ -20,7 +20,7 @@ loop-state-preserved c =
           (let end = c.in_ok-state-end.ensures.count in let lt = c.loop-state-test.true in omega (arith, end, lt))
           c.loop-state.invariant
           (subst (HasFirst acts) c.rule.ensures (c.returns_first.ensures.0 w.if-returns_first.true))
-          w.insert.ensures)
+          w.in_ok-insert.ensures.ok)
       | else-returns_first w ↦ rw w.sets-is
           (first_row_same acts A n c.loop-state.sets c.loop-state.invariant
           (λ has. iff_false c.returns_first.ensures w.if-returns_first.false

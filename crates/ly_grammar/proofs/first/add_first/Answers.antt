@@ -10,5 +10,5 @@ returns-in-Terminal-clause-sets c =
     let m = c.args.sets.now in
     let lt : c.args.left < length m.sets = subst (λ n. c.args.left < n) (sym c.requires.rows) c.requires.left in
     subst (λ s. AreAdded m c.insert.new.self c.args.left (symbol_of s ∷ [])) (sym c.in-Terminal.is)
-    (subst (λ n. AreAdded m n c.args.left (symbol_of (Terminal c.in-Terminal.terminal) ∷ [])) (sym c.insert.ensures)
+    (subst (λ n. AreAdded m n c.args.left (symbol_of (Terminal c.in-Terminal.terminal) ∷ [])) (sym c.in_ok-insert.ensures.ok)
     (inserted m c.args.left c.in-Terminal.terminal.0 lt))

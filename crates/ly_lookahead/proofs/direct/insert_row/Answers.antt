@@ -52,10 +52,10 @@ loop-transition-preserved c =
     elim c.match-transition.branch [
       | in-Terminal w ↦
           let q = w.in-Terminal.terminal.0 in
-          let is = ap (λ m. m.sets) (w.sets-is ∙ w.insert.ensures) in
+          let is = ap (λ m. m.sets) (w.sets-is ∙ w.in_ok-insert.ensures.ok) in
           record {
             long = ap length is ∙ (length-set now n (set.insert (row now n) q) ∙ long);
-            width = ap (λ m. m.width) (w.sets-is ∙ w.insert.ensures) ∙ inv.width;
+            width = ap (λ m. m.width) (w.sets-is ∙ w.in_ok-insert.ensures.ok) ∙ inv.width;
             inserted = subst (λ xs. AreInserted xs n old new) more
                 (inserted_more before u n q old now new (ap symbol_of w.in-Terminal.is) inv.inserted
                 (inserted_one now new n q (omega (arith, lt, long)) is));

@@ -106,7 +106,7 @@ loop-lookback-preserved c =
           l.rule in_state place in
           let long = c.requires.long in
           let to = slice_index_or first l.state 0 + k in
-          let is = ap (λ m. m.sets) (w.sets-is ∙ w.union_row.ensures.united) in
+          let is = ap (λ m. m.sets) (w.sets-is ∙ w.in_ok-union_row.ensures.united) in
           record {
             long = ap length is ∙ (length-set now to (set.union (row now to) (row now l.node)) ∙ kept);
             united = looked_more M first R.lookbacks i l at k place
