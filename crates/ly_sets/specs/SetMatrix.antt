@@ -1,9 +1,9 @@
 -- What a `SetMatrix` shows.
-use Rattle.std.specs.Prelude.{ℕ, zero, suc, ◌+◌, ◌^◌, ◌-◌, ◌*◌, ◌/◌, ◌≤◌, ◌≡◌, length, min, List, [], ◌∷◌, take, drop}
+use Rattle.std.specs.Prelude.{ℕ, ◌+◌, ◌^◌, ◌-◌, min, List}
 use Rattle.std.specs.Prelude.{slice_index_or, slice_set, refl}
 use Rattle.std.specs.Coded.{Coded, code_by, coded×, coded_ℕ, coded_list}
 use Rattle.std.specs.FinSet as set
-use Rattle.ly_sets.specs.NumberSet.{NumberSet, set_of, AllBelow}
+use Rattle.ly_sets.specs.NumberSet.{NumberSet}
 
 -- one set of numbers below the width for each row, and how many changes were asked for
 pub record Matrix : Type 0 where

@@ -1,4 +1,4 @@
-use Rattle.std.proofs.Common.{◌<◌, sym, refl, arith}
+use Rattle.std.proofs.Common.{sym, refl, arith}
 use Rattle.ly_sets.proofs.RowLemmas.{row_set-union, row_holds_words}
 use Rattle.ly_sets.proofs.bits.holds_row.Goals as goal
 

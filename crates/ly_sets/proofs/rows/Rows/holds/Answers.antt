@@ -2,7 +2,7 @@ use Rattle.std.proofs.Common.{◌≡◌, ◌∙◌, ap, sym, arith, IsTrue, nat_
 use Rattle.std.specs.FinSet as set
 use Rattle.ly_sets.specs.SetMatrix.{row}
 use Rattle.ly_sets.specs.Rows.{sets_of, stored_set}
-use Rattle.ly_sets.proofs.MatrixLemmas.{named_read, row-sets_by, row_at, union-idem}
+use Rattle.ly_sets.proofs.MatrixLemmas.{named_read, row-sets_by, union-idem}
 use Rattle.ly_sets.proofs.rows.Rows.holds.Goals as goal
 
 pub returns-then-index : goal.returns-then-index

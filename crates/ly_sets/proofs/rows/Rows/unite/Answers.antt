@@ -1,4 +1,4 @@
-use Rattle.std.proofs.Common.{◌∙◌, ap, sym, set, refl}
+use Rattle.std.proofs.Common.{◌∙◌, ap, sym, set}
 use Rattle.ly_sets.specs.SetMatrix.{row}
 use Rattle.ly_sets.specs.Rows.{sets_of}
 use Rattle.ly_sets.proofs.MatrixLemmas.{union-comm_nat}

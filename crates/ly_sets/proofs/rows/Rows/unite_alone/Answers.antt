@@ -1,4 +1,4 @@
-use Rattle.std.proofs.Common.{◌≡◌, ◌∙◌, ◌*◌, ◌+◌, ◌<◌, ◌≤◌, ◌⊎◌, ℕ, ap, ap₂, sym, subst, arith, length, get_or}
+use Rattle.std.proofs.Common.{◌≡◌, ◌∙◌, ◌*◌, ◌+◌, ◌<◌, ◌≤◌, ◌⊎◌, ap, ap₂, sym, subst, arith, length, get_or}
 use Rattle.std.specs.FinSet as set
 use Rattle.ly_sets.specs.SetMatrix.{row}
 use Rattle.ly_sets.specs.NumberSet.{row_set}
