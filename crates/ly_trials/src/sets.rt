@@ -17,7 +17,9 @@ const FIFTHS: (bool, bool) = (false, true);
 const BOTH: (bool, bool) = (true, true);
 
 /// A row that grows, the row by which, and what the three rows hold then.
-const UNIONS: [(usize, usize, [(bool, bool); 3]); 8] = [
+type Union = (usize, usize, [(bool, bool); 3]);
+
+const UNIONS: [Union; 8] = [
     (0, 0, [THIRDS, FIFTHS, NONE]),
     (2, 2, [THIRDS, FIFTHS, NONE]),
     (1, 0, [THIRDS, BOTH, NONE]),
@@ -25,6 +27,14 @@ const UNIONS: [(usize, usize, [(bool, bool); 3]); 8] = [
     (2, 1, [THIRDS, BOTH, BOTH]),
     (0, 1, [BOTH, BOTH, BOTH]),
     (0, 2, [BOTH, BOTH, BOTH]),
+    (1, 2, [BOTH, BOTH, BOTH]),
+];
+
+/// A row takes all of another, and then each of the two gets more.
+const PARTED: [Union; 4] = [
+    (2, 0, [THIRDS, FIFTHS, THIRDS]),
+    (0, 1, [BOTH, FIFTHS, THIRDS]),
+    (2, 1, [BOTH, FIFTHS, BOTH]),
     (1, 2, [BOTH, BOTH, BOTH]),
 ];
 
@@ -69,12 +79,15 @@ fn is_row(sets: &SetMatrix, row: usize, width: u32, held: (bool, bool)) -> bool 
 /// Grows a row by another, and answers whether it was said rightly that it grew.
 fn unite(sets: &mut SetMatrix, to: usize, from: usize) -> Result<bool, OutOfMemory> {
     let before = count(sets, to);
-    let grew = to < sets.rows() && from < sets.rows() && sets.union_row(to, from)?;
+    let mut grew = false;
+    if to < sets.rows() && from < sets.rows() {
+        grew = sets.union_row(to, from)?;
+    }
     Ok(grew == (count(sets, to) != before))
 }
 
 /// Whether the unions of a width are the plain ones, one change each.
-fn are_united(alloc: Global, width: u32) -> Result<bool, OutOfMemory> {
+fn are_united(alloc: Global, width: u32, unions: &[Union]) -> Result<bool, OutOfMemory> {
     let mut sets = SetMatrix::new(alloc, 3, width as usize)?;
     for number in 0..width {
         if is_in(THIRDS, number) {
@@ -86,13 +99,13 @@ fn are_united(alloc: Global, width: u32) -> Result<bool, OutOfMemory> {
     }
     let inserted = sets.changes();
     let mut same = true;
-    for (to, from, rows) in &UNIONS {
+    for (to, from, rows) in unions {
         same &= unite(&mut sets, *to, *from)?;
         for (row, held) in rows.iter().enumerate() {
             same &= is_row(&sets, row, width, *held);
         }
     }
-    Ok(same && sets.changes().wrapping_sub(inserted) == 8)
+    Ok(same && sets.changes().wrapping_sub(inserted) == unions.len() as u64)
 }
 
 /// Whether there is room for a number in a set, and the set has it.
@@ -130,7 +143,8 @@ fn is_set(alloc: Global, width: u32) -> Result<bool, OutOfMemory> {
 /// The first of `WIDTHS` at which a set or rows are otherwise.
 fn otherwise(alloc: Global) -> Result<Option<u32>, OutOfMemory> {
     for width in WIDTHS {
-        if !is_set(alloc, width)? || !are_united(alloc, width)? {
+        let united = are_united(alloc, width, &UNIONS)? && are_united(alloc, width, &PARTED)?;
+        if !is_set(alloc, width)? || !united {
             return Ok(Some(width));
         }
     }

@@ -11,7 +11,7 @@ use Rattle.ly_lookahead.proofs.DirectLemmas.{shift_below, target_within}
 use Rattle.ly_lookahead.proofs.SetLemmas.{shown_at}
 use Rattle.ly_lookahead.proofs.direct.direct_sets.Goals as goal
 use Rattle.ly_lookahead.proofs.direct.direct_sets.Goals.{else-eq, else-eq-via-else-eq, else-eq-via-then-eq+else-eq-2}
-use Rattle.ly_lookahead.proofs.direct.direct_sets.Goals.{then-eq+then-eq-2}
+use Rattle.ly_lookahead.proofs.direct.direct_sets.Goals.{then-eq+then-eq-2+in_ok-insert}
 
 pub loop-number-init : goal.loop-number-init
 loop-number-init c = record {
@@ -81,7 +81,7 @@ loop-number-preserved c =
     let long = inv.long in
     let same = c.in_ok-insert_row.ensures.rows in
     elim c.if-eq.branch [
-      | then-eq+then-eq-2 w ↦
+      | then-eq+then-eq-2+in_ok-insert w ↦
           let is = ap (λ m. m.sets) (w.sets-is ∙ w.in_ok-insert.ensures.ok) in
           record {
             long = ap length is ∙ (length-set now k (set.insert (row now k) 0) ∙ same ∙ long);
