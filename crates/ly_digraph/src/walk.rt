@@ -8,7 +8,7 @@
 ghost use Rattle.std.specs.Prelude.{◌≡◌, ◌≢◌, ◌<◌, ◌≤◌, ◌+◌, ◌-◌, ◌↔◌, List, length, take, vec_len, slice_index, false};
 ghost use Rattle.std.specs.Prelude.{true, IfOk, OnOk};
 
-use crate::graph::Graph;
+use crate::graph::{Graph, narrow};
 use ly_base::OutOfMemory;
 use ly_sets::SetMatrix;
 use std::alloc::Global;
@@ -19,7 +19,7 @@ pub(crate) enum Place {
     /// Not seen yet.
     New,
     /// Pending, at this position.
-    Open(usize),
+    Open(u32),
     /// In a component that is closed: its row is final.
     Done,
 }
@@ -39,7 +39,7 @@ pub(crate) struct Frame {
 #[derive(Drop)]
 pub(crate) struct Walk {
     /// For each node, how many edges from the front hold all of its edges that are to be looked at.
-    cursors: Vec<usize>,
+    cursors: Vec<u32>,
     places: Vec<Place>,
     /// The nodes that were seen and aren't done, in the order in which they were entered.
     pending: Vec<usize>,
@@ -115,7 +115,7 @@ impl Walk {
         ensures { OnOk result (IsEntered self.old self.new node) }
     {
         let start = self.pending.len();
-        self.places[node] = Place::Open(start);
+        self.places[node] = Place::Open(narrow(start)?);
         self.pending.push(node)?;
         self.path.push(Frame {
             node,
@@ -142,10 +142,10 @@ impl Walk {
             self.leave(graph, sets)?;
             return Ok(true);
         }
-        let target = graph.target(cursor - 1);
+        let target = graph.target(cursor as usize - 1);
         match self.places[target] {
             Place::New => self.enter(target)?,
-            Place::Open(position) => self.meet(graph, position),
+            Place::Open(position) => self.meet(graph, position as usize),
             Place::Done => self.absorb(graph, target, sets)?,
         }
         Ok(true)
@@ -261,6 +261,6 @@ impl Walk {
         ensures { IsTurned graph.now self.old self.new }
     {
         let node = self.path[self.path.len() - 1].node;
-        self.cursors[node] = graph.end_before(self.cursors[node] - 1);
+        self.cursors[node] = graph.end_before(self.cursors[node] as usize - 1);
     }
 }
