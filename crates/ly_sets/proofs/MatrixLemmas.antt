@@ -62,9 +62,9 @@ sets_by-same stride old new stored same =
     let n = length-map stored (stored_set stride new) in
     let m = length-map stored (stored_set stride old) in
     same_lists (sets_by stride new stored) (sets_by stride old stored) (n ∙ sym m) (λ i d lt.
-      let below : i < length stored = omega (arith, n) in
-      get_or-map (stored_set stride new) stored i 0 d below ∙ same i below
-      ∙ sym (get_or-map (stored_set stride old) stored i 0 d below))
+    let below : i < length stored = omega (arith, n) in
+    get_or-map (stored_set stride new) stored i 0 d below ∙ same i below
+    ∙ sym (get_or-map (stored_set stride old) stored i 0 d below))
 
 -- ---- a write to a stored row that is named once changes one row's set alone
 
@@ -89,15 +89,15 @@ module _ {stride : ℕ} {old : List ℕ} {shared : List Bool} {stored : List ℕ
       let m = length-map stored (stored_set stride old) in
       same_lists (sets_by stride new stored) (set (sets_by stride old stored) i s)
       (n ∙ sym (length-set (sets_by stride old stored) i s ∙ m)) (λ j d lt.
-        let below : j < length stored = omega (arith, n) in
-        get_or-map (stored_set stride new) stored j 0 d below
-        ∙ elim (cases_eq j i) [
-          | inl same ↦ ap (λ k. stored_set stride new (get_or stored k 0)) same ∙ is
-              ∙ sym (get_or-set_same (sets_by stride old stored) i s d (omega (arith, m)))
-              ∙ ap (λ k. get_or (set (sets_by stride old stored) i s) k d) (sym same)
-          | inr ne ↦ other_stored j below ne ∙ sym (get_or-map (stored_set stride old) stored j 0 d below)
-              ∙ sym (get_or-set_other (sets_by stride old stored) i j s d ne)
-        ])
+      let below : j < length stored = omega (arith, n) in
+      get_or-map (stored_set stride new) stored j 0 d below
+      ∙ elim (cases_eq j i) [
+        | inl same ↦ ap (λ k. stored_set stride new (get_or stored k 0)) same ∙ is
+            ∙ sym (get_or-set_same (sets_by stride old stored) i s d (omega (arith, m)))
+            ∙ ap (λ k. get_or (set (sets_by stride old stored) i s) k d) (sym same)
+        | inr ne ↦ other_stored j below ne ∙ sym (get_or-map (stored_set stride old) stored j 0 d below)
+            ∙ sym (get_or-set_other (sets_by stride old stored) i j s d ne)
+      ])
 
 -- the words after a write to all of them
 pub written : (len : ℕ) (new old : List ℕ) → length new ≡ len → take len (new ++ drop (length new) old) ≡ new
@@ -133,7 +133,7 @@ sets_by-copied {stride} {words} {shared} {stored} laid i start room inside is =
     map-set (stored_set stride new) stored i (length shared)
     ∙ ap₂ (λ ss s. set ss i s)
     (sets_by-same stride words new stored (λ j lt.
-      stored_set-kept stride words (length shared) start laid.long room (get_or stored j 0) (laid.named j lt)))
+    stored_set-kept stride words (length shared) start laid.long room (get_or stored j 0) (laid.named j lt)))
     (stored_set-copy stride words (length shared) start laid.long room
     ∙ ap (λ at. row_set at stride words) is ∙ sym (row-sets_by stride words stored i inside))
     ∙ set-get_or (sets_by stride words stored) i set.empty
