@@ -1,6 +1,7 @@
 -- The rows of a matrix within its words.
 use Rattle.std.proofs.Common.{◌≡◌, ◌≢◌, ◌∙◌, ◌<◌, ◌≤◌, ◌+◌, ◌-◌, ◌*◌, ◌/◌, ◌%◌, ◌==◌, ◌||◌, ◌++◌, ◌∷◌, ℕ, zero, suc}
-use Rattle.std.proofs.Common.{true, false, Bool, List, length, get_or, set, take, drop, sym, ap, ap₂, subst, refl, arith}
+use Rattle.std.proofs.Common.{true, false, Bool, List, length, get_or, set, take, drop, sym, ap, ap₂, subst, refl}
+use Rattle.std.proofs.Common.{arith}
 use Rattle.std.proofs.Common.{inl, inr, ◌⊎◌, replicate}
 use Rattle.std.specs.FinSet as set
 use Rattle.std.specs.FinSet.{contains-empty}

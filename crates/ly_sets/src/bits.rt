@@ -2,7 +2,8 @@
 //!
 //! A row is whole blocks of four words, so a union has no tail: the words past the width are words
 //! like the others, in which no bit is ever set.
-ghost use Rattle.std.specs.Prelude.{◌≡◌, ◌+◌, ◌*◌, ◌-◌, ◌/◌, ◌<◌, ◌≤◌, ◌↔◌, ◌⊎◌, ℕ, length, true, false, slice_index, IsTrue};
+ghost use Rattle.std.specs.Prelude.{◌≡◌, ◌+◌, ◌*◌, ◌-◌, ◌/◌, ◌<◌, ◌≤◌, ◌↔◌, ◌⊎◌, ℕ, length, true, false, slice_index};
+ghost use Rattle.std.specs.Prelude.{IsTrue};
 ghost use Rattle.std.specs.FinSet as set;
 ghost use Rattle.ly_sets.specs.NumberSet.{row_set, AllBelow};
 ghost use Rattle.ly_sets.specs.Union.{IsUnited, united_block};

@@ -19,4 +19,5 @@ returns-clause-sets c =
     ∙ ap (λ ws. get_or ws k 0) old)
     (set.insert (row (sets_of r) c.args.i) c.args.number)
     (ap (λ t. row_set t r.stride c.insert_bit.new.words) (sym to) ∙ c.insert_bit.ensures.added
-    ∙ ap (λ s. set.insert s c.args.number) (row_at r.stride c.start-start.result r.words.items c.deref_mut.result.now r.stored.items c.args.i c.requires.row to old))
+    ∙ ap (λ s. set.insert s c.args.number) (row_at r.stride c.start-start.result r.words.items c.deref_mut.result.now
+    r.stored.items c.args.i c.requires.row to old))

@@ -9,5 +9,6 @@ returns-clause-sets c =
     let r = c.args.self.now in
     map-set (stored_set r.stride r.words.items) r.stored.items c.args.i c.index-stored.result.now
     ∙ ap (λ s. set (sets_of r) c.args.i s)
-    (ap (stored_set r.stride r.words.items) (named_read r.stored.items c.args.j _ c.requires.from c.index-stored.ensures)
+    (ap (stored_set r.stride r.words.items) (named_read r.stored.items c.args.j _ c.requires.from
+    c.index-stored.ensures)
     ∙ sym (row-sets_by r.stride r.words.items r.stored.items c.args.j c.requires.from))

@@ -11,7 +11,8 @@ union_rows-requires-clause-apart c =
     let r = c.args.self.now in
     let to = c.start-to.ensures.value in
     let from = c.start-from.ensures.value in
-    subst (λ t. (t + r.stride ≤ c.start-from.result) ⊎ ((c.start-from.result + r.stride ≤ t) ⊎ (t ≡ c.start-from.result)))
+    subst (λ t. (t + r.stride ≤ c.start-from.result) ⊎ ((c.start-from.result + r.stride ≤ t) ⊎ (t ≡
+    c.start-from.result)))
     (sym to)
     (subst (λ f. (get_or r.stored.items c.args.i 0 * r.stride + r.stride ≤ f)
     ⊎ ((f + r.stride ≤ get_or r.stored.items c.args.i 0 * r.stride)
@@ -32,5 +33,7 @@ returns-clause-united c =
     ∙ ap (λ ws. get_or ws k 0) old)
     (set.union (row (sets_of r) c.args.i) (row (sets_of r) c.args.j))
     (ap (λ t. row_set t r.stride c.union_rows.new.words) (sym to) ∙ c.union_rows.ensures.united
-    ∙ ap₂ set.union (row_at r.stride c.start-to.result r.words.items c.deref_mut.result.now r.stored.items c.args.i c.requires.to to old)
-    (row_at r.stride c.start-from.result r.words.items c.deref_mut.result.now r.stored.items c.args.j c.requires.from from old))
+    ∙ ap₂ set.union (row_at r.stride c.start-to.result r.words.items c.deref_mut.result.now r.stored.items c.args.i
+    c.requires.to to old)
+    (row_at r.stride c.start-from.result r.words.items c.deref_mut.result.now r.stored.items c.args.j c.requires.from
+    from old))
