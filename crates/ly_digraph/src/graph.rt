@@ -10,18 +10,25 @@ use std::marker::Model;
 pub struct Graph {
     edges: Vec<Edge>,
     /// For each node, how many edges from the front hold all of its own: the last of them is one.
-    ends: Vec<usize>,
+    ends: Vec<u32>,
 }
 
 /// An edge.
 #[derive(Clone, Copy)]
 struct Edge {
     /// Where it begins.
-    from: usize,
+    from: u32,
     /// Where it leads.
-    to: usize,
+    to: u32,
     /// How many edges from the front hold all of the same node's edges before this one.
-    before: usize,
+    before: u32,
+}
+
+/// A count in 32 bits: a large graph has millions of edges and nodes, and memory for no more than 2^32.
+pub(crate) fn narrow(count: usize) -> Result<u32, OutOfMemory>
+    ensures { IfOk result (λ n. n ≡ count) }
+{
+    u32::try_from(count).map_err(|_| OutOfMemory)
 }
 
 impl Model for Graph {
@@ -48,7 +55,7 @@ impl Graph {
     {
         Ok(Graph {
             edges: Vec::new(alloc),
-            ends: vec![in alloc; 0; nodes]?,
+            ends: vec![in alloc; 0u32; nodes]?,
         })
     }
 
@@ -59,12 +66,15 @@ impl Graph {
             record self.old { edges = self.old.edges ++ (from, to) ∷ [] }) }
         ensures err { OnErr result (self.new ≡ self.old) }
     {
+        let source = narrow(from)?;
+        let target = narrow(to)?;
+        let end = narrow(self.edges.len() + 1)?;
         self.edges.push(Edge {
-            from,
-            to,
+            from: source,
+            to: target,
             before: self.ends[from],
         })?;
-        self.ends[from] = self.edges.len();
+        self.ends[from] = end;
         Ok(())
     }
 
@@ -84,7 +94,7 @@ impl Graph {
     }
 
     /// How many edges from the front hold all edges of a node.
-    pub(crate) fn end(&self, node: usize) -> usize
+    pub(crate) fn end(&self, node: usize) -> u32
         requires { node < self.now.nodes }
         ensures { IsEndBefore self.now node (length self.now.edges) result }
     {
@@ -92,7 +102,7 @@ impl Graph {
     }
 
     /// How many edges from the front hold all edges of the same node before an edge.
-    pub(crate) fn end_before(&self, edge: usize) -> usize
+    pub(crate) fn end_before(&self, edge: usize) -> u32
         requires { edge < length self.now.edges }
         ensures { IsEndBefore self.now (source self.now edge) edge result }
     {
@@ -105,6 +115,6 @@ impl Graph {
         ensures value { result ≡ target self.now edge }
         ensures inside { result < self.now.nodes }
     {
-        self.edges[edge].to
+        self.edges[edge].to as usize
     }
 }

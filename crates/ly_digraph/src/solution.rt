@@ -22,7 +22,7 @@ use std::alloc::Global;
 /// an edge `i -> j`, row `i` holds row `j`. What comes to a row was in a row that it reaches. Rows past
 /// the nodes stay. `changes` of the matrix rises by at most the number of edges and nodes.
 ///
-/// `OutOfMemory` comes where the room for the walk was refused. After it nothing is known of the
+/// `OutOfMemory` comes where room for the walk or for a row was refused. After it nothing is known of the
 /// matrix, which may be dropped.
 pub fn least(alloc: Global, graph: &Graph, sets: &mut SetMatrix) -> Result<(), OutOfMemory>
     requires { graph.now.nodes ≤ length sets.old.sets }

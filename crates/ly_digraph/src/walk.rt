@@ -8,7 +8,7 @@
 ghost use Rattle.std.specs.Prelude.{◌≡◌, ◌≢◌, ◌<◌, ◌≤◌, ◌+◌, ◌-◌, ◌↔◌, List, length, take, vec_len, slice_index, false};
 ghost use Rattle.std.specs.Prelude.{true, IfOk, OnOk};
 
-use crate::graph::Graph;
+use crate::graph::{Graph, narrow};
 use ly_base::OutOfMemory;
 use ly_sets::SetMatrix;
 use std::alloc::Global;
@@ -19,7 +19,7 @@ pub(crate) enum Place {
     /// Not seen yet.
     New,
     /// Pending, at this position.
-    Open(usize),
+    Open(u32),
     /// In a component that is closed: its row is final.
     Done,
 }
@@ -39,7 +39,7 @@ pub(crate) struct Frame {
 #[derive(Drop)]
 pub(crate) struct Walk {
     /// For each node, how many edges from the front hold all of its edges that are to be looked at.
-    cursors: Vec<usize>,
+    cursors: Vec<u32>,
     places: Vec<Place>,
     /// The nodes that were seen and aren't done, in the order in which they were entered.
     pending: Vec<usize>,
@@ -115,7 +115,7 @@ impl Walk {
         ensures { OnOk result (IsEntered self.old self.new node) }
     {
         let start = self.pending.len();
-        self.places[node] = Place::Open(start);
+        self.places[node] = Place::Open(narrow(start)?);
         self.pending.push(node)?;
         self.path.push(Frame {
             node,
@@ -139,14 +139,14 @@ impl Walk {
         let frame = self.path[self.path.len() - 1];
         let cursor = self.cursors[frame.node];
         if cursor == 0 {
-            self.leave(graph, sets);
+            self.leave(graph, sets)?;
             return Ok(true);
         }
-        let target = graph.target(cursor - 1);
+        let target = graph.target(cursor as usize - 1);
         match self.places[target] {
             Place::New => self.enter(target)?,
-            Place::Open(position) => self.meet(graph, position),
-            Place::Done => self.absorb(graph, target, sets),
+            Place::Open(position) => self.meet(graph, position as usize),
+            Place::Done => self.absorb(graph, target, sets)?,
         }
         Ok(true)
     }
@@ -166,69 +166,83 @@ impl Walk {
     }
 
     /// Looks at an edge to a node that is done: its row is final.
-    fn absorb(&mut self, graph: &Graph, target: usize, sets: &mut SetMatrix)
+    fn absorb(
+        &mut self,
+        graph: &Graph,
+        target: usize,
+        sets: &mut SetMatrix,
+    ) -> Result<(), OutOfMemory>
         requires at { IsAt graph.now sets.old.sets self.old }
         requires waits { IsWaiting graph.now self.old }
         requires next { target ≡ next_target graph.now self.old }
         requires done { place self.old.places.items target ≡ Done }
-        ensures on { Continues graph.now sets.old self.old sets.new self.new }
-        ensures fewer { steps_left graph.now self.new < steps_left graph.now self.old }
+        ensures on { OnOk result (Continues graph.now sets.old self.old sets.new self.new) }
+        ensures fewer { OnOk result (steps_left graph.now self.new < steps_left graph.now self.old) }
     {
         let node = self.path[self.path.len() - 1].node;
-        sets.union_row(node, target);
+        sets.union_row(node, target)?;
         self.advance(graph);
+        Ok(())
     }
 
     /// Leaves a node whose edges were all looked at.
-    fn leave(&mut self, graph: &Graph, sets: &mut SetMatrix)
+    fn leave(&mut self, graph: &Graph, sets: &mut SetMatrix) -> Result<(), OutOfMemory>
         requires at { IsAt graph.now sets.old.sets self.old }
         requires some { 0 < vec_len self.old.path }
         requires spent { slice_index self.old.cursors.items (top self.old).node ≡ 0 }
-        ensures on { Continues graph.now sets.old self.old sets.new self.new }
-        ensures fewer { steps_left graph.now self.new < steps_left graph.now self.old }
+        ensures on { OnOk result (Continues graph.now sets.old self.old sets.new self.new) }
+        ensures fewer { OnOk result (steps_left graph.now self.new < steps_left graph.now self.old) }
     {
         if let Some(frame) = self.path.pop() {
             if frame.low == frame.start {
-                self.close(frame, sets);
+                self.close(frame, sets)?;
             } else {
-                self.merge(frame, graph, sets);
+                self.merge(frame, graph, sets)?;
             }
         }
+        Ok(())
     }
 
     /// Ends a component: all of its nodes get the row of its root.
-    fn close(&mut self, root: Frame, sets: &mut SetMatrix)
+    fn close(&mut self, root: Frame, sets: &mut SetMatrix) -> Result<(), OutOfMemory>
         requires listed { IsListed self.old.places.items self.old.pending.items }
         requires rows { length self.old.places.items ≤ length sets.old.sets }
         requires root { (root.start < length self.old.pending.items) ×
             (slice_index self.old.pending.items root.start ≡ root.node) }
-        ensures closed { IsClosed sets.old sets.new self.old.places.items self.new.places.items
-            root.start (vec_len self.old.pending) root.node }
-        ensures pending { self.new.pending.items ≡ take root.start self.old.pending.items }
-        ensures cursors { self.new.cursors ≡ self.old.cursors }
-        ensures path { self.new.path ≡ self.old.path }
+        ensures closed { OnOk result (IsClosed sets.old sets.new self.old.places.items self.new.places.items
+            root.start (vec_len self.old.pending) root.node) }
+        ensures pending { OnOk result (self.new.pending.items ≡ take root.start self.old.pending.items) }
+        ensures cursors { OnOk result (self.new.cursors ≡ self.old.cursors) }
+        ensures path { OnOk result (self.new.path ≡ self.old.path) }
     {
         self.places[root.node] = Place::Done;
         for position in root.start + 1..self.pending.len() {
             let member = self.pending[position];
             self.places[member] = Place::Done;
-            sets.union_row(member, root.node);
+            sets.union_row(member, root.node)?;
         }
         self.pending.truncate(root.start);
+        Ok(())
     }
 
     /// Hands a part that reaches further down to the part before it.
-    fn merge(&mut self, frame: Frame, graph: &Graph, sets: &mut SetMatrix)
+    fn merge(
+        &mut self,
+        frame: Frame,
+        graph: &Graph,
+        sets: &mut SetMatrix,
+    ) -> Result<(), OutOfMemory>
         requires at { IsAtFrame graph.now sets.old.sets self.old frame }
         requires spent { slice_index self.old.cursors.items frame.node ≡ 0 }
         requires turns { frame.low ≢ frame.start }
-        ensures on { Continues graph.now sets.old self.old sets.new self.new }
-        ensures fewer { steps_left graph.now self.new ≤ steps_left graph.now self.old }
+        ensures on { OnOk result (Continues graph.now sets.old self.old sets.new self.new) }
+        ensures fewer { OnOk result (steps_left graph.now self.new ≤ steps_left graph.now self.old) }
     {
         let parent = self.path[self.path.len() - 1].node;
-        sets.union_row(parent, frame.node);
+        sets.union_row(parent, frame.node)?;
         self.lower(frame.low);
         self.advance(graph);
+        Ok(())
     }
 
     /// Notes that the last part reaches a position.
@@ -247,6 +261,6 @@ impl Walk {
         ensures { IsTurned graph.now self.old self.new }
     {
         let node = self.path[self.path.len() - 1].node;
-        self.cursors[node] = graph.end_before(self.cursors[node] - 1);
+        self.cursors[node] = graph.end_before(self.cursors[node] as usize - 1);
     }
 }

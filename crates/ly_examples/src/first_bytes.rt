@@ -114,7 +114,7 @@ fn first_states(alloc: Global, actions: &[ScanAction], dfa: &Dfa) -> Result<SetM
     let mut sets = SetMatrix::new(alloc, dfa.len(), 1)?;
     for state in 0..count_states(dfa)? {
         if returns_first(actions, dfa.rule(state)) {
-            sets.insert(state as usize, Sym(0));
+            sets.insert(state as usize, Sym(0))?;
         }
     }
     Ok(sets)

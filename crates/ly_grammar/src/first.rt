@@ -80,7 +80,7 @@ fn add_first(
 {
     match symbol {
         Symbol::Terminal(terminal) => {
-            sets.insert(left, terminal);
+            sets.insert(left, terminal)?;
             Ok(())
         }
         Symbol::Nonterminal(part) => graph.add(left, part.0 as usize),

@@ -85,7 +85,7 @@ fn reached(alloc: Global, grammar: &Grammar, productive: &[bool]) -> Result<SetM
         }
     }
     let mut sets = SetMatrix::new(alloc, nonterminals, 1)?;
-    sets.insert(grammar.start().0 as usize, Sym(0));
+    sets.insert(grammar.start().0 as usize, Sym(0))?;
     least(alloc, &graph, &mut sets)?;
     Ok(sets)
 }

@@ -1,5 +1,5 @@
 //! What transitions directly read: it goes straight into rows, since of a large grammar it is millions of terminals.
-ghost use Rattle.std.specs.Prelude.{◌≡◌, ◌<◌, ◌≤◌, ℕ, length, map, Contains, IfOk};
+ghost use Rattle.std.specs.Prelude.{◌≡◌, ◌<◌, ◌≤◌, ℕ, length, map, Contains, IfOk, OnOk};
 ghost use Rattle.ly_join.specs.Grammar.{terminal};
 ghost use Rattle.ly_lr0.specs.Automaton.{state_at, IsLr0Automaton};
 ghost use Rattle.ly_relate.specs.Related.{AreGotos};
@@ -31,27 +31,34 @@ pub(crate) fn direct_sets(
     let start = grammar.start();
     let mut sets = SetMatrix::new(alloc, rows, grammar.terminals() as usize)?;
     for (number, goto) in gotos.iter().enumerate() {
-        insert_row(&mut sets, lr0, goto.target, number);
+        insert_row(&mut sets, lr0, goto.target, number)?;
         if goto.from == StateNo(0) && goto.symbol == start {
-            sets.insert(number, Sym(0));
+            sets.insert(number, Sym(0))?;
         }
     }
     Ok(sets)
 }
 
 /// Inserts the terminals over which transitions leave a state into a row.
-fn insert_row(sets: &mut SetMatrix, lr0: &Lr0<'_>, state: StateNo, row: usize)
+fn insert_row(
+    sets: &mut SetMatrix,
+    lr0: &Lr0<'_>,
+    state: StateNo,
+    row: usize,
+) -> Result<(), OutOfMemory>
     requires state { state.0 < length lr0.now.states }
     requires row { row < length sets.old.sets }
     requires below { (t r : ℕ) → Contains (state_at lr0.now state.0).transitions
         (record { symbol = terminal t; target = r }) → t < sets.old.width }
-    ensures rows { length sets.new.sets ≡ length sets.old.sets }
-    ensures width { sets.new.width ≡ sets.old.width }
-    ensures inserted { AreInserted (state_at lr0.now state.0).transitions row sets.old.sets sets.new.sets }
+    ensures rows { OnOk result (length sets.new.sets ≡ length sets.old.sets) }
+    ensures width { OnOk result (sets.new.width ≡ sets.old.width) }
+    ensures inserted { OnOk result
+        (AreInserted (state_at lr0.now state.0).transitions row sets.old.sets sets.new.sets) }
 {
     for transition in lr0.transitions(state) {
         if let Symbol::Terminal(terminal) = transition.symbol {
-            sets.insert(row, terminal);
+            sets.insert(row, terminal)?;
         }
     }
+    Ok(())
 }

@@ -21,6 +21,6 @@ pub fn lookaheads(alloc: Global, lr0: &Lr0<'_>) -> Result<Lookaheads, OutOfMemor
     let relations = relations(alloc, lr0)?;
     let first = first_rows(alloc, lr0, relations.includes().nodes())?;
     let mut sets = follow_sets(alloc, lr0, &relations, first[lr0.states()])?;
-    look_back(lr0, &relations, &first, &mut sets);
+    look_back(lr0, &relations, &first, &mut sets)?;
     Ok(Lookaheads { first, sets })
 }

@@ -1,7 +1,8 @@
 -- The rows of a matrix within its words.
-use Rattle.std.proofs.Common.{◌≡◌, ◌≢◌, ◌∙◌, ◌<◌, ◌≤◌, ◌+◌, ◌-◌, ◌*◌, ◌/◌, ◌%◌, ◌==◌, ◌||◌, ◌++◌, ℕ, zero, suc, Bool}
-use Rattle.std.proofs.Common.{true, false, List, length, get_or, set, take, drop, sym, ap, subst, refl, arith, inl, inr}
-use Rattle.std.proofs.Common.{◌⊎◌, replicate, min, ◌^◌}
+use Rattle.std.proofs.Common.{◌≡◌, ◌≢◌, ◌∙◌, ◌<◌, ◌≤◌, ◌+◌, ◌-◌, ◌*◌, ◌/◌, ◌%◌, ◌==◌, ◌||◌, ◌++◌, ◌∷◌, ℕ, zero, suc}
+use Rattle.std.proofs.Common.{true, false, Bool, List, length, get_or, set, take, drop, sym, ap, ap₂, subst, refl}
+use Rattle.std.proofs.Common.{arith}
+use Rattle.std.proofs.Common.{inl, inr, ◌⊎◌, replicate}
 use Rattle.std.specs.FinSet as set
 use Rattle.std.specs.FinSet.{contains-empty}
 use Rattle.std.specs.Ordering.{nat_cmp}
@@ -9,96 +10,137 @@ use Rattle.std.proofs.Math.Nat.{suc-mul, mul-le-mul_right}
 use Rattle.std.proofs.Math.ListN.{length-set}
 use Rattle.std.specs.Int.{bit_at}
 use Rattle.std.proofs.lemmas.Bool.{cases_lt, cases_eq}
-use Rattle.std.proofs.lemmas.List.{drop-drop, same_lists, get_or_default, get_or-set_same, get_or-set_other}
-use Rattle.std.proofs.lemmas.List.{get_or_past, take-append-le, take_all, drop-replicate, take-replicate}
+use Rattle.std.proofs.lemmas.List.{same_lists, get_or_default, get_or-set_same, get_or-set_other, map-set, get_or-map}
+use Rattle.std.proofs.lemmas.List.{get_or_past, take-append-le, take_all, get_or_append_left, get_or-append-add}
+use Rattle.std.proofs.lemmas.List.{set-get_or, length-map}
 use Rattle.std.proofs.lemmas.Nat.Bits.{bit_at-zero}
-use Rattle.std.proofs.lemmas.Simd.{length-replicate, get_or-replicate}
+use Rattle.std.proofs.lemmas.Simd.{length-replicate, get_or-replicate, get_or-chunk}
 use Rattle.ly_sets.specs.NumberSet.{NumberSet, AllBelow, set_of, row_set}
-use Rattle.ly_sets.specs.SetMatrix.{Matrix, row, with_row, sets_of, IsLaidOut}
+use Rattle.ly_sets.specs.SetMatrix.{row}
+use Rattle.ly_sets.specs.Rows.{stored_set, sets_by, IsLaid}
 use Rattle.ly_sets.proofs.NumberSetLemmas.{contains-insert_nat, contains-union_nat, same_members, contains-set_of}
-use Rattle.ly_sets.proofs.RowLemmas.{row_set_same}
+use Rattle.ly_sets.proofs.RowLemmas.{row_set_same, row_set_as}
 
-pub length-sets_of : (stride rows : ℕ) (words : List ℕ) → length (sets_of stride rows words) ≡ rows
-unfolding sets_of
-length-sets_of stride zero words = refl
-length-sets_of stride (suc rows) words = ap suc (length-sets_of stride rows (drop stride words))
+-- ---- rows and stored rows
 
-pub row-sets_of : (stride rows : ℕ) (words : List ℕ) (i : ℕ) → i < rows
-    → row (sets_of stride rows words) i ≡ row_set (i * stride) stride words
-unfolding sets_of
-row-sets_of stride zero words i lt = absurd (omega arith)
-row-sets_of stride (suc rows) words zero lt = let none : 0 ≡ 0 * stride = omega arith
-    in ap (λ k. set_of (take stride (drop k words))) none
-row-sets_of stride (suc rows) words (suc i) lt =
-    let next : stride + i * stride ≡ suc i * stride = omega (arith, suc-mul i stride) in
-    row-sets_of stride rows (drop stride words) i (omega arith)
-    ∙ ap (λ ws. set_of (take stride ws)) (drop-drop (i * stride) stride words ∙ ap (λ k. drop k words) next)
+pub row-sets_by : (stride : ℕ) (words stored : List ℕ) (i : ℕ) → i < length stored
+    → row (sets_by stride words stored) i ≡ stored_set stride words (get_or stored i 0)
+row-sets_by stride words stored i lt = get_or-map (stored_set stride words) stored i 0 set.empty lt
 
-row-sets_of_past : (stride rows : ℕ) (words : List ℕ) (i : ℕ) → rows ≤ i → row (sets_of stride rows words) i ≡ set.empty
-row-sets_of_past stride rows words i le
-    = get_or_past (sets_of stride rows words) i set.empty (omega (arith, length-sets_of stride rows words))
+-- the words of a stored row are among the words
+pub stored_inside : (k stride n : ℕ) → k < n → k * stride + stride ≤ n * stride
+stored_inside k stride n lt
+    = omega (arith, suc-mul k stride, mul-le-mul_right stride (let h : suc k ≤ n = omega arith in h))
 
--- the words of a row are among the words
-pub row_inside : (i stride rows : ℕ) → i < rows → i * stride + stride ≤ rows * stride
-row_inside i stride rows lt
-    = omega (arith, suc-mul i stride, mul-le-mul_right stride (let h : suc i ≤ rows = omega arith in h))
+-- the number that a row names, as it is read
+pub named_read : (stored : List ℕ) (i k : ℕ) → i < length stored → k ≡ get_or stored i k → k ≡ get_or stored i 0
+named_read stored i k lt e = e ∙ get_or_default stored i k 0 lt
 
--- two rows are one or apart
+-- the words of a row, where they begin, are its set
+pub row_at : (stride start : ℕ) (words now stored : List ℕ) (i : ℕ) → i < length stored
+    → start ≡ get_or stored i 0 * stride → now ≡ words
+    → row_set start stride now ≡ row (sets_by stride words stored) i
+row_at stride start words now stored i lt at is = ap₂ (λ t ws. row_set t stride ws) at is
+    ∙ sym (row-sets_by stride words stored i lt)
+
+-- two stored rows are one or apart
 pub rows_apart : (i j stride : ℕ) → (i * stride + stride ≤ j * stride)
     ⊎ ((j * stride + stride ≤ i * stride) ⊎ (i * stride ≡ j * stride))
 rows_apart i j stride = elim (cases_lt i j) [
-  | inl lt ↦ inl (row_inside i stride j lt)
+  | inl lt ↦ inl (stored_inside i stride j lt)
   | inr ge ↦ elim (cases_lt j i) [
-    | inl lt ↦ inr (inl (row_inside j stride i lt))
+    | inl lt ↦ inr (inl (stored_inside j stride i lt))
     | inr le ↦ inr (inr (let same : i ≡ j = omega arith in ap (λ k. k * stride) same))
   ]
 ]
 
--- a change of one row
-module _ {width stride rows : ℕ} {old : List ℕ} (laid : IsLaidOut width stride rows old) (new : List ℕ) (i : ℕ)
-    (inside : i < rows) (long : length new ≡ length old)
-    (others : (k : ℕ) → (k < i * stride) ⊎ (i * stride + stride ≤ k) → get_or new k 0 ≡ get_or old k 0) where
-  other_row : (j : ℕ) → j < rows → j ≢ i → row_set (j * stride) stride new ≡ row_set (j * stride) stride old
-  other_row j lt ne = row_set_same old new (j * stride) stride (λ k h. others (j * stride + k) (elim (cases_lt j i) [
-    | inl before ↦ inl (omega (arith, row_inside j stride i before))
-    | inr after ↦ inr (omega (arith, row_inside i stride j (omega arith)))
-  ]))
+-- the same stored rows are the same sets
+pub sets_by-same : (stride : ℕ) (old new stored : List ℕ)
+    → ((i : ℕ) → i < length stored
+    → stored_set stride new (get_or stored i 0) ≡ stored_set stride old (get_or stored i 0))
+    → sets_by stride new stored ≡ sets_by stride old stored
+sets_by-same stride old new stored same =
+    let n = length-map stored (stored_set stride new) in
+    let m = length-map stored (stored_set stride old) in
+    same_lists (sets_by stride new stored) (sets_by stride old stored) (n ∙ sym m) (λ i d lt.
+    let below : i < length stored = omega (arith, n) in
+    get_or-map (stored_set stride new) stored i 0 d below ∙ same i below
+    ∙ sym (get_or-map (stored_set stride old) stored i 0 d below))
 
-  pub sets_of-changed : (s : NumberSet) → row_set (i * stride) stride new ≡ s
-      → sets_of stride rows new ≡ set (sets_of stride rows old) i s
-  sets_of-changed s is =
-      let n = length-sets_of stride rows new in
-      let m = length-sets_of stride rows old in
-      same_lists (sets_of stride rows new) (set (sets_of stride rows old) i s)
-      (n ∙ sym (length-set (sets_of stride rows old) i s ∙ m)) (λ j d lt.
-      let below : j < rows = omega arith in
-      get_or_default (sets_of stride rows new) j d set.empty lt ∙ row-sets_of stride rows new j below
+-- ---- a write to a stored row that is named once changes one row's set alone
+
+module _ {stride : ℕ} {old : List ℕ} {shared : List Bool} {stored : List ℕ} (laid : IsLaid stride old shared stored)
+    (new : List ℕ) (i : ℕ) (inside : i < length stored) (alone : get_or shared (get_or stored i 0) true ≡ false)
+    (others : (k : ℕ) → (k < get_or stored i 0 * stride) ⊎ (get_or stored i 0 * stride + stride ≤ k)
+    → get_or new k 0 ≡ get_or old k 0) where
+  other_stored : (j : ℕ) → j < length stored → j ≢ i
+      → stored_set stride new (get_or stored j 0) ≡ stored_set stride old (get_or stored j 0)
+  other_stored j lt ne = row_set_same old new (get_or stored j 0 * stride) stride (λ k h.
+      others (get_or stored j 0 * stride + k) (elim (cases_lt (get_or stored j 0) (get_or stored i 0)) [
+        | inl before ↦ inl (omega (arith, stored_inside (get_or stored j 0) stride (get_or stored i 0) before))
+        | inr after ↦
+            let apart : get_or stored i 0 ≢ get_or stored j 0 = λ e. ne (sym (laid.once i j inside lt e alone)) in
+            inr (omega (arith, stored_inside (get_or stored i 0) stride (get_or stored j 0) (omega arith)))
+      ]))
+
+  pub sets_by-changed : (s : NumberSet) → stored_set stride new (get_or stored i 0) ≡ s
+      → sets_by stride new stored ≡ set (sets_by stride old stored) i s
+  sets_by-changed s is =
+      let n = length-map stored (stored_set stride new) in
+      let m = length-map stored (stored_set stride old) in
+      same_lists (sets_by stride new stored) (set (sets_by stride old stored) i s)
+      (n ∙ sym (length-set (sets_by stride old stored) i s ∙ m)) (λ j d lt.
+      let below : j < length stored = omega (arith, n) in
+      get_or-map (stored_set stride new) stored j 0 d below
       ∙ elim (cases_eq j i) [
-        | inl same ↦ ap (λ k. row_set (k * stride) stride new) same ∙ is
-            ∙ sym (get_or-set_same (sets_of stride rows old) i s d (omega arith))
-            ∙ ap (λ k. get_or (set (sets_of stride rows old) i s) k d) (sym same)
-        | inr ne ↦ other_row j below ne ∙ sym (row-sets_of stride rows old j below)
-            ∙ get_or_default (sets_of stride rows old) j set.empty d (omega arith)
-            ∙ sym (get_or-set_other (sets_of stride rows old) i j s d ne)
+        | inl same ↦ ap (λ k. stored_set stride new (get_or stored k 0)) same ∙ is
+            ∙ sym (get_or-set_same (sets_by stride old stored) i s d (omega (arith, m)))
+            ∙ ap (λ k. get_or (set (sets_by stride old stored) i s) k d) (sym same)
+        | inr ne ↦ other_stored j below ne ∙ sym (get_or-map (stored_set stride old) stored j 0 d below)
+            ∙ sym (get_or-set_other (sets_by stride old stored) i j s d ne)
       ])
 
-  pub laid_out-changed : AllBelow width (row_set (i * stride) stride new) → IsLaidOut width stride rows new
-  laid_out-changed below = record {
-    long = long ∙ laid.long;
-    blocks = laid.blocks;
-    room = laid.room;
-    bounds = λ j. elim (cases_lt j rows) [
-      | inl lt ↦ subst (λ s. AllBelow width s) (sym (row-sets_of stride rows new j lt)) (elim (cases_eq j i) [
-        | inl same ↦ subst (λ k. AllBelow width (row_set (k * stride) stride new)) (sym same) below
-        | inr ne ↦ subst (λ s. AllBelow width s) (row-sets_of stride rows old j lt ∙ sym (other_row j lt ne))
-            (laid.bounds j)
-      ])
-      | inr ge ↦ λ n m. absurd (let e : false ≡ true = sym (contains-empty nat_cmp n)
-          ∙ sym (ap (λ s. set.contains s n) (row-sets_of_past stride rows new j ge)) ∙ m in cc)
-    ];
-  }
+-- the words after a write to all of them
+pub written : (len : ℕ) (new old : List ℕ) → length new ≡ len → take len (new ++ drop (length new) old) ≡ new
+written len new old e = take-append-le len new (drop (length new) old) (omega arith) ∙ take_all len new (omega arith)
 
--- each member is below the width, where one or a set of those is added
+-- ---- a row that gets a copy of its own
+
+module _ (stride : ℕ) (words : List ℕ) (n start : ℕ) (long : length words ≡ n * stride)
+    (room : start + stride ≤ length words) where
+  -- the stored rows from before are as they were
+  pub stored_set-kept : (k : ℕ) → k < n
+      → stored_set stride (words ++ take (start + stride - start) (drop start words)) k ≡ stored_set stride words k
+  stored_set-kept k lt = row_set_same words (words ++ take (start + stride - start) (drop start words)) (k * stride)
+      stride (λ j h. get_or_append_left words (take (start + stride - start) (drop start words)) 0 (k * stride + j)
+      (omega (arith, stored_inside k stride n lt)))
+
+  -- the new one is the copy
+  pub stored_set-copy : stored_set stride (words ++ take (start + stride - start) (drop start words)) n
+      ≡ row_set start stride words
+  stored_set-copy = row_set_as words (words ++ take (start + stride - start) (drop start words)) start (n * stride) stride
+      (λ j h. ap (λ at. get_or (words ++ take (start + stride - start) (drop start words)) (at + j) 0) (sym long)
+      ∙ get_or-append-add words (take (start + stride - start) (drop start words)) j 0
+      ∙ get_or-chunk start (start + stride - start) words j 0 (omega arith))
+
+-- the sets of the rows stay
+pub sets_by-copied : {stride : ℕ} {words : List ℕ} {shared : List Bool} {stored : List ℕ}
+    → IsLaid stride words shared stored → (i start : ℕ) → start + stride ≤ length words → i < length stored
+    → start ≡ get_or stored i 0 * stride
+    → sets_by stride (words ++ take (start + stride - start) (drop start words)) (set stored i (length shared))
+    ≡ sets_by stride words stored
+sets_by-copied {stride} {words} {shared} {stored} laid i start room inside is =
+    let new : List ℕ = words ++ take (start + stride - start) (drop start words) in
+    map-set (stored_set stride new) stored i (length shared)
+    ∙ ap₂ (λ ss s. set ss i s)
+    (sets_by-same stride words new stored (λ j lt.
+    stored_set-kept stride words (length shared) start laid.long room (get_or stored j 0) (laid.named j lt)))
+    (stored_set-copy stride words (length shared) start laid.long room
+    ∙ ap (λ at. row_set at stride words) is ∙ sym (row-sets_by stride words stored i inside))
+    ∙ set-get_or (sets_by stride words stored) i set.empty
+
+-- ---- members below the width
+
 pub AllBelow-insert : (width n : ℕ) (s : NumberSet) → AllBelow width s → n < width → AllBelow width (set.insert s n)
 AllBelow-insert width n s below lt q m = elim (cases_eq q n) [
   | inl same ↦ omega arith
@@ -113,9 +155,36 @@ AllBelow-union width s t a b q m = by (set.contains s q) refl
     by true e = a q e
     by false e = b q (sym (ap (λ x. x || set.contains t q) e) ∙ sym (contains-union_nat s t q) ∙ m)
 
--- the words after a write to all of them
-pub written : (len : ℕ) (new old : List ℕ) → length new ≡ len → take len (new ++ drop (length new) old) ≡ new
-written len new old e = take-append-le len new (drop (length new) old) (omega arith) ∙ take_all len new (omega arith)
+-- the rows after one of them became another set
+pub AllBelow-set : (width : ℕ) (sets : List NumberSet) (i : ℕ) (s : NumberSet) → ((j : ℕ) → AllBelow width (row sets j))
+    → AllBelow width s → i < length sets → (j : ℕ) → AllBelow width (row (set sets i s) j)
+AllBelow-set width sets i s bounds below lt j = elim (cases_eq j i) [
+  | inl same ↦ subst (λ t. AllBelow width t) (sym (ap (λ k. row (set sets i s) k) same
+      ∙ get_or-set_same sets i s set.empty lt)) below
+  | inr ne ↦ subst (λ t. AllBelow width t) (sym (get_or-set_other sets i j s set.empty ne)) (bounds j)
+]
+
+pub AllBelow-empty : (width : ℕ) → AllBelow width set.empty
+AllBelow-empty width n m = absurd (let e : false ≡ true = sym (contains-empty nat_cmp n) ∙ m in cc)
+
+-- ---- unions
+
+pub union-idem : (s : NumberSet) → set.union s s ≡ s
+union-idem s = same_members (set.union s s) s (λ q. contains-union_nat s s q ∙ or_same (set.contains s q))
+  where
+    or_same : (b : Bool) → (b || b) ≡ b
+    or_same true = refl
+    or_same false = refl
+
+pub union-comm_nat : (s t : NumberSet) → set.union s t ≡ set.union t s
+union-comm_nat s t = same_members (set.union s t) (set.union t s) (λ q. contains-union_nat s t q
+    ∙ or_comm (set.contains s q) (set.contains t q) ∙ sym (contains-union_nat t s q))
+  where
+    or_comm : (a b : Bool) → (a || b) ≡ (b || a)
+    or_comm true true = refl
+    or_comm true false = refl
+    or_comm false true = refl
+    or_comm false false = refl
 
 -- ---- new rows
 
@@ -130,20 +199,18 @@ set_of-zeros n = same_members (set_of (replicate n 0)) set.empty (λ q.
     contains-set_of (replicate n 0) q ∙ ap (λ w. bit_at w (q % 64) == 1) (zeros_read n (q / 64))
     ∙ ap (λ b. b == 1) (bit_at-zero (q % 64)) ∙ sym (contains-empty nat_cmp q))
 
-pub sets_of-zeros : (stride rows n : ℕ) → rows * stride ≤ n
-    → sets_of stride rows (replicate n 0) ≡ replicate rows set.empty
-unfolding sets_of
-sets_of-zeros stride zero n le = refl
-sets_of-zeros stride (suc rows) n le =
-    let room : stride + rows * stride ≤ n = omega (arith, suc-mul rows stride) in
-    let first : set_of (take stride (replicate n 0)) ≡ set.empty = ap set_of (take-replicate stride n 0 (omega arith))
-    ∙ set_of-zeros stride in
-    let rest : sets_of stride rows (drop stride (replicate n 0)) ≡ replicate rows set.empty
-    = ap (sets_of stride rows) (drop-replicate stride n 0) ∙ sets_of-zeros stride rows (n - stride) (omega arith) in
-    cc
+-- all words are one row
+pub row_set-whole : (words : List ℕ) (len : ℕ) → length words ≡ len → row_set 0 len words ≡ set_of words
+row_set-whole words len e = ap set_of (take_all len words (omega arith))
 
-pub AllBelow-empty : (width : ℕ) → AllBelow width set.empty
-AllBelow-empty width n m = absurd (let e : false ≡ true = sym (contains-empty nat_cmp n) ∙ m in cc)
+-- rows that all name one stored row, which has no member
+pub sets_by-new : (stride rows : ℕ) → sets_by stride (replicate stride 0) (replicate rows 0) ≡ replicate rows set.empty
+sets_by-new stride zero = refl
+sets_by-new stride (suc rows) =
+    let none : 0 * stride ≡ 0 = omega arith in
+    ap₂ (λ s ss. s ∷ ss) (ap (λ at. row_set at stride (replicate stride 0)) none
+    ∙ row_set-whole (replicate stride 0) stride (length-replicate stride 0) ∙ set_of-zeros stride)
+    (sets_by-new stride rows)
 
 pub row-empty : (rows i : ℕ) → row (replicate rows set.empty) i ≡ set.empty
 row-empty rows i = elim (cases_lt i rows) [
@@ -152,40 +219,3 @@ row-empty rows i = elim (cases_lt i rows) [
       get_or_past (replicate rows set.empty) i set.empty
       (omega (arith, length-replicate rows (set.empty {R = nat_cmp})))
 ]
-
--- all words are one row
-pub row_set-whole : (words : List ℕ) (len : ℕ) → length words ≡ len → row_set 0 len words ≡ set_of words
-row_set-whole words len e = ap set_of (take_all len words (omega arith))
-
--- a row that is shown is among the words
-pub row_shown : {width stride rows : ℕ} {words : List ℕ} {sets : List NumberSet} (i : ℕ)
-    → IsLaidOut width stride rows words → sets_of stride rows words ≡ sets → i < length sets
-    → (i < rows) × (i * stride + stride ≤ length words)
-row_shown {width} {stride} {rows} {words} {sets} i laid shown lt =
-    let n : length sets ≡ rows = ap length (sym shown) ∙ length-sets_of stride rows words in
-    let below : i < rows = omega arith in
-    let long : length words ≡ rows * stride = laid.long in
-    (below, omega (arith, long, row_inside i stride rows below))
-
-pub shown_row : {width stride rows : ℕ} {words : List ℕ} {sets : List NumberSet} (i : ℕ)
-    → IsLaidOut width stride rows words → sets_of stride rows words ≡ sets → i < length sets
-    → row_set (i * stride) stride words ≡ row sets i
-shown_row {width} {stride} {rows} {words} {sets} i laid shown lt
-    = sym (row-sets_of stride rows words i (row_shown i laid shown lt).0) ∙ ap (λ ss. row ss i) shown
-
--- what is shown after a change of one row
-pub shown_changed : {width stride rows changes : ℕ} {old : List ℕ} (m : Matrix)
-    → record { width = width; sets = sets_of stride rows old; changes = changes } ≡ m
-    → (laid : IsLaidOut width stride rows old)
-    → (new : List ℕ) (i : ℕ) → i < length m.sets → length new ≡ length old
-    → ((k : ℕ) → (k < i * stride) ⊎ (i * stride + stride ≤ k) → get_or new k 0 ≡ get_or old k 0)
-    → (s : NumberSet) → row_set (i * stride) stride new ≡ s → record {
-      width = width;
-      sets = sets_of stride rows new;
-      changes = min (changes + 1) (2 ^ 64 - 1);
-    } ≡ with_row m i s
-shown_changed {width} {stride} {rows} {changes} {old} m shown laid new i lt long others s is =
-    let below : i < rows = (row_shown i laid (ap (λ v. v.sets) shown) lt).0 in
-    ap (λ ss. record { width = width; sets = ss; changes = min (changes + 1) (2 ^ 64 - 1) })
-    (sets_of-changed laid new i below long others s is)
-    ∙ ap (λ v. with_row v i s) shown

@@ -7,6 +7,7 @@ use Rattle.std.specs.Int.{bit_at, w64}
 use Rattle.std.proofs.lemmas.Bool.{cases_lt, cases_eq}
 use Rattle.std.proofs.lemmas.List.{get_or-set_same, get_or-set_other}
 use Rattle.std.proofs.lemmas.Nat.Bits.{bit_at-lt, bit_at_or, bit_at_set_same, bit_at_set_other, same_from_bits_below}
+use Rattle.std.proofs.lemmas.Nat.{or_lt}
 use Rattle.std.proofs.lemmas.Simd.{get_or-chunk}
 use lib.Lanes.{chunk}
 use Rattle.ly_sets.specs.NumberSet.{NumberSet, row_set}
@@ -43,6 +44,14 @@ pub row_set_same : (old new : List ℕ) (start len : ℕ)
 row_set_same old new start len same = row_set_by new start len (row_set start len old)
     (λ q lt. ap (λ w. bit_at w (q % 64) == 1) (same (q / 64) (omega arith)) ∙ sym (contains-row_set old start len q lt))
     (λ q ge. contains-row_set-past old start len q ge)
+
+-- the same words elsewhere are the same set
+pub row_set_as : (old new : List ℕ) (at to len : ℕ)
+    → ((k : ℕ) → k < len → get_or new (to + k) 0 ≡ get_or old (at + k) 0)
+    → row_set to len new ≡ row_set at len old
+row_set_as old new at to len same = row_set_by new to len (row_set at len old)
+    (λ q lt. ap (λ w. bit_at w (q % 64) == 1) (same (q / 64) (omega arith)) ∙ sym (contains-row_set old at len q lt))
+    (λ q ge. contains-row_set-past old at len q ge)
 
 -- the same set is of the same words
 pub row_words_same : (old new : List ℕ) (start len : ℕ) → ((k : ℕ) → k < len → get_or old (start + k) 0 < 2 ^ 64)
@@ -129,3 +138,25 @@ row_set-union old new to from len united = row_set_by new to len (set.union (row
     ∙ ap₂ (λ a b. a || b) (contains-row_set old to len q lt) (contains-row_set old from len q lt)))
     (λ q ge. contains-union_nat (row_set to len old) (row_set from len old) q
     ∙ ap₂ (λ a b. a || b) (contains-row_set-past old to len q ge) (contains-row_set-past old from len q ge))
+
+-- a row that holds another has all bits of its words
+pub row_holds_words : (words : List ℕ) (of from len : ℕ) → ((k : ℕ) → get_or words k 0 < 2 ^ 64)
+    → set.union (row_set of len words) (row_set from len words) ≡ row_set of len words → (k : ℕ) → k < len
+    → bit_or (get_or words (of + k) 0) (get_or words (from + k) 0) ≡ get_or words (of + k) 0
+row_holds_words words of from len fits same k lt
+    = same_from_bits_below 64 _ _ (or_lt 64 _ _ (fits (of + k)) (fits (from + k))) (fits (of + k)) (λ i below.
+    let word : (64 * k + i) / 64 ≡ k = omega arith in
+    let bit : (64 * k + i) % 64 ≡ i = omega arith in
+    let q_lt : 64 * k + i < 64 * len = omega arith in
+    let is : (start : ℕ) → set.contains (row_set start len words) (64 * k + i)
+    ≡ (bit_at (get_or words (start + k) 0) i == 1) =
+    λ start. contains-row_set words start len (64 * k + i) q_lt
+    ∙ ap₂ (λ w b. bit_at (get_or words (start + w) 0) b == 1) word bit in
+    either_test (bit_at (get_or words (of + k) 0) i) (bit_at (get_or words (from + k) 0) i) _
+    (bit_at-lt _ i) (bit_at-lt _ i) (bit_at_or _ _ i)
+    (sym (ap₂ (λ a b. a || b) (is of) (is from))
+    ∙ sym (contains-union_nat (row_set of len words) (row_set from len words) (64 * k + i))
+    ∙ ap (λ s. set.contains s (64 * k + i)) same ∙ is of))
+  where
+    either_test : (a b c : ℕ) → a < 2 → b < 2 → c ≡ max a b → ((a == 1) || (b == 1)) ≡ (a == 1) → c ≡ a
+    either_test a b c p q e h = grind arith

@@ -1,4 +1,5 @@
 pub mod NumberSet
 pub mod TermSet
 pub mod SetMatrix
+pub mod Rows
 pub mod Union

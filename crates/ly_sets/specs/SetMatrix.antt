@@ -1,9 +1,9 @@
 -- What a `SetMatrix` shows.
-use Rattle.std.specs.Prelude.{ℕ, zero, suc, ◌+◌, ◌^◌, ◌-◌, ◌*◌, ◌/◌, ◌≤◌, ◌≡◌, length, min, List, [], ◌∷◌, take, drop}
+use Rattle.std.specs.Prelude.{ℕ, ◌+◌, ◌^◌, ◌-◌, min, List}
 use Rattle.std.specs.Prelude.{slice_index_or, slice_set, refl}
 use Rattle.std.specs.Coded.{Coded, code_by, coded×, coded_ℕ, coded_list}
 use Rattle.std.specs.FinSet as set
-use Rattle.ly_sets.specs.NumberSet.{NumberSet, set_of, AllBelow}
+use Rattle.ly_sets.specs.NumberSet.{NumberSet}
 
 -- one set of numbers below the width for each row, and how many changes were asked for
 pub record Matrix : Type 0 where
@@ -22,15 +22,3 @@ row sets i = slice_index_or sets i set.empty
 -- the matrix after one more change, by which row i became s
 abbrev pub with_row : Matrix → ℕ → NumberSet → Matrix
 with_row m i s = record m { sets = slice_set m.sets i s; changes = min (m.changes + 1) (2 ^ 64 - 1) }
-
--- the sets of the rows, each of `stride` words
-unfoldable pub sets_of : ℕ → ℕ → List ℕ → List NumberSet
-sets_of stride zero words = []
-sets_of stride (suc rows) words = set_of (take stride words) ∷ sets_of stride rows (drop stride words)
-
--- how the words lie: whole blocks a row, with room for the width, and only numbers below it in a row
-pub record IsLaidOut (width stride rows : ℕ) (words : List ℕ) : Type 0 where
-  pub long : length words ≡ rows * stride
-  pub blocks : (stride / 4) * 4 ≡ stride
-  pub room : width ≤ 64 * stride
-  pub bounds : (i : ℕ) → AllBelow width (row (sets_of stride rows words) i)

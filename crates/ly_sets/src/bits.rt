@@ -3,6 +3,7 @@
 //! A row is whole blocks of four words, so a union has no tail: the words past the width are words
 //! like the others, in which no bit is ever set.
 ghost use Rattle.std.specs.Prelude.{◌≡◌, ◌+◌, ◌*◌, ◌-◌, ◌/◌, ◌<◌, ◌≤◌, ◌↔◌, ◌⊎◌, ℕ, length, true, false, slice_index};
+ghost use Rattle.std.specs.Prelude.{IsTrue};
 ghost use Rattle.std.specs.FinSet as set;
 ghost use Rattle.ly_sets.specs.NumberSet.{row_set, AllBelow};
 ghost use Rattle.ly_sets.specs.Union.{IsUnited, united_block};
@@ -53,6 +54,21 @@ pub(crate) fn count_bits(words: &[u64], start: usize, len: usize, width: usize) 
         count += word.count_ones() as usize;
     }
     count
+}
+
+/// Whether the row from `of` on has all numbers of the one from `from` on.
+pub(crate) fn holds_row(words: &[u64], of: usize, from: usize, len: usize) -> bool
+    requires of_inside { of + len ≤ length words.now }
+    requires from_inside { from + len ≤ length words.now }
+    ensures { IsTrue result ↔
+        (set.union (row_set of len words.now) (row_set from len words.now) ≡ row_set of len words.now) }
+{
+    for word in 0..len {
+        if words[of + word] | words[from + word] != words[of + word] {
+            return false;
+        }
+    }
+    true
 }
 
 /// Puts the row from `from` on into the one from `to` on, and tells whether that one grew.

@@ -57,7 +57,7 @@ fn ring(alloc: Global, nodes: u32) -> Result<Graph, OutOfMemory> {
 /// Whether each node of a chain gets the number of the last one, by few changes.
 fn is_chain_solved(alloc: Global, nodes: u32) -> Result<bool, OutOfMemory> {
     let mut sets = SetMatrix::new(alloc, nodes as usize, 1)?;
-    insert(&mut sets, nodes.saturating_sub(1) as usize, 0);
+    insert(&mut sets, nodes.saturating_sub(1) as usize, 0)?;
     let rise = solve(alloc, chain(alloc, nodes)?, &mut sets)?;
     Ok(rise <= u64::from(nodes).saturating_mul(2) && all_hold_first(&sets))
 }
@@ -82,7 +82,7 @@ fn is_ring_solved(alloc: Global, nodes: u32) -> Result<bool, OutOfMemory> {
 fn own_numbers(alloc: Global, nodes: u32) -> Result<SetMatrix, OutOfMemory> {
     let mut sets = SetMatrix::new(alloc, nodes as usize, nodes as usize)?;
     for number in 0..nodes {
-        insert(&mut sets, number as usize, number);
+        insert(&mut sets, number as usize, number)?;
     }
     Ok(sets)
 }

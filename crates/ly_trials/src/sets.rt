@@ -17,7 +17,9 @@ const FIFTHS: (bool, bool) = (false, true);
 const BOTH: (bool, bool) = (true, true);
 
 /// A row that grows, the row by which, and what the three rows hold then.
-const UNIONS: [(usize, usize, [(bool, bool); 3]); 8] = [
+type Union = (usize, usize, [(bool, bool); 3]);
+
+const UNIONS: [Union; 8] = [
     (0, 0, [THIRDS, FIFTHS, NONE]),
     (2, 2, [THIRDS, FIFTHS, NONE]),
     (1, 0, [THIRDS, BOTH, NONE]),
@@ -28,16 +30,25 @@ const UNIONS: [(usize, usize, [(bool, bool); 3]); 8] = [
     (1, 2, [BOTH, BOTH, BOTH]),
 ];
 
+/// A row takes all of another, and then each of the two gets more.
+const PARTED: [Union; 4] = [
+    (2, 0, [THIRDS, FIFTHS, THIRDS]),
+    (0, 1, [BOTH, FIFTHS, THIRDS]),
+    (2, 1, [BOTH, FIFTHS, BOTH]),
+    (1, 2, [BOTH, BOTH, BOTH]),
+];
+
 /// Whether a number is among those that a row holds.
 fn is_in(held: (bool, bool), number: u32) -> bool {
     held.0 && number % 3 == 2 || held.1 && number % 5 == 4
 }
 
 /// Adds a number to a row that has room for it.
-pub(crate) fn insert(sets: &mut SetMatrix, row: usize, number: u32) {
+pub(crate) fn insert(sets: &mut SetMatrix, row: usize, number: u32) -> Result<(), OutOfMemory> {
     if row < sets.rows() && (number as usize) < sets.width() {
-        sets.insert(row, Sym(number));
+        sets.insert(row, Sym(number))?;
     }
+    Ok(())
 }
 
 /// Whether there is such a row, and a number is in it.
@@ -66,32 +77,35 @@ fn is_row(sets: &SetMatrix, row: usize, width: u32, held: (bool, bool)) -> bool 
 }
 
 /// Grows a row by another, and answers whether it was said rightly that it grew.
-fn unite(sets: &mut SetMatrix, to: usize, from: usize) -> bool {
+fn unite(sets: &mut SetMatrix, to: usize, from: usize) -> Result<bool, OutOfMemory> {
     let before = count(sets, to);
-    let grew = to < sets.rows() && from < sets.rows() && sets.union_row(to, from);
-    grew == (count(sets, to) != before)
+    let mut grew = false;
+    if to < sets.rows() && from < sets.rows() {
+        grew = sets.union_row(to, from)?;
+    }
+    Ok(grew == (count(sets, to) != before))
 }
 
 /// Whether the unions of a width are the plain ones, one change each.
-fn are_united(alloc: Global, width: u32) -> Result<bool, OutOfMemory> {
+fn are_united(alloc: Global, width: u32, unions: &[Union]) -> Result<bool, OutOfMemory> {
     let mut sets = SetMatrix::new(alloc, 3, width as usize)?;
     for number in 0..width {
         if is_in(THIRDS, number) {
-            insert(&mut sets, 0, number);
+            insert(&mut sets, 0, number)?;
         }
         if is_in(FIFTHS, number) {
-            insert(&mut sets, 1, number);
+            insert(&mut sets, 1, number)?;
         }
     }
     let inserted = sets.changes();
     let mut same = true;
-    for (to, from, rows) in &UNIONS {
-        same &= unite(&mut sets, *to, *from);
+    for (to, from, rows) in unions {
+        same &= unite(&mut sets, *to, *from)?;
         for (row, held) in rows.iter().enumerate() {
             same &= is_row(&sets, row, width, *held);
         }
     }
-    Ok(same && sets.changes().wrapping_sub(inserted) == 8)
+    Ok(same && sets.changes().wrapping_sub(inserted) == unions.len() as u64)
 }
 
 /// Whether there is room for a number in a set, and the set has it.
@@ -129,7 +143,8 @@ fn is_set(alloc: Global, width: u32) -> Result<bool, OutOfMemory> {
 /// The first of `WIDTHS` at which a set or rows are otherwise.
 fn otherwise(alloc: Global) -> Result<Option<u32>, OutOfMemory> {
     for width in WIDTHS {
-        if !is_set(alloc, width)? || !are_united(alloc, width)? {
+        let united = are_united(alloc, width, &UNIONS)? && are_united(alloc, width, &PARTED)?;
+        if !is_set(alloc, width)? || !united {
             return Ok(Some(width));
         }
     }

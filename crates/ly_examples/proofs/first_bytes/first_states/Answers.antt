@@ -3,7 +3,7 @@ use Rattle.std.proofs.lemmas.Bool.{iff_false}
 use Rattle.ly_examples.specs.Private.FirstBytes.{AreFirstBefore, HasFirst}
 use Rattle.ly_examples.proofs.FirstByteLemmas.{first_row_more, first_row_same, no_first_rows}
 use Rattle.ly_examples.proofs.first_bytes.first_states.Goals as goal
-use Rattle.ly_examples.proofs.first_bytes.first_states.Goals.{else-returns_first, then-returns_first}
+use Rattle.ly_examples.proofs.first_bytes.first_states.Goals.{else-returns_first, then-returns_first+in_ok-insert}
 
 pub loop-state-init : goal.loop-state-init
 loop-state-init c = no_first_rows c.args.actions.now c.args.dfa.now c.in_ok-sets.sets c.len.result c.len.ensures.count
@@ -15,12 +15,12 @@ loop-state-preserved c =
     let A = c.args.dfa.now in
     let n = c.loop-state.state in
     elim c.if-returns_first.branch [
-      | then-returns_first w ↦ rw w.sets-is
+      | then-returns_first+in_ok-insert w ↦ rw w.sets-is
           (first_row_more acts A n c.loop-state.sets w.insert.new.self
           (let end = c.in_ok-state-end.ensures.count in let lt = c.loop-state-test.true in omega (arith, end, lt))
           c.loop-state.invariant
           (subst (HasFirst acts) c.rule.ensures (c.returns_first.ensures.0 w.if-returns_first.true))
-          w.insert.ensures)
+          w.in_ok-insert.ensures.ok)
       | else-returns_first w ↦ rw w.sets-is
           (first_row_same acts A n c.loop-state.sets c.loop-state.invariant
           (λ has. iff_false c.returns_first.ensures w.if-returns_first.false

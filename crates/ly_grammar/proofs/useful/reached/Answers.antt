@@ -56,7 +56,7 @@ returns-clause-exact c =
     let R = restricted kept G in
     let at = c.start.result.0 in
     let given : c.insert.new.self.sets ≡ one_member (G.accept + 1) G.start
-    = ap (λ m. m.sets) c.insert.ensures
+    = ap (λ m. m.sets) c.in_ok-insert.ensures.ok
     ∙ ap (λ m. slice_set m.sets at (set.insert (row m.sets at) 0)) c.in_ok-sets.ensures
     ∙ ap (λ k. one_member (k + 1) at) c.accept.ensures ∙ ap (one_member (G.accept + 1)) c.start.ensures.value in
     let all : take c.loop-number.number R.rules ≡ R.rules = take_all c.loop-number.number R.rules

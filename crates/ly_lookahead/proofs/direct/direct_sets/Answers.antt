@@ -11,7 +11,7 @@ use Rattle.ly_lookahead.proofs.DirectLemmas.{shift_below, target_within}
 use Rattle.ly_lookahead.proofs.SetLemmas.{shown_at}
 use Rattle.ly_lookahead.proofs.direct.direct_sets.Goals as goal
 use Rattle.ly_lookahead.proofs.direct.direct_sets.Goals.{else-eq, else-eq-via-else-eq, else-eq-via-then-eq+else-eq-2}
-use Rattle.ly_lookahead.proofs.direct.direct_sets.Goals.{then-eq+then-eq-2}
+use Rattle.ly_lookahead.proofs.direct.direct_sets.Goals.{then-eq+then-eq-2+in_ok-insert}
 
 pub loop-number-init : goal.loop-number-init
 loop-number-init c = record {
@@ -53,14 +53,14 @@ insert-requires-clause-row c =
     let lt = c.loop-number-test.true in
     let room = c.requires.room in
     let long = c.loop-number.invariant.long in
-    let same = c.insert_row.ensures.rows in
+    let same = c.in_ok-insert_row.ensures.rows in
     omega (arith, lt, room, long, same)
 
 pub insert-requires-clause-below : goal.insert-requires-clause-below
 insert-requires-clause-below c =
     let some = c.requires.lawful.augmented.end_within in
     let width = c.loop-number.invariant.width in
-    let same = c.insert_row.ensures.width in
+    let same = c.in_ok-insert_row.ensures.width in
     omega (arith, some, width, same)
 
 pub loop-number-preserved : goal.loop-number-preserved
@@ -75,17 +75,17 @@ loop-number-preserved c =
     let new = c.if-eq.sets.sets in
     let at = shown_at goto_from no_goto items k c.loop-number-test.true in
     let one = direct_more M c.requires.lawful x (c.requires.gotos.are k x at) (map goto_from items) k old now new at
-    inv.direct c.insert_row.ensures.inserted in
+    inv.direct c.in_ok-insert_row.ensures.inserted in
     let lt = c.loop-number-test.true in
     let room = c.requires.room in
     let long = inv.long in
-    let same = c.insert_row.ensures.rows in
+    let same = c.in_ok-insert_row.ensures.rows in
     elim c.if-eq.branch [
-      | then-eq+then-eq-2 w ↦
-          let is = ap (λ m. m.sets) (w.sets-is ∙ w.insert.ensures) in
+      | then-eq+then-eq-2+in_ok-insert w ↦
+          let is = ap (λ m. m.sets) (w.sets-is ∙ w.in_ok-insert.ensures.ok) in
           record {
             long = ap length is ∙ (length-set now k (set.insert (row now k) 0) ∙ same ∙ long);
-            width = ap (λ m. m.width) (w.sets-is ∙ w.insert.ensures) ∙ c.insert_row.ensures.width ∙ inv.width;
+            width = ap (λ m. m.width) (w.sets-is ∙ w.in_ok-insert.ensures.ok) ∙ c.in_ok-insert_row.ensures.width ∙ inv.width;
             start = inv.start;
             direct = one (end_came M x k now new (omega (arith, lt, room, long, same)) is
                 (eqb-true x.from 0 (sym c.eq.ensures ∙ w.if-eq.true))
@@ -95,7 +95,7 @@ loop-number-preserved c =
           let is = ap (λ m. m.sets) w.sets-is in
           record {
             long = ap length is ∙ same ∙ long;
-            width = ap (λ m. m.width) w.sets-is ∙ c.insert_row.ensures.width ∙ inv.width;
+            width = ap (λ m. m.width) w.sets-is ∙ c.in_ok-insert_row.ensures.width ∙ inv.width;
             start = inv.start;
             direct = one (end_stays M x k now new is (elim w.else-eq.branch [
               | else-eq-via-then-eq+else-eq-2 v ↦ λ from symbol.

@@ -11,7 +11,7 @@ use Rattle.ly_lookahead.specs.Private.Sets.{AreInserted}
 use Rattle.ly_lookahead.proofs.DirectLemmas.{inserted_more, inserted_none, inserted_past, over_terminal}
 use Rattle.ly_lookahead.proofs.SetLemmas.{inserted_one}
 use Rattle.ly_lookahead.proofs.direct.insert_row.Goals as goal
-use Rattle.ly_lookahead.proofs.direct.insert_row.Goals.{in-Terminal, in_default}
+use Rattle.ly_lookahead.proofs.direct.insert_row.Goals.{in-Terminal+in_ok-insert, in_default}
 
 pub loop-transition-init : goal.loop-transition-init
 loop-transition-init c = record {
@@ -50,12 +50,12 @@ loop-transition-preserved c =
     let long = inv.long in
     let more = sym (shown_more ts i c.loop-transition-test.true) in
     elim c.match-transition.branch [
-      | in-Terminal w ↦
+      | in-Terminal+in_ok-insert w ↦
           let q = w.in-Terminal.terminal.0 in
-          let is = ap (λ m. m.sets) (w.sets-is ∙ w.insert.ensures) in
+          let is = ap (λ m. m.sets) (w.sets-is ∙ w.in_ok-insert.ensures.ok) in
           record {
             long = ap length is ∙ (length-set now n (set.insert (row now n) q) ∙ long);
-            width = ap (λ m. m.width) (w.sets-is ∙ w.insert.ensures) ∙ inv.width;
+            width = ap (λ m. m.width) (w.sets-is ∙ w.in_ok-insert.ensures.ok) ∙ inv.width;
             inserted = subst (λ xs. AreInserted xs n old new) more
                 (inserted_more before u n q old now new (ap symbol_of w.in-Terminal.is) inv.inserted
                 (inserted_one now new n q (omega (arith, lt, long)) is));

@@ -53,5 +53,5 @@ returns c =
     let new = c.look_back.new.sets.sets in
     are_lookaheads M c.states.ensures.lawful R c.in_ok-relations.ensures first rows inside old new
     c.in_ok-sets.ensures.follows
-    (subst (λ f. AreLookedBack M f R.lookbacks old new) c.deref.ensures.value c.look_back.ensures.united)
-    (c.look_back.ensures.rows ∙ (c.in_ok-sets.ensures.rows ∙ sym last))
+    (subst (λ f. AreLookedBack M f R.lookbacks old new) c.deref.ensures.value c.in_ok-look_back.ensures.united)
+    (c.in_ok-look_back.ensures.rows ∙ (c.in_ok-sets.ensures.rows ∙ sym last))

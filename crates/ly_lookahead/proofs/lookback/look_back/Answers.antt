@@ -15,7 +15,7 @@ use Rattle.ly_lookahead.proofs.LookaheadLemmas.{complete_once, complete_rising, 
 use Rattle.ly_lookahead.proofs.LookaheadLemmas.{rows_apart, rows_count}
 use Rattle.ly_lookahead.proofs.SetLemmas.{lookback_seen, looked_more, looked_past, no_lookback, stays}
 use Rattle.ly_lookahead.proofs.lookback.look_back.Goals as goal
-use Rattle.ly_lookahead.proofs.lookback.look_back.Goals.{in-Some, in_default}
+use Rattle.ly_lookahead.proofs.lookback.look_back.Goals.{in-Some+in_ok-union_row, in_default}
 
 -- the lookback of a number is of a state and of a node
 seen_within : (M : Lr0Automaton) → IsLr0Automaton M → (R : Relations) → AreRelations M R
@@ -99,14 +99,14 @@ loop-lookback-preserved c =
     let now = c.loop-lookback.sets.sets in
     let kept = c.loop-lookback.invariant.long in
     elim c.match-place_of.branch [
-      | in-Some w ↦
+      | in-Some+in_ok-union_row w ↦
           let k = w.in-Some.place in
           let place = subst (λ xs. slice_get xs k ≡ Some l.rule) c.complete.ensures w.in-Some.ensures in
           let lt = place_within M c.requires.lawful R c.requires.relations first c.requires.rows l.state k
           l.rule in_state place in
           let long = c.requires.long in
           let to = slice_index_or first l.state 0 + k in
-          let is = ap (λ m. m.sets) (w.sets-is ∙ w.union_row.ensures.united) in
+          let is = ap (λ m. m.sets) (w.sets-is ∙ w.in_ok-union_row.ensures.united) in
           record {
             long = ap length is ∙ (length-set now to (set.union (row now to) (row now l.node)) ∙ kept);
             united = looked_more M first R.lookbacks i l at k place

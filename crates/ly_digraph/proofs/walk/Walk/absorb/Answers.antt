@@ -24,7 +24,7 @@ new_sets c =
     ap (λ f. f.node)
     (top_read c.args.self.now c.len.result c.index.result.now c.requires.waits.some c.len.ensures c.index.ensures)
     in
-    c.union_row.ensures.united ∙ ap₂ (λ p q. united c.args.sets.now p q) node c.requires.next
+    c.in_ok-union_row.ensures.united ∙ ap₂ (λ p q. united c.args.sets.now p q) node c.requires.next
 
 pub returns-clause-on : goal.returns-clause-on
 returns-clause-on c =

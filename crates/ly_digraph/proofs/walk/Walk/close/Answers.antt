@@ -58,7 +58,7 @@ loop-position-preserved c =
     record {
       closed = subst (λ m. IsClosed c.args.sets.now m c.args.self.now.places.items
           (set c.loop-position.self.places.items c.index-member.result.now Done) c.args.root.start
-          (c.loop-position.position + 1) c.args.root.node) (sym c.union_row.ensures.united) more;
+          (c.loop-position.position + 1) c.args.root.node) (sym c.in_ok-union_row.ensures.united) more;
       pending = c.loop-position.invariant.pending;
       cursors = c.loop-position.invariant.cursors;
       path = c.loop-position.invariant.path;

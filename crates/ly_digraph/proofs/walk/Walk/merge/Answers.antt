@@ -34,7 +34,7 @@ returns-clause-on c =
     ap (λ f. f.node) (top_read c.args.self.now c.len.result c.index.result.now some c.len.ensures c.index.ensures)
     in
     let new : c.union_row.new.self ≡ united c.args.sets.now (top c.args.self.now).node c.args.frame.node
-    = c.union_row.ensures.united ∙ ap (λ p. united c.args.sets.now p c.args.frame.node) node in
+    = c.in_ok-union_row.ensures.united ∙ ap (λ p. united c.args.sets.now p c.args.frame.node) node in
     subst (λ m. Continues c.args.graph.now c.args.sets.now c.args.self.now m c.advance.new.self) (sym new)
     (merge_on c.args.graph.now c.args.sets.now c.args.self.now c.args.frame c.requires.at c.requires.spent
     c.requires.turns c.lower.new.self c.lower.ensures
