@@ -76,14 +76,15 @@ fn form_of_flex(unit: Unit, line: &[u8]) -> Option<&'static str> {
 fn form_of_others(kind: LexFaultKind, line: &[u8], before: usize) -> Option<&'static str> {
     match kind {
         LexFaultKind::Pattern(EreFaultKind::BadInterval | EreFaultKind::UnknownName)
-            if ends_with_escape(line.get(..before).unwrap_or(line)) =>
-        {
+            if ends_with_escape(line.get(..before).unwrap_or(line)) => {
             Some(
                 "a byte is written with two digits and no braces, as `\\x41`; a character of several bytes as itself",
             )
         }
         LexFaultKind::UnknownCondition if before == 0 => {
-            Some("a list of conditions is `<NAME>` or `<NAME,NAME>`: for the byte write `\\<` or `\"<\"`")
+            Some(
+                "a list of conditions is `<NAME>` or `<NAME,NAME>`: for the byte write `\\<` or `\"<\"`",
+            )
         }
         _ => None,
     }
@@ -197,10 +198,7 @@ fn is_turned(rest: &[u8]) -> bool {
 
 /// The number in front of a text, and what stands behind it; none where none of three digits or fewer is there.
 fn leading_count(text: &[u8]) -> Option<(u32, &[u8])> {
-    let digits = text
-        .iter()
-        .take_while(|byte| byte.is_ascii_digit())
-        .count();
+    let digits = text.iter().take_while(|byte| byte.is_ascii_digit()).count();
     if digits == 0 || digits > 3 {
         return None;
     }

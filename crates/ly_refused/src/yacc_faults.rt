@@ -82,7 +82,9 @@ fn mend_fault(
 fn told_offset(text: &[u8], kind: YaccFaultKind, offset: usize) -> usize {
     let rest = from_offset(text, offset);
     match (kind, leading_name(rest, Language::Yacc)) {
-        (YaccFaultKind::BadRule, Some((name, [0x80..=0xFF, ..]))) => offset.saturating_add(name.len()),
+        (YaccFaultKind::BadRule, Some((name, [0x80..=0xFF, ..]))) => offset.saturating_add(
+            name.len(),
+        ),
         _ => offset,
     }
 }
