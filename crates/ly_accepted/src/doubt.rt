@@ -60,7 +60,12 @@ pub(crate) enum DoubtKind<'a> {
     /// So many terminals more are returned by no rule.
     MoreUnreturned(usize),
     /// This token is declared before.
-    DeclaredAgain(&'a SymbolName),
+    DeclaredAgain {
+        /// It.
+        symbol: &'a SymbolName,
+        /// The line on which it is declared first.
+        first: u64,
+    },
     /// The precedence of this terminal decides nothing.
     IdlePrecedence(Sym),
     /// The `%prec` of this rule decides nothing.

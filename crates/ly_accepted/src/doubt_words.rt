@@ -5,6 +5,7 @@ use crate::patterns::Surprise;
 use crate::surprise_words::say_surprise;
 use crate::surveying::{Accepted, first_of, say_numbered};
 use ly_base::locate;
+use ly_join::{Grammar, Symbol};
 use ly_page::{Named, Page};
 use ly_yaccread::SymbolName;
 
@@ -81,12 +82,12 @@ fn say_of_rule(page: &mut Page, files: &Accepted<'_>, kind: &DoubtKind<'_>) {
             );
         }
         DoubtKind::UnreducedRule(rule) => {
-            say_numbered(
-                page,
-                b"rule ",
-                *rule as u64,
-                b" is never reduced: conflicts and precedence leave it nothing",
-            );
+            let words = if is_roundabout(files.spec.grammar(), *rule) {
+                b" is never reduced, and of no use: it makes its left side of that alone".as_slice()
+            } else {
+                b" is never reduced: conflicts and precedence leave it nothing"
+            };
+            say_numbered(page, b"rule ", *rule as u64, words);
         }
         DoubtKind::LosingRule(rule) => {
             let words = b" has no action: its tree is that of its first symbol, ";
@@ -105,6 +106,14 @@ fn say_of_rule(page: &mut Page, files: &Accepted<'_>, kind: &DoubtKind<'_>) {
             );
         }
         _ => {}
+    }
+}
+
+/// Whether the body of a rule is its left side alone.
+fn is_roundabout(grammar: &Grammar, rule: usize) -> bool {
+    match (grammar.rules().get(rule), body_of(grammar, rule)) {
+        (Some(rule), [Symbol::Nonterminal(only)]) => rule.left() == *only,
+        _ => false,
     }
 }
 
@@ -137,12 +146,12 @@ fn say_of_terminal(page: &mut Page, files: &Accepted<'_>, kind: &DoubtKind<'_>) 
                 b" terminals more are returned by no rule",
             );
         }
-        DoubtKind::DeclaredAgain(symbol) => {
+        DoubtKind::DeclaredAgain { symbol, first } => {
             match symbol {
                 SymbolName::Name(name) => page.say(name),
                 SymbolName::Literal(byte) => page.say_byte(*byte),
             }
-            page.say(b" is declared before");
+            say_numbered(page, b" is declared before, on line ", *first, b"");
         }
         DoubtKind::IdlePrecedence(terminal) => {
             page.say(b"the precedence of ");
@@ -208,7 +217,7 @@ pub(crate) fn name_of(kind: &DoubtKind<'_>) -> &'static [u8] {
         DoubtKind::LosingRule(_) => b"LosingRule",
         DoubtKind::UnusedTerminal(_) | DoubtKind::MoreUnused(_) => b"UnusedTerminal",
         DoubtKind::UnreturnedTerminal(_) | DoubtKind::MoreUnreturned(_) => b"UnreturnedTerminal",
-        DoubtKind::DeclaredAgain(_) => b"DeclaredAgain",
+        DoubtKind::DeclaredAgain { .. } => b"DeclaredAgain",
         DoubtKind::IdlePrecedence(_) => b"IdlePrecedence",
         DoubtKind::IdlePrec(_) => b"IdlePrec",
     }

@@ -150,9 +150,12 @@ impl<'a> Finder<'a> {
     /// Finds which tokens are declared more than once.
     fn find_declared_again(&mut self, alloc: Global) -> Result<(), OutOfMemory> {
         let (places, text) = (self.places, self.files.yacc.bytes);
-        for (offset, symbol) in first_of(&places.declared_again(alloc)?, MOST) {
-            let at = locate(text, *offset);
-            self.add(Some(at), DoubtKind::DeclaredAgain(symbol))?;
+        for again in first_of(&places.declared_again(alloc)?, MOST) {
+            let kind = DoubtKind::DeclaredAgain {
+                symbol: again.symbol,
+                first: locate(text, again.first).line,
+            };
+            self.add(Some(locate(text, again.offset)), kind)?;
         }
         Ok(())
     }

@@ -22,6 +22,17 @@ pub(crate) struct Places {
     ranked: Vec<usize>,
 }
 
+/// A symbol that a `%token` declares, and another one before it.
+#[derive(Drop)]
+pub(crate) struct DeclaredAgain<'p> {
+    /// The symbol.
+    pub(crate) symbol: &'p SymbolName,
+    /// Where it is declared again.
+    pub(crate) offset: usize,
+    /// Where it is declared first.
+    pub(crate) first: usize,
+}
+
 /// Of how many rules with a `%prec` it is looked at what stands behind that.
 const RANKS: usize = 1_000;
 
@@ -75,24 +86,35 @@ impl Places {
         Ok(losing)
     }
 
-    /// The symbols that a `%token` declares, and another one before it, with their offsets.
+    /// The symbols that a `%token` declares, and another one before it.
     pub(crate) fn declared_again(
         &self,
         alloc: Global,
-    ) -> Result<Vec<(usize, &SymbolName)>, OutOfMemory> {
+    ) -> Result<Vec<DeclaredAgain<'_>>, OutOfMemory> {
         let mut again = Vec::new(alloc);
         let Some(file) = &self.file else {
             return Ok(again);
         };
         let mut known = IndexSet::new(alloc);
+        let mut firsts = Vec::new(alloc);
         let mut offsets = file.token_offsets.iter();
         for declaration in &file.declarations {
             for symbol in &declaration.symbols {
-                let offset = offsets.next().copied().unwrap_or(0);
-                if declaration.kind == DeclarationKind::Token
-                    && !known.insert(key_of(alloc, symbol)?)?
-                {
-                    again.push((offset as usize, symbol))?;
+                let offset = offsets.next().copied().unwrap_or(0) as usize;
+                if declaration.kind != DeclarationKind::Token {
+                    continue;
+                }
+                let key = key_of(alloc, symbol)?;
+                match known.get_index_of(key.as_slice()) {
+                    Some(place) => again.push(DeclaredAgain {
+                        symbol,
+                        offset,
+                        first: firsts.get(place).copied().unwrap_or(0),
+                    })?,
+                    None => {
+                        known.insert(key)?;
+                        firsts.push(offset)?;
+                    }
                 }
             }
         }

@@ -8,11 +8,12 @@ use crate::nearest::nearest;
 use crate::pieces::behind_piece;
 use crate::short::Short;
 use crate::yacc_faults::MendedYacc;
-use crate::yacc_offsets::symbol_location;
+use crate::yacc_offsets::{given_offset, symbol_location};
 use ly_base::{Language, Limits, Location, OutOfMemory, after_gap, locate};
 use ly_generate::GenFault;
-use ly_join::{JoinFault, join};
+use ly_join::{JoinFault, TerminalName, join};
 use ly_lexread::{LexAction, Returned};
+use ly_page::Page;
 use ly_yaccread::{SymbolName, WordSpan, YaccFile, word_spans};
 use std::alloc::Global;
 use std::rc::RcSlice;
@@ -113,7 +114,21 @@ impl Joining<'_> {
         if !is_new {
             return Ok(None);
         }
+        if let JoinFault::PrecedenceTwice(terminal) = fault {
+            return Ok(Some(self.leave_one_out(alloc, terminal)?));
+        }
         Ok(Some(join_advice(alloc, fault, &self.yacc.file, &self.said)?))
+    }
+
+    /// The advice for a terminal that has two precedences: where it has the first.
+    fn leave_one_out(&self, alloc: Global, terminal: &TerminalName) -> Result<Advice, OutOfMemory> {
+        let Some(offset) = given_offset(&self.yacc.file, terminal, 0) else {
+            return Ok(Advice::Nothing);
+        };
+        let mut page = Page::new(alloc);
+        page.say(b"leave it out of one declaration: the first is on line ");
+        page.say_number(locate(&self.yacc.text, offset).line);
+        Ok(Advice::Made(page.finish()?))
     }
 
     /// Where a fault stands: in front of the file where what it names is not found.
@@ -279,11 +294,12 @@ fn words_for(fault: &JoinFault) -> Advice {
         JoinFault::UndefinedSymbol(_) => "declare it by `%token`, or write a rule for it",
         JoinFault::TokenOnLeft(_) =>
             "leave it out of the declarations, or give the rule another name",
-        JoinFault::PrecedenceTwice(_) => "leave it out of one declaration",
         JoinFault::UnknownStart(_) => "name a left side behind `%start`",
         JoinFault::ReturnUndeclared(_) => "declare it in the yacc file: `%token` and the name",
         JoinFault::PrecUnknown(_) => "declare it by `%left`, `%right` or `%nonassoc`",
         JoinFault::NoRules => "write a rule behind the `%%`: `name : symbols ;`",
-        JoinFault::LimitPassed { .. } | JoinFault::OutOfMemory => return Advice::Nothing,
+        JoinFault::PrecedenceTwice(_) | JoinFault::LimitPassed { .. } | JoinFault::OutOfMemory => {
+            return Advice::Nothing;
+        }
     })
 }

@@ -28,6 +28,9 @@ pub(crate) fn lex_advice(
         return Ok(Advice::Words("close the braces of the action with `}`"));
     }
     let rest = from_offset(line, bytes_before(at));
+    if let Some(words) = form_of_others(kind, line, bytes_before(at)) {
+        return Ok(Advice::Words(words));
+    }
     let near = match kind {
         LexFaultKind::Pattern(EreFaultKind::UnknownName) => near_name(alloc, text, rest)?,
         LexFaultKind::UnknownCondition => near_condition(alloc, text, rest)?,
@@ -67,6 +70,35 @@ fn form_of_flex(unit: Unit, line: &[u8]) -> Option<&'static str> {
         return Some("write the conditions in front of each rule: there are no braces round many");
     }
     None
+}
+
+/// The advice for what has another meaning elsewhere, of a line of which so many bytes stand before what is at fault.
+fn form_of_others(kind: LexFaultKind, line: &[u8], before: usize) -> Option<&'static str> {
+    match kind {
+        LexFaultKind::Pattern(EreFaultKind::BadInterval | EreFaultKind::UnknownName)
+            if ends_with_escape(line.get(..before).unwrap_or(line)) => {
+            Some(
+                "a byte is written with two digits and no braces, as `\\x41`; a character of several bytes as itself",
+            )
+        }
+        LexFaultKind::UnknownCondition if before == 0 => {
+            Some(
+                "a list of conditions is `<NAME>` or `<NAME,NAME>`: for the byte write `\\<` or `\"<\"`",
+            )
+        }
+        _ => None,
+    }
+}
+
+/// Whether a text ends with a backslash that stands for no backslash, and the letter of a number behind it.
+fn ends_with_escape(text: &[u8]) -> bool {
+    let mut escaped = false;
+    let mut ends = false;
+    for byte in text {
+        ends = escaped && matches!(*byte, b'x' | b'u' | b'U' | b'o' | b'N' | b'p' | b'P');
+        escaped = !escaped && *byte == b'\\';
+    }
+    ends
 }
 
 /// Whether a line begins as one with conditions does: with a name or `0` behind the `<`.
@@ -147,8 +179,36 @@ fn words_for(unit: Unit, kind: LexFaultKind, line: &[u8], before: usize) -> &'st
             "`|` is the action of the next rule: the last rule needs one of its own",
         LexFaultKind::Pattern(EreFaultKind::StrayOperator) if opens_options(line, before) =>
             "groups are `( .. )`, without options",
+        LexFaultKind::Pattern(EreFaultKind::BadInterval) if is_turned(rest) =>
+            "the lesser count stands first, as in `{1,3}`",
         LexFaultKind::Pattern(kind) => pattern_advice(kind),
     }
+}
+
+/// Whether an interval stands in front whose first count is the greater one.
+fn is_turned(rest: &[u8]) -> bool {
+    let Some((first, behind)) = leading_count(rest.strip_prefix(b"{").unwrap_or(rest)) else {
+        return false;
+    };
+    match leading_count(behind.strip_prefix(b",").unwrap_or(b"")) {
+        Some((second, end)) => end.starts_with(b"}") && second < first,
+        None => false,
+    }
+}
+
+/// The number in front of a text, and what stands behind it; none where none of three digits or fewer is there.
+fn leading_count(text: &[u8]) -> Option<(u32, &[u8])> {
+    let digits = text.iter().take_while(|byte| byte.is_ascii_digit()).count();
+    if digits == 0 || digits > 3 {
+        return None;
+    }
+    let mut count: u32 = 0;
+    for byte in text.get(..digits)? {
+        count = count
+            .saturating_mul(10)
+            .saturating_add(byte.saturating_sub(b'0') as u32);
+    }
+    Some((count, text.get(digits..)?))
 }
 
 /// Whether the byte of a line behind so many is the `?` of a group with options, as `(?i:`.
@@ -166,6 +226,9 @@ fn definition_advice(unit: Unit, line: &[u8], rest: &[u8]) -> &'static str {
         _ if offset_of(line, b"return").is_some() => "write a line `%%` before the first rule",
         _ if rest.starts_with(b"/*") || rest.starts_with(b"//") => {
             "a comment stands on a line of its own"
+        }
+        _ if rest.len() == line.len() && leading_name(line, Language::Lex).is_some() => {
+            "a line before this one defines the name: each name is defined once"
         }
         _ => "a definition is a name, blanks and an expression, and each name is defined once",
     }

@@ -3,7 +3,7 @@ use crate::advice::Advice;
 use crate::nearest::nearest;
 use crate::yacc_before::Before;
 use crate::yacc_units::begins_rule;
-use ly_base::{Language, OutOfMemory, leading_name};
+use ly_base::{Language, OutOfMemory, after_gap, leading_name};
 use ly_yaccread::YaccFaultKind;
 use std::alloc::Global;
 
@@ -175,7 +175,7 @@ fn rule_directive_advice(rest: &[u8]) -> &'static str {
 
 /// The advice for what can't stand in an action.
 fn action_advice(before: &Before, rest: &[u8]) -> &'static str {
-    if rest.is_empty() || rest.starts_with(b"|") || rest.starts_with(b"%%") || begins_rule(rest) {
+    if is_over(rest) || rest.starts_with(b"|") || rest.starts_with(b"%%") || begins_rule(rest) {
         "close the braces of the action with `}`"
     } else if rest.starts_with(b"}") {
         "the statement of an action ends with a `;`: write `{ $$ = Name($1,$3); }` or `{ $$ = $1; }`"
@@ -186,6 +186,11 @@ fn action_advice(before: &Before, rest: &[u8]) -> &'static str {
     } else {
         "write `{ $$ = Name($1,$3); }`, `{ $$ = $1; }`, or no action: lytab's actions are not C"
     }
+}
+
+/// Whether nothing more stands in an action to the end of the file, of which the last byte is told.
+fn is_over(rest: &[u8]) -> bool {
+    rest == b"{".as_slice() || after_gap(rest, Language::Yacc).is_empty()
 }
 
 /// The advice for what isn't closed.

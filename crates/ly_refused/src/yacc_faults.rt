@@ -6,7 +6,7 @@ use crate::text_marks::{has_byte_order_mark, without_marks};
 use crate::yacc_advice::yacc_advice;
 use crate::yacc_before::Before;
 use crate::yacc_mending::mending;
-use ly_base::{OutOfMemory, locate};
+use ly_base::{Language, OutOfMemory, leading_name, locate};
 use ly_generate::GenFault;
 use ly_yaccread::{YaccFault, YaccFaultKind, YaccFile, read_yacc};
 use std::alloc::Global;
@@ -69,13 +69,24 @@ fn mend_fault(
     let before = Before::of(alloc, text, offset)?;
     findings.add(Finding {
         fault: GenFault::Yacc(YaccFault::Refused { kind, offset }),
-        at: locate(text, offset),
+        at: locate(text, told_offset(text, kind, offset)),
         advice: yacc_advice(alloc, &before, kind, from_offset(text, offset))?,
     })?;
     let Some(edit) = mending(text, &before, kind, offset, mended) else {
         return Ok(None);
     };
     Ok(if_changed(text, edit.applied(alloc, text)?))
+}
+
+/// Which byte is told for the one at fault: where a name goes on with a byte that no name has, that byte.
+fn told_offset(text: &[u8], kind: YaccFaultKind, offset: usize) -> usize {
+    let rest = from_offset(text, offset);
+    match (kind, leading_name(rest, Language::Yacc)) {
+        (YaccFaultKind::BadRule, Some((name, [0x80..=0xFF, ..]))) => offset.saturating_add(
+            name.len(),
+        ),
+        _ => offset,
+    }
 }
 
 /// Adds the fault of a file that it hasn't without its marks.

@@ -17,7 +17,7 @@ pub(crate) fn symbol_location(
     let words = Words { words, text };
     let offset = match fault {
         JoinFault::NoRules => words.offset_of(0, b"", b"%%"),
-        JoinFault::PrecedenceTwice(terminal) => offset_given_again(file, terminal),
+        JoinFault::PrecedenceTwice(terminal) => given_offset(file, terminal, 1),
         JoinFault::UnknownStart(name) => words.offset_of(0, b"%start", name),
         JoinFault::TokenOnLeft(name) => left_side_offset(file, name),
         JoinFault::UndefinedSymbol(name) => words.offset_of(
@@ -101,9 +101,13 @@ fn offset_of_body_ranked_by(file: &YaccFile, name: &[u8]) -> Option<usize> {
     Some(file.rule_offsets.get(rule)?.body as usize)
 }
 
-/// Where a terminal is given a precedence for the second time.
-fn offset_given_again(file: &YaccFile, terminal: &TerminalName) -> Option<usize> {
-    let mut given = false;
+/// Where a terminal is given a precedence that was given some precedences before.
+pub(crate) fn given_offset(
+    file: &YaccFile,
+    terminal: &TerminalName,
+    before: usize,
+) -> Option<usize> {
+    let mut given = 0;
     let mut offsets = file.token_offsets.iter();
     for declaration in &file.declarations {
         for symbol in &declaration.symbols {
@@ -111,10 +115,10 @@ fn offset_given_again(file: &YaccFile, terminal: &TerminalName) -> Option<usize>
             if declaration.kind == DeclarationKind::Token || !terminal.is_symbol(symbol) {
                 continue;
             }
-            if given {
+            if given == before {
                 return Some(*offset as usize);
             }
-            given = true;
+            given = given.saturating_add(1);
         }
     }
     None
