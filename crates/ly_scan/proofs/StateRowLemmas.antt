@@ -18,7 +18,8 @@ has_row (Some n) states entries count h = omega (arith, count, h)
 
 -- where a state's row begins is a number of 32 bits
 pub row_counted : (entries : List ℕ) (rows : List (Option ℕ)) (next : Option ℕ) → AreRows entries
-    → map target_in entries ≡ rows → IfSome next (λ n. n * row_width < length rows) → IfSome next (λ n. n * row_width < 4294967296)
+    → map target_in entries ≡ rows → IfSome next (λ n. n * row_width < length rows)
+    → IfSome next (λ n. n * row_width < 4294967296)
 row_counted entries rows None is seen h = tt
 row_counted entries rows (Some n) is seen h = omega (
   arith,

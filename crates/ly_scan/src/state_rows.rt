@@ -44,9 +44,9 @@ impl RowStart {
     }
 }
 
-/// Where the states of a scanner lead, as they are walked: for each state a row of columns, which stand for bytes or for
-/// classes of bytes. An entry says where the next row begins, so that an addition and one index lie between a byte and
-/// the next.
+/// Where the states of a scanner lead, as they are walked: for each state a row of columns, which stand for bytes or
+/// for classes of bytes. An entry says where the next row begins, so that an addition and one index lie between a byte
+/// and the next.
 #[derive(Drop)]
 pub struct StateRows {
     /// The entries, row after row: where the row of the next state begins, or `NOWHERE`.
@@ -108,8 +108,8 @@ impl StateRows {
 }
 
 /// How many entries the rows of so many states have. Where a row begins has 32 bits, so the rows of more than 15 times
-/// 2^20 states, some 17 GB, are out of memory. No scanner has so many: each version of the table file has 262,143 states
-/// at most, a 60th of these, and no scanner with more is made.
+/// 2^20 states, some 17 GB, are out of memory. No scanner has so many: each version of the table file has 262,143
+/// states at most, a 60th of these, and no scanner with more is made.
 fn entries_of(states: usize) -> Result<usize, OutOfMemory>
     ensures count { IfOk result (λ n. n ≡ states * row_width) }
     ensures fits { OnOk result (states * row_width ≤ 2 ^ 32) }

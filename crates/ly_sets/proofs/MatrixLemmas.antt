@@ -118,8 +118,8 @@ module _ (stride : ℕ) (words : List ℕ) (n start : ℕ) (long : length words 
   -- the new one is the copy
   pub stored_set-copy : stored_set stride (words ++ take (start + stride - start) (drop start words)) n
       ≡ row_set start stride words
-  stored_set-copy = row_set_as words (words ++ take (start + stride - start) (drop start words)) start (n * stride) stride
-      (λ j h. ap (λ at. get_or (words ++ take (start + stride - start) (drop start words)) (at + j) 0) (sym long)
+  stored_set-copy = row_set_as words (words ++ take (start + stride - start) (drop start words)) start (n * stride)
+      stride (λ j h. ap (λ at. get_or (words ++ take (start + stride - start) (drop start words)) (at + j) 0) (sym long)
       ∙ get_or-append-add words (take (start + stride - start) (drop start words)) j 0
       ∙ get_or-chunk start (start + stride - start) words j 0 (omega arith))
 

@@ -85,7 +85,8 @@ loop-number-preserved c =
           let is = ap (λ m. m.sets) (w.sets-is ∙ w.in_ok-insert.ensures.ok) in
           record {
             long = ap length is ∙ (length-set now k (set.insert (row now k) 0) ∙ same ∙ long);
-            width = ap (λ m. m.width) (w.sets-is ∙ w.in_ok-insert.ensures.ok) ∙ c.in_ok-insert_row.ensures.width ∙ inv.width;
+            width = ap (λ m. m.width) (w.sets-is ∙ w.in_ok-insert.ensures.ok) ∙ c.in_ok-insert_row.ensures.width
+                ∙ inv.width;
             start = inv.start;
             direct = one (end_came M x k now new (omega (arith, lt, room, long, same)) is
                 (eqb-true x.from 0 (sym c.eq.ensures ∙ w.if-eq.true))

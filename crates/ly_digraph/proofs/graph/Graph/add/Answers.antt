@@ -13,7 +13,10 @@ invariant_of-self-2 c =
     let to_in : c.args.to < length c.self.inside.ends.items = (let h = c.requires.1 in omega arith) in
     let before : get_or c.self.inside.ends.items c.args.from 0 ≡ c.index.result.now
     = read_is c.self.inside.ends.items c.args.from c.index.result.now 0 from_in c.index.ensures in
-    let edge : Edge = record { from = c.in_ok-source.source; to = c.in_ok-target.target; before = c.index.result.now
+    let edge : Edge = record {
+      from = c.in_ok-source.source;
+      to = c.in_ok-target.target;
+      before = c.index.result.now;
     } in
     let items : c.push.new.self.items ≡ c.self.inside.edges.items ++ edge ∷ [] = c.in_ok-push.ensures.items in
     let len : c.in_ok-end.end ≡ length c.self.inside.edges.items + 1 = c.in_ok-end.ensures
