@@ -64,6 +64,8 @@ fn take_both(
     ensures { IfOk result (λ both. IsTrue both ↔ TakeBoth resolved.now
         (conflict_from resolved.now.automaton conflict.now) (moves_from one.now) (moves_from other.now)) }
 {
+    let lr0 = resolved.lr0();
+    let _states = lr0.states();
     let shared = shared_length(one, other);
     let Some(first) = one.get(shared) else {
         return Ok(false);
@@ -84,8 +86,6 @@ fn take_both(
     let Some(string) = string_behind(alloc, grammar, &one[..shared])? else {
         return Ok(false);
     };
-    let lr0 = resolved.lr0();
-    let _states = lr0.states();
     match state_behind(lr0, &string) {
         Some(state) => Ok(state == conflict.state),
         None => Ok(false),
