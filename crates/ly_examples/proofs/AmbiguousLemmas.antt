@@ -75,10 +75,10 @@ module _ (r : Resolved) (c : Conflict) (one other : List ℕ) where
       none_takes never w two =
           let a : parse_of two.trees.first.tree ≡ us
           = ap (λ ms. ms ++ shifts 0 ∷ [])
-              (first.1 (moves_of two.trees.first.tree) (moves_to r.spec.grammar one w two.trees.first)) ∙ sym one_is in
+          (first.1 (moves_of two.trees.first.tree) (moves_to r.spec.grammar one w two.trees.first)) ∙ sym one_is in
           let b : parse_of two.trees.second.tree ≡ vs
           = ap (λ ms. ms ++ shifts 0 ∷ [])
-              (second.1 (moves_of two.trees.second.tree) (moves_to r.spec.grammar other w two.trees.second))
+          (second.1 (moves_of two.trees.second.tree) (moves_to r.spec.grammar other w two.trees.second))
           ∙ sym other_is in
           never (subst (λ p. TakeBoth r c p vs) a (subst (TakeBoth r c (parse_of two.trees.first.tree)) b two.actions))
 

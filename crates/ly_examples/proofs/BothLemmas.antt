@@ -118,7 +118,7 @@ module _ (r : Resolved) (lawful : IsLr0Automaton r.automaton) (conflict : Confli
       let there = lawful.cores.has t.string t.merges.right in
       let state : conflict.state.0 ≡ there.0
       = lawful.cores.one (prefix_of r.automaton conflict.state.0) t.string conflict.state.0 there.0 at_prefix there.1
-          t.merges.cores in
+      t.merges.cores in
       subst (Reaches (goto_of r.automaton) 0 t.string) (sym state) there.1
 
   pub reaches_some : Both → (g : List Symbol) → Lead r.spec.grammar [] (take n (moves_from one)) g
@@ -150,7 +150,7 @@ module _ (r : Resolved) (lawful : IsLr0Automaton r.automaton) (conflict : Confli
       = same_below xs ys n (omega (arith, within, length-map one move_from)) same_there in
       let second : ys ≡ before ++ reduces conflict.rule ∷ beyond
       = split_at ys n (reduces conflict.rule)
-          (slice_get-map move_from other n ∙ ap (option_map move_from) is_b ∙ ap Some is_rule)
+      (slice_get-map move_from other n ∙ ap (option_map move_from) is_b ∙ ap Some is_rule)
       ∙ ap (λ w. w ++ reduces conflict.rule ∷ beyond) (sym common) in
       let rest_is : drop n xs ≡ move_from a ∷ behind
       = append_cancel_left before (drop n xs) (move_from a ∷ behind) (take-append-drop n xs ∙ first) in

@@ -1,5 +1,6 @@
 -- Parses by their moves: what they shift, where two of them part, and the string and the state that moves lead to.
-use Rattle.std.proofs.Common.{◌≡◌, ◌≢◌, ◌∙◌, ◌↔◌, ◌<◌, ◌≤◌, ◌+◌, ℕ, zero, suc, List, [], ◌∷◌, ◌++◌, Option, Some, None}
+use Rattle.std.proofs.Common.{◌≡◌, ◌≢◌, ◌∙◌, ◌↔◌, ◌<◌, ◌≤◌, ◌+◌, ℕ, zero, suc, List, [], ◌∷◌, ◌++◌, Option, Some}
+use Rattle.std.proofs.Common.{None}
 use Rattle.std.proofs.Common.{refl, sym, ap, arith, subst, drop, take, length, map, reverse, append-nil, slice_get}
 use Rattle.std.proofs.Common.{slice_index_or, option_map}
 use Rattle.std.proofs.Math.Seq.{drop-cons}
@@ -134,9 +135,9 @@ lead_reduced G p r is g below e rest h = (
       let same : q ≡ r = cc in
       let here : under ≡ below
       = append_cancel_left (reverse r.body) under below
-          (ap (λ x. reverse x.body ++ under) (sym same) ∙ sym split ∙ e) in
+      (ap (λ x. reverse x.body ++ under) (sym same) ∙ sym split ∙ e) in
       subst (λ w. Lead G (nonterminal r.left ∷ w) rest h) here
-          (subst (λ x. Lead G (nonterminal x.left ∷ under) rest h) same on),
+      (subst (λ x. Lead G (nonterminal x.left ∷ under) rest h) same on),
   λ on. (r, below, is, e, on),
 )
 

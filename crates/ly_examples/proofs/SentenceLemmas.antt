@@ -13,7 +13,8 @@ use Rattle.ly_join.specs.Grammar.{Grammar, IsRule, GrammarRule, Symbol, nontermi
 use Rattle.ly_grammar.specs.Derivations.{AreTrees, IsTree}
 use Rattle.ly_examples.specs.Moves.{Move, moves_among, moves_of, reduces, shifts}
 use Rattle.ly_examples.specs.Sentences.{rules_among, rules_of}
-use Rattle.ly_examples.specs.Private.Leftmost.{Ahead, ahead_of, AreMovesBy, Derive, IsPassed, IsUnderWay, known, open_at}
+use Rattle.ly_examples.specs.Private.Leftmost.{Ahead, ahead_of, AreMovesBy, Derive, IsPassed, IsUnderWay, known}
+use Rattle.ly_examples.specs.Private.Leftmost.{open_at}
 
 -- A BODY
 
@@ -132,8 +133,15 @@ at_start G rules w = (
   λ s. (
     w,
     refl,
-    (s.tree, s.derives, [], [], sym (append-nil (rules_of s.tree) ∙ s.has),
-    sym (append-nil (moves_of s.tree) ∙ s.made), (refl, refl)),
+    (
+      s.tree,
+      s.derives,
+      [],
+      [],
+      sym (append-nil (rules_of s.tree) ∙ s.has),
+      sym (append-nil (moves_of s.tree) ∙ s.made),
+      (refl, refl),
+    ),
   ),
   λ (v, e, (tree, is, others, rest, first, second, (none_left, none_made))). record {
     tree = tree;

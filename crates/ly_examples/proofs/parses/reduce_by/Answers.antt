@@ -18,8 +18,8 @@ returns-then-not-ends_with c =
     let ends = ends_is symbols_tested c.deref.result.now body c.ends_with.result c.ends_with.ensures.value in
     lead_nowhere G p r is c.args.string.now.items body c.body.ensures
     (λ front e.
-        let off : false ≡ true = sym c.if-not-ends_with.true ∙ ends.1 front (c.deref.ensures.value ∙ e) in
-        absurd (cc))
+    let off : false ≡ true = sym c.if-not-ends_with.true ∙ ends.1 front (c.deref.ensures.value ∙ e) in
+    absurd (cc))
 
 pub returns : goal.returns
 returns c =

@@ -10,7 +10,8 @@ use Rattle.ly_examples.specs.declared.moves.Move.{Move}
 use Rattle.ly_examples.specs.Moves.{shifted}
 use Rattle.ly_examples.specs.Sentences.{numbers_of}
 use Rattle.ly_examples.specs.Private.Leftmost.{AreOfNone, AreOnlyMoves, moves_from}
-use Rattle.ly_examples.proofs.AmbiguousLemmas.{ambiguous, none_apart, none_by_one, none_by_other, none_takes, same_shifted}
+use Rattle.ly_examples.proofs.AmbiguousLemmas.{ambiguous, none_apart, none_by_one, none_by_other, none_takes}
+use Rattle.ly_examples.proofs.AmbiguousLemmas.{same_shifted}
 use Rattle.ly_examples.proofs.AmbiguousLemmas.{with_end}
 use Rattle.ly_examples.proofs.sentences.conflicting_sentence.Goals as goal
 
@@ -87,7 +88,7 @@ take_both-requires-clause-same c =
     = c.in_ok-shifted.ensures ∙ ap (λ ms. shifted (moves_from ms)) c.deref-2.ensures.value in
     let equal : numbers_of again ≡ numbers_of sentence
     = same_text (numbers_of again) (numbers_of sentence)
-        (sym (not-false _ (sym c.ne.ensures ∙ c.if-ne.false)) ∙ sym (pointwise-map (λ t. t.0) nat_eq again sentence)) in
+    (sym (not-false _ (sym c.ne.ensures ∙ c.if-ne.false)) ∙ sym (pointwise-map (λ t. t.0) nat_eq again sentence)) in
     let us = c.deref-3.result.now in
     let vs = c.deref-4.result.now in
     let us_are = c.deref-3.ensures.value ∙ c.in_ok-push.ensures.items in
@@ -144,7 +145,7 @@ returns c =
     = c.in_ok-shifted.ensures ∙ ap (λ ms. shifted (moves_from ms)) c.deref-2.ensures.value in
     let equal : numbers_of again ≡ numbers_of sentence
     = same_text (numbers_of again) (numbers_of sentence)
-        (sym (not-false _ (sym c.ne.ensures ∙ c.if-ne.false)) ∙ sym (pointwise-map (λ t. t.0) nat_eq again sentence)) in
+    (sym (not-false _ (sym c.ne.ensures ∙ c.if-ne.false)) ∙ sym (pointwise-map (λ t. t.0) nat_eq again sentence)) in
     let us = c.deref-3.result.now in
     let vs = c.deref-4.result.now in
     let us_are = c.deref-3.ensures.value ∙ c.in_ok-push.ensures.items in
