@@ -80,7 +80,8 @@ parted_at (z ∷ front) a b xs ys (suc n) same apart differ = ap suc (parted_at 
     (λ k lt. same (suc k) (omega (arith, lt))) (λ lt. apart (omega (arith, lt))) differ)
 
 -- what stands behind a list
-pub get_behind : {X : Type 0} (front : List X) (a : X) (xs : List X) → slice_get (front ++ a ∷ xs) (length front) ≡ Some a
+pub get_behind : {X : Type 0} (front : List X) (a : X) (xs : List X)
+    → slice_get (front ++ a ∷ xs) (length front) ≡ Some a
 get_behind [] a xs = refl
 get_behind (z ∷ front) a xs = get_behind front a xs
 

@@ -88,7 +88,8 @@ passes_all G (u ∷ us) S rules w = (
 -- by it.
 pub takes_rule : (G : Grammar) (A : ℕ) (S : List Ahead) (p : ℕ) (rules : List ℕ) (w : List Move)
     → Derive G (open_at A ∷ S) (p ∷ rules) w
-    → (r : GrammarRule) × IsRule G p r × (r.left ≡ A) × Derive G (map ahead_of r.body ++ known (reduces p) ∷ S) rules w
+    → (r : GrammarRule) × IsRule G p r × (r.left ≡ A)
+    × Derive G (map ahead_of r.body ++ known (reduces p) ∷ S) rules w
 takes_rule G A S p rules w (leaf x, is, others, rest, first, second, on) = absurd is
 takes_rule G A S p rules w (node q us, (r, is, left, those), others, rest, first, second, on) =
     let same : q ≡ p = cc in
@@ -163,7 +164,8 @@ way_passed G rules done S us left way w = (
       (us ++ x, e ∙ append_assoc done us x, (passes_all G us S left (us ++ x)).1 (x, refl, rest)),
 )
 
-pub way_on : (G : Grammar) (rules : List ℕ) (old new : List Ahead) (before behind : List Move) (o : Option Sym) (n : Sym)
+pub way_on : (G : Grammar) (rules : List ℕ) (old new : List Ahead) (before behind : List Move) (o : Option Sym)
+    (n : Sym)
     (left : List ℕ) → IsUnderWay G rules before old left → IsPassed old new before behind o → o ≡ Some n
     → IsUnderWay G rules behind (open_at n.0 ∷ new) left
 way_on G rules old new before behind o n left way passed e =
@@ -220,7 +222,8 @@ way_short G rules done A S way w s =
     needs_rule G A S v d
 
 -- where nothing is left, what is done are the moves
-pub way_end : (G : Grammar) (rules : List ℕ) (done : List Move) → IsUnderWay G rules done [] [] → AreMovesBy G rules done
+pub way_end : (G : Grammar) (rules : List ℕ) (done : List Move) → IsUnderWay G rules done [] []
+    → AreMovesBy G rules done
 way_end G rules done way = (way done).1 ([], sym (append-nil done), (refl, refl))
 
 -- moves by the rules are those that are done
@@ -244,12 +247,14 @@ pub kept_last : {X Y : Type 0} (f : X → Y) (kept : List X) (x : X)
 kept_last f kept x = ap reverse (map-append f kept (x ∷ [])) ∙ reverse-append (map f kept) (f x ∷ [])
 
 -- one more of them, which stand for others
-pub kept_more : {X Y Z : Type 0} (f : Z → Y) (g : X → Y) (old new start : List Z) (z : Z) (xs : List X) (n : ℕ) (d x : X)
+pub kept_more : {X Y Z : Type 0} (f : Z → Y) (g : X → Y) (old new start : List Z) (z : Z) (xs : List X) (n : ℕ)
+    (d x : X)
     → n < length xs → x ≡ slice_index_or xs n d → new ≡ old ++ z ∷ [] → f z ≡ g x
     → reverse (map f old) ≡ reverse (map g (take n xs)) ++ reverse (map f start)
     → reverse (map f new) ≡ reverse (map g (take (n + 1) xs)) ++ reverse (map f start)
 kept_more f g old new start z xs n d x lt here pushed alike before =
-    let more : take (n + 1) xs ≡ take n xs ++ x ∷ [] = take_more xs n d lt ∙ ap (λ y. take n xs ++ y ∷ []) (sym here) in
+    let more : take (n + 1) xs ≡ take n xs ++ x ∷ [] = take_more xs n d lt ∙ ap (λ y. take n xs ++ y ∷ []) (sym here)
+    in
     ap (λ w. reverse (map f w)) pushed ∙ kept_last f old z ∙ ap (λ y. y ∷ reverse (map f old)) alike
     ∙ ap (λ w. g x ∷ w) before
     ∙ ap (λ w. w ++ reverse (map f start)) (sym (kept_last g (take n xs) x))
@@ -297,7 +302,8 @@ next_rule rules k lt = drop-cons rules k 0 lt
     ∙ ap (λ n. slice_index_or rules k 0 ∷ drop n rules) (let e : suc k ≡ k + 1 = omega arith in e)
 
 -- where rules are left, behind the moves that are known: the next one is that of the nonterminal behind them
-pub way_next : (G : Grammar) (rules : List ℕ) (k : ℕ) (old new : List Ahead) (before behind : List Move) (o : Option Sym)
+pub way_next : (G : Grammar) (rules : List ℕ) (k : ℕ) (old new : List Ahead) (before behind : List Move)
+    (o : Option Sym)
     (n : Sym) → k < length rules → IsUnderWay G rules before old (drop k rules) → IsPassed old new before behind o
     → o ≡ Some n
     → IsUnderWay G rules behind (open_at n.0 ∷ new) (slice_index_or rules k 0 ∷ drop (k + 1) rules)

@@ -1,5 +1,5 @@
--- The moves by which a parser comes to a tree, and what two trees say of a conflict (Knuth 1965: a parse from the left is
--- a rightmost derivation in reverse). Strings of symbols have their last symbol first, as stacks have.
+-- The moves by which a parser comes to a tree, and what two trees say of a conflict (Knuth 1965: a parse from the left
+-- is a rightmost derivation in reverse). Strings of symbols have their last symbol first, as stacks have.
 use Rattle.std.specs.Prelude.{◌≡◌, ◌≢◌, ℕ, List, [], ◌∷◌, ◌++◌, reverse, Option, Some, None}
 use Rattle.ly_base.specs.Trees.{Tree, Trees, leaf, node, none, more}
 use Rattle.ly_join.specs.Grammar.{Grammar, IsRule, GrammarRule, Symbol, nonterminal, terminal}

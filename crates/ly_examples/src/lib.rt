@@ -17,9 +17,9 @@
 //! states, the rows, the rules; from which states a string leads to a rule that returns its first byte is one pass
 //! along the moves.
 //!
-//! `conflicting_sentence` says of the rules of two trees whether these are trees of one sentence that take both actions
-//! of a conflict (`IsAmbiguousAt`). It makes the moves of a parser on the way to each, those of a rightmost derivation in
-//! reverse: both begin with the same ones, which lead to the state of the conflict, and part there.
+//! `conflicting_sentence` says of the rules of two trees whether these are trees of one sentence that take both
+//! actions of a conflict (`IsAmbiguousAt`). It makes the moves of a parser on the way to each, those of a rightmost
+//! derivation in reverse: both begin with the same ones, which lead to the state of the conflict, and part there.
 //!
 //! Left out: which conflicts there are, which rules are removed, what is told of them, that no shorter string is an
 //! example, and where sentences with two trees are sought.

@@ -19,7 +19,8 @@ loop-step-preserved c =
     elim c.match-step.branch [
       | in-Shift+in_ok-push-in-Shift w ↦ rw w.terminals-is
           (shifts_more moves n no_move (shifted (moves_from moves)) c.loop-step.terminals.items w.push.new.self.items
-          c.loop-step-test.true w.in-Shift.terminal w.in-Shift.is w.in_ok-push-in-Shift.ensures.items c.loop-step.invariant)
+          c.loop-step-test.true w.in-Shift.terminal w.in-Shift.is w.in_ok-push-in-Shift.ensures.items
+          c.loop-step.invariant)
       | in-Reduce w ↦ rw w.terminals-is
           (ap (λ x. numbers_of c.loop-step.terminals.items ++ x)
           (sym (reduces_next moves n no_move c.loop-step-test.true w.in-Reduce.field-0 w.in-Reduce.is))

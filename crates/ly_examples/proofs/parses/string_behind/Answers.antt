@@ -15,7 +15,8 @@ loop-step-preserved c =
     let G = c.args.grammar.now in
     let moves = c.args.moves.now in
     lead_on moves c.loop-step.step-index no_move G (λ h. Lead G [] (moves_from moves) h) c.loop-step.string.items
-    c.loop-step.invariant c.loop-step-test.true c.make.new.string.items (rw c.if-not-branch.false at c.in_ok-make.ensures)
+    c.loop-step.invariant c.loop-step-test.true c.make.new.string.items (rw c.if-not-branch.false at
+    c.in_ok-make.ensures)
 
 pub returns-then-not-branch : goal.returns-then-not-branch
 returns-then-not-branch c =

@@ -65,8 +65,9 @@ returns-then-not-are_actions c =
     let lawful = subst IsLr0Automaton c.lr0-lr0.ensures.these c.states-states.ensures.lawful in (
       λ yes. absurd (both_ways false refl yes),
       λ t. absurd (iff_false c.are_actions.ensures c.if-not-are_actions.true
-          (are_both r lawful conflict c.requires.inside one other n told.same told.within told.apart t c.in-Some.first.now
-          c.in-Some-get.second.now (slice_get-get_or one n c.in-Some.first.now c.in-Some.ensures.lookup.3.0 ∙ ap Some (sym
+          (are_both r lawful conflict c.requires.inside one other n told.same told.within told.apart t
+          c.in-Some.first.now c.in-Some-get.second.now
+          (slice_get-get_or one n c.in-Some.first.now c.in-Some.ensures.lookup.3.0 ∙ ap Some (sym
           c.in-Some.ensures.lookup.1))
           (slice_get-get_or other n c.in-Some-get.second.now c.in-Some-get.ensures.lookup.3.0
           ∙ ap Some (sym c.in-Some-get.ensures.lookup.1)))),
@@ -192,7 +193,8 @@ returns-in-Some-state_behind c =
           (slice_get-get_or one n c.in-Some.first.now c.in-Some.ensures.lookup.3.0 ∙ ap Some (sym
           c.in-Some.ensures.lookup.1))
           (slice_get-get_or other n c.in-Some-get.second.now c.in-Some-get.ensures.lookup.3.0
-          ∙ ap Some (sym c.in-Some-get.ensures.lookup.1)) acts.0 acts.1 it.0 (ap shifted rest ∙ it.1 ∙ ap (λ k. k ∷ it.0)
+          ∙ ap Some (sym c.in-Some-get.ensures.lookup.1)) acts.0 acts.1 it.0 (ap shifted rest ∙ it.1 ∙
+          ap (λ k. k ∷ it.0)
           same) (string_of string) leads
           (subst (Reaches (goto_of r.automaton) 0 (string_of string)) here reaches),
       λ t. c.eq.ensures ∙ eq-eqb state conflict.state.0 (reaches_one r lawful conflict c.requires.inside one other n
