@@ -2,13 +2,14 @@
 use Rattle.std.specs.Prelude.{◌≡◌, ℕ, List, Option, Some, Contains, IfSome, length, map, min, option_map, reverse}
 use Rattle.std.specs.Prelude.{slice_get}
 use Rattle.ly_base.specs.declared.numbers.Sym.{Sym}
-use Rattle.ly_join.specs.Grammar.{Grammar, symbol_of}
+use Rattle.ly_join.specs.Grammar.{symbol_of}
 use Rattle.ly_resolve.specs.Conflicts.{Conflict}
 use Rattle.ly_resolve.specs.Resolved.{Resolved}
 use Rattle.ly_resolve.specs.Values.{conflict_from}
 use Rattle.ly_examples.specs.Demands.{HasMoreDemands}
 use Rattle.ly_examples.specs.Examples.{HasNoExample, IsExample}
-use Rattle.ly_examples.specs.Sentences.{HasTwoTrees, numbers_of}
+use Rattle.ly_examples.specs.Moves.{IsAmbiguousAt}
+use Rattle.ly_examples.specs.Sentences.{numbers_of}
 use Rattle.ly_accepted.specs.declared.ambiguity.Ambiguity.{Ambiguity}
 use Rattle.ly_accepted.specs.declared.groups.Group.{Group}
 use Rattle.ly_accepted.specs.declared.told.Readings.{Readings}
@@ -22,26 +23,26 @@ use Rattle.ly_accepted.specs.Groups.{IsConflictAt, most_demands}
 abbrev pub most_told : ℕ
 most_told = 100
 
--- a sentence of the grammar by two trees
-abbrev pub IsAmbiguity : Grammar → Ambiguity → Type 0
-IsAmbiguity G a = HasTwoTrees G a.one.items a.other.items (numbers_of a.sentence.items)
+-- a sentence by two trees that take both actions of the conflict
+abbrev pub IsAmbiguity : Resolved → Conflict → Ambiguity → Type 0
+IsAmbiguity r c a = IsAmbiguousAt r c a.one.items a.other.items (numbers_of a.sentence.items)
 
 -- what is found is such a sentence
-abbrev pub IsFoundIn : Grammar → Option Ambiguity → Type 0
-IsFoundIn G found = IfSome found (IsAmbiguity G)
+abbrev pub IsFoundIn : Resolved → Conflict → Option Ambiguity → Type 0
+IsFoundIn r c found = IfSome found (IsAmbiguity r c)
 
-abbrev pub AreReadings : Grammar → Readings → Type 0
-AreReadings G Same = Unit {0}
-AreReadings G (Ways ways found) = IsFoundIn G found
+abbrev pub AreReadings : Resolved → Conflict → Readings → Type 0
+AreReadings r c Same = Unit {0}
+AreReadings r c (Ways ways found) = IsFoundIn r c found
 
 -- what is said of how the conflicts of a group come about is so: an example of the first, that none has one, or that
 -- from the first follow more demands than are looked at
 abbrev pub IsShown : Resolved → List ℕ → Conflict → Shown → Type 0
 IsShown r group c Unsought = Unit {0}
 IsShown r group c (At spot) = IsExample r.automaton.grammar c (reverse (map symbol_of spot.string.now))
-    × AreReadings r.spec.grammar spot.readings
+    × AreReadings r c spot.readings
 IsShown r group c (Merged ways) = (i : ℕ) → Contains group i → HasNoExample r i
-IsShown r group c (Unknown found) = HasMoreDemands r.automaton c most_demands × IsFoundIn r.spec.grammar found
+IsShown r group c (Unknown found) = HasMoreDemands r.automaton c most_demands × IsFoundIn r c found
 
 -- the terminals of the conflicts of these indices, in their order
 abbrev pub AreTerminalsOf : Resolved → List ℕ → List Sym → Type 0

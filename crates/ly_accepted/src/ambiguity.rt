@@ -3,6 +3,7 @@
 //! to the same tokens (in the manner of Isradisaikul and Myers 2015). What is found is asked of `ly_examples` before it
 //! is said.
 ghost use Rattle.std.specs.Prelude.{◌≡◌, IfOk};
+ghost use Rattle.ly_resolve.specs.Values.{conflict_from, IsInside};
 ghost use Rattle.ly_accepted.specs.Told.{IsFoundIn};
 
 use crate::bodies::{behind_dot, body_of};
@@ -16,7 +17,7 @@ use crate::yields::{Derived, Yields};
 use ly_base::{OutOfMemory, StateNo, Sym};
 use ly_join::{Grammar, Symbol};
 use ly_lr0::{Item, Lr0};
-use ly_resolve::{Action, Conflict, ConflictKind};
+use ly_resolve::{Action, Conflict, ConflictKind, Resolved};
 use std::alloc::{AllocError, Global};
 
 /// How many pairs of readings of whole texts are looked at for a conflict, at most.
@@ -42,11 +43,13 @@ pub(crate) struct Ambiguity {
 /// What sentences are sought by.
 #[derive(Drop)]
 pub(crate) struct Finder<'a> {
+    /// What is done in each state, and the specification.
+    pub(crate) resolved: &'a Resolved<'a>,
     /// The automaton, which knows the rules of each nonterminal.
     pub(crate) lr0: &'a Lr0<'a>,
     /// The items of its states.
     pub(crate) cores: &'a Cores<'a>,
-    /// Its grammar.
+    /// The grammar.
     pub(crate) grammar: &'a Grammar,
     /// The shortest yields of nonterminals.
     pub(crate) yields: &'a Yields,
@@ -57,20 +60,21 @@ pub(crate) struct Finder<'a> {
 }
 
 impl<'a> Finder<'a> {
-    /// What sentences of a grammar are sought by, and its automaton.
+    /// What sentences of a grammar with conflicts are sought by.
     pub(crate) fn new(
         alloc: Global,
-        grammar: &'a Grammar,
+        resolved: &'a Resolved<'a>,
         cores: &'a Cores<'a>,
         yields: &'a Yields,
     ) -> Result<Finder<'a>, AllocError>
-        ensures { IfOk result (λ finder. finder.grammar.now ≡ grammar.now) }
+        ensures { IfOk result (λ finder. finder.resolved.now ≡ resolved.now) }
     {
         let lr0 = cores.lr0();
         Ok(Finder {
+            resolved,
             lr0,
             cores,
-            grammar,
+            grammar: resolved.spec().grammar(),
             yields,
             surroundings: Surroundings::of(alloc, lr0)?,
             steps: STEPS,
@@ -85,37 +89,42 @@ impl<'a> Finder<'a> {
         conflict: &Conflict,
         at: Option<(&[Symbol], &Ways)>,
     ) -> Result<Option<Ambiguity>, OutOfMemory>
-        ensures found { IfOk result (IsFoundIn self.old.grammar.now) }
-        ensures stays { self.new.grammar ≡ self.old.grammar }
+        requires { IsInside self.old.resolved.now.automaton conflict.now }
+        ensures found { IfOk result (IsFoundIn self.old.resolved.now
+            (conflict_from self.old.resolved.now.automaton conflict.now)) }
+        ensures stays { self.new.resolved ≡ self.old.resolved }
     {
         if let Some((string, ways)) = at {
             let mut search = Search::new(alloc, conflict)?;
             self.begin_whole(alloc, &mut search, conflict, string, ways)?;
-            let found = self.search(alloc, &mut search, MOST_WHOLE)?;
+            let found = self.search(alloc, conflict, &mut search, MOST_WHOLE)?;
             if found.is_some() {
                 return Ok(found);
             }
         }
         let mut search = Search::new(alloc, conflict)?;
         self.begin(alloc, &mut search, conflict)?;
-        self.search(alloc, &mut search, MOST)
+        self.search(alloc, conflict, &mut search, MOST)
     }
 
-    /// Goes on with a search, over so many pairs at most.
+    /// Goes on with a search for a sentence of a conflict, over so many pairs at most.
     fn search(
         &mut self,
         alloc: Global,
+        conflict: &Conflict,
         search: &mut Search,
         most: usize,
     ) -> Result<Option<Ambiguity>, OutOfMemory>
-        ensures found { IfOk result (IsFoundIn self.old.grammar.now) }
-        ensures stays { self.new.grammar ≡ self.old.grammar }
+        requires { IsInside self.old.resolved.now.automaton conflict.now }
+        ensures found { IfOk result (IsFoundIn self.old.resolved.now
+            (conflict_from self.old.resolved.now.automaton conflict.now)) }
+        ensures stays { self.new.resolved ≡ self.old.resolved }
     {
         for _ in 0..most {
             let Some(pair) = search.queue.pop() else {
                 break;
             };
-            if let Some(found) = self.look_at(alloc, search, pair)? {
+            if let Some(found) = self.look_at(alloc, conflict, search, pair)? {
                 return Ok(Some(found));
             }
             if self.steps == 0 {
@@ -227,7 +236,7 @@ impl<'a> Finder<'a> {
         alloc: Global,
         symbols: &[Symbol],
     ) -> Result<Derived, AllocError>
-        ensures { self.new.grammar ≡ self.old.grammar }
+        ensures { self.new.resolved ≡ self.old.resolved }
     {
         let derived = self.yields.derive(alloc, self.grammar, symbols)?;
         let steps = derived.rules.len().saturating_add(derived.tokens.len());

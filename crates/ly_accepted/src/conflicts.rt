@@ -141,8 +141,7 @@ impl Teller<'_> {
         requires { AreGroups self.now.examples.now groups.now }
         ensures { IfOk result (λ told. AreTold self.now.examples.now groups.now told.items) }
     {
-        let grammar = self.examples.resolved().spec().grammar();
-        let mut finder = Finder::new(alloc, grammar, self.cores, self.yields)?;
+        let mut finder = Finder::new(alloc, self.examples.resolved(), self.cores, self.yields)?;
         let mut all = Vec::new(alloc);
         for group in first_of(groups, TOLD) {
             all.push(self.told(alloc, group, &mut finder)?)?;
@@ -158,9 +157,9 @@ impl Teller<'_> {
         finder: &mut Finder<'_>,
     ) -> Result<Told<'g>, OutOfMemory>
         requires group { IsGroup self.now.examples.now group.now }
-        requires grammar { finder.old.grammar.now ≡ self.now.examples.now.spec.grammar }
+        requires resolved { finder.old.resolved.now ≡ self.now.examples.now }
         ensures told { IfOk result (IsTold self.now.examples.now group.now.conflicts.items) }
-        ensures stays { finder.new.grammar ≡ finder.old.grammar }
+        ensures stays { finder.new.resolved ≡ finder.old.resolved }
     {
         let conflict = &self.examples.resolved().conflicts()[group.conflicts[0]];
         Ok(Told {
@@ -196,10 +195,10 @@ impl Teller<'_> {
         requires conflict { Contains self.now.examples.now.conflicts
             (conflict_from self.now.examples.now.automaton conflict.now) }
         requires example { IsSought self.now.examples.now conflict.now group.now.example }
-        requires grammar { finder.old.grammar.now ≡ self.now.examples.now.spec.grammar }
+        requires resolved { finder.old.resolved.now ≡ self.now.examples.now }
         ensures shown { IfOk result (IsShown self.now.examples.now group.now.conflicts.items
             (conflict_from self.now.examples.now.automaton conflict.now)) }
-        ensures stays { finder.new.grammar ≡ finder.old.grammar }
+        ensures stays { finder.new.resolved ≡ finder.old.resolved }
     {
         match &group.example {
             Some(Example::At(string)) => Ok(Shown::At(self.spot(alloc, conflict, string, finder)?)),
@@ -217,9 +216,11 @@ impl Teller<'_> {
         string: &'g [Symbol],
         finder: &mut Finder<'_>,
     ) -> Result<Spot<'g>, OutOfMemory>
+        requires { IsInside finder.old.resolved.now.automaton conflict.now }
         ensures string { IfOk result (λ spot. spot.string.now ≡ string.now) }
-        ensures readings { IfOk result (λ spot. AreReadings finder.old.grammar.now spot.readings) }
-        ensures stays { finder.new.grammar ≡ finder.old.grammar }
+        ensures readings { IfOk result (λ spot. AreReadings finder.old.resolved.now
+            (conflict_from finder.old.resolved.now.automaton conflict.now) spot.readings) }
+        ensures stays { finder.new.resolved ≡ finder.old.resolved }
     {
         let derived = self.yields.derive(alloc, self.spec.grammar(), string)?;
         let is_met = !derived.whole
@@ -241,8 +242,10 @@ impl Teller<'_> {
         string: &[Symbol],
         finder: &mut Finder<'_>,
     ) -> Result<Readings, OutOfMemory>
-        ensures readings { IfOk result (AreReadings finder.old.grammar.now) }
-        ensures stays { finder.new.grammar ≡ finder.old.grammar }
+        requires { IsInside finder.old.resolved.now.automaton conflict.now }
+        ensures readings { IfOk result (AreReadings finder.old.resolved.now
+            (conflict_from finder.old.resolved.now.automaton conflict.now)) }
+        ensures stays { finder.new.resolved ≡ finder.old.resolved }
     {
         if is_between_same(self.spec.grammar(), conflict) {
             return Ok(Readings::Same);

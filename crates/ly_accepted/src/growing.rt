@@ -1,5 +1,6 @@
 //! How two readings go on: behind the place of the conflict by what is ahead, and outwards by rules around them.
 ghost use Rattle.std.specs.Prelude.{◌≡◌, IfOk};
+ghost use Rattle.ly_resolve.specs.Values.{conflict_from, IsInside};
 ghost use Rattle.ly_accepted.specs.Told.{IsFoundIn};
 
 use crate::ambiguity::{Ambiguity, Finder};
@@ -52,15 +53,18 @@ impl Search {
 }
 
 impl Finder<'_> {
-    /// Looks at a pair: answers the sentence that it has come to, or adds those that it becomes.
+    /// Looks at a pair for a conflict: answers the sentence that it has come to, or adds those that it becomes.
     pub(crate) fn look_at(
         &mut self,
         alloc: Global,
+        conflict: &Conflict,
         search: &mut Search,
         pair: Pair,
     ) -> Result<Option<Ambiguity>, OutOfMemory>
-        ensures found { IfOk result (IsFoundIn self.old.grammar.now) }
-        ensures stays { self.new.grammar ≡ self.old.grammar }
+        requires { IsInside self.old.resolved.now.automaton conflict.now }
+        ensures found { IfOk result (IsFoundIn self.old.resolved.now
+            (conflict_from self.old.resolved.now.automaton conflict.now)) }
+        ensures stays { self.new.resolved ≡ self.old.resolved }
     {
         let mut pair = pair;
         let course = self.go_on(alloc, &mut pair, search.terminal)?;
@@ -73,7 +77,7 @@ impl Finder<'_> {
             Course::Ended => {
                 let ended = !pair.pending || search.terminal.0 == 0 && pair.is_whole(self.grammar);
                 if ended && pair.is_joined(self.grammar) {
-                    let found = self.joined(alloc, &pair, search.terminal)?;
+                    let found = self.joined(alloc, conflict, &pair)?;
                     if found.is_some() {
                         return Ok(found);
                     }
@@ -86,7 +90,7 @@ impl Finder<'_> {
 
     /// Goes on with two readings as long as they have the same symbol ahead.
     fn go_on(&mut self, alloc: Global, pair: &mut Pair, terminal: Sym) -> Result<Course, AllocError>
-        ensures { self.new.grammar ≡ self.old.grammar }
+        ensures { self.new.resolved ≡ self.old.resolved }
     {
         for _ in 0..LONGEST {
             let (Some(symbol), Some(same)) = (pair.one.next(), pair.other.next()) else {
@@ -117,7 +121,7 @@ impl Finder<'_> {
         pair: &mut Pair,
         symbol: Symbol,
     ) -> Result<(), AllocError>
-        ensures { self.new.grammar ≡ self.old.grammar }
+        ensures { self.new.resolved ≡ self.old.resolved }
     {
         pair.one.ahead.pop();
         pair.other.ahead.pop();

@@ -1,5 +1,6 @@
 //! The trees of two readings that have come to the same tokens.
 ghost use Rattle.std.specs.Prelude.{◌≡◌, IfOk};
+ghost use Rattle.ly_resolve.specs.Values.{conflict_from, IsInside};
 ghost use Rattle.ly_accepted.specs.Told.{IsFoundIn};
 
 use crate::ambiguity::{Ambiguity, Finder};
@@ -9,24 +10,28 @@ use crate::pair::Pair;
 use crate::reading::Reading;
 use crate::yields::push_reversed;
 use ly_base::{OutOfMemory, Sym};
-use ly_examples::{Claim, ambiguous_sentence};
+use ly_examples::{Claim, conflicting_sentence};
 use ly_join::Symbol;
 use ly_lr0::Item;
+use ly_resolve::Conflict;
 use std::alloc::{AllocError, Global};
 
 /// From how many states it is tried to lead to a pair.
 const STATES: usize = 4;
 
 impl Finder<'_> {
-    /// The sentence that two readings of one nonterminal have come to, if a string leads to where they begin.
+    /// The sentence that two readings of one nonterminal have come to, if a string leads to where they begin, and its
+    /// trees take both actions of a conflict.
     pub(crate) fn joined(
         &mut self,
         alloc: Global,
+        conflict: &Conflict,
         pair: &Pair,
-        terminal: Sym,
     ) -> Result<Option<Ambiguity>, OutOfMemory>
-        ensures found { IfOk result (IsFoundIn self.old.grammar.now) }
-        ensures stays { self.new.grammar ≡ self.old.grammar }
+        requires { IsInside self.old.resolved.now.automaton conflict.now }
+        ensures found { IfOk result (IsFoundIn self.old.resolved.now
+            (conflict_from self.old.resolved.now.automaton conflict.now)) }
+        ensures stays { self.new.resolved ≡ self.old.resolved }
     {
         for state in pair.states.iter().take(STATES) {
             if (state.0 as usize) >= self.lr0.states() {
@@ -34,12 +39,12 @@ impl Finder<'_> {
             }
             let mut prefix = self.lr0.prefix(alloc, *state)?;
             prefix.reverse();
-            let Some(way) = self.way_to(alloc, &prefix, pair, terminal)? else {
+            let Some(way) = self.way_to(alloc, &prefix, pair, conflict.terminal)? else {
                 continue;
             };
             let one = self.rules_of(alloc, &way, &pair.one)?;
             let other = self.rules_of(alloc, &way, &pair.other)?;
-            let found = ambiguous_sentence(alloc, self.grammar, &one, &other)?;
+            let found = conflicting_sentence(alloc, self.resolved, conflict, &one, &other)?;
             if let Some(sentence) = found {
                 return Ok(Some(Ambiguity {
                     sentence,
@@ -86,7 +91,7 @@ impl Finder<'_> {
         way: &[Item],
         reading: &Reading,
     ) -> Result<Vec<usize>, AllocError>
-        ensures { self.new.grammar ≡ self.old.grammar }
+        ensures { self.new.resolved ≡ self.old.resolved }
     {
         let (mut rules, mut outer, mut ahead) = (Vec::new(alloc), Vec::new(alloc), Vec::new(alloc));
         for item in way {

@@ -1,5 +1,7 @@
+pub mod AmbiguousLemmas
 pub mod AtLemmas
 pub mod BackLemmas
+pub mod BothLemmas
 pub mod ExampleLemmas
 pub mod FirstByteLemmas
 pub mod FoundLemmas
@@ -8,6 +10,7 @@ pub mod KeptLemmas
 pub mod MarkLemmas
 pub mod MatchedLemmas
 pub mod OpeningLemmas
+pub mod ParseLemmas
 pub mod ReductionLemmas
 pub mod RestLemmas
 pub mod RisingLemmas

@@ -1,178 +1,160 @@
--- Leftmost derivations that are under way: what passes a terminal, what takes a rule, and where they end.
+-- Leftmost derivations that are under way: what makes a move, what takes a rule, and where they end.
 use Rattle.std.proofs.Common.{◌≡◌, ◌∙◌, ◌↔◌, ℕ, ◌+◌, List, [], ◌∷◌, ◌++◌, refl, Option, Some, None}
 use Rattle.std.proofs.Common.{sym, ap, arith, subst, length, map, reverse, append-nil, slice_get, slice_index_or}
 use Rattle.std.proofs.Common.{◌<◌, ◌≤◌}
 use Rattle.std.proofs.lemmas.Option.{slice_get-get_or, slice_get-map, slice_get_within}
 use Rattle.std.specs.Option.{option_map}
-use Rattle.std.proofs.Common.{drop, suc}
+use Rattle.std.proofs.Common.{drop, suc, take}
 use Rattle.std.proofs.Math.Seq.{drop-cons}
-use Rattle.std.proofs.lemmas.List.{append_assoc, length-map, map-append, reverse-append}
-use Rattle.ly_base.specs.Lexed.{Token}
-use Rattle.ly_base.specs.Trees.{Trees, leaf, node, none, more, yield_of, yields_of}
+use Rattle.std.proofs.lemmas.List.{append_assoc, length-map, map-append, reverse-append, take_more}
+use Rattle.ly_base.specs.Trees.{Tree, Trees, leaf, node, none, more}
 use Rattle.ly_base.specs.declared.numbers.Sym.{Sym}
-use Rattle.ly_join.specs.Grammar.{Grammar, IsRule, GrammarRule, Symbol, nonterminal, symbol_of, terminal}
-use Rattle.ly_grammar.specs.Derivations.{AreTrees}
-use Rattle.ly_examples.specs.Sentences.{IsSentenceBy, rules_among, rules_of}
-use Rattle.ly_join.specs.declared.symbol.Symbol as code
-use Rattle.ly_examples.proofs.UnderwayLemmas.{told_turned}
-use Rattle.ly_examples.specs.Private.Leftmost.{ahead_of, Derive, IsPassed, IsUnderWay}
+use Rattle.ly_join.specs.Grammar.{Grammar, IsRule, GrammarRule, Symbol, nonterminal, terminal}
+use Rattle.ly_grammar.specs.Derivations.{AreTrees, IsTree}
+use Rattle.ly_examples.specs.Moves.{Move, moves_among, moves_of, reduces, shifts}
+use Rattle.ly_examples.specs.Sentences.{rules_among, rules_of}
+use Rattle.ly_examples.specs.Private.Leftmost.{Ahead, ahead_of, AreMovesBy, Derive, IsPassed, IsUnderWay, known}
+use Rattle.ly_examples.specs.Private.Leftmost.{open_at}
 
--- the terminals of tokens
-abbrev pub kinds : List (Token ℕ) → List ℕ
-kinds = map (λ t. t.terminal)
+-- A BODY
 
--- TREES ONE AFTER ANOTHER
+-- trees of a body, and what is behind it, from what is ahead
+parted : (G : Grammar) (w : List Symbol) (S : List Ahead) (rules : List ℕ) (moves : List Move)
+    → Derive G (map ahead_of w ++ S) rules moves
+    → (ts : Trees) × AreTrees G w ts × (others : List ℕ) × (rest : List Move) × (rules ≡ rules_among ts ++ others)
+    × (moves ≡ moves_among ts ++ rest) × Derive G S others rest
+parted G [] S rules moves d = (none, tt, rules, moves, refl, refl, d)
+parted G (terminal t ∷ w) S rules moves (v, e, d) =
+    let (ts, are, others, rest, first, second, on) = parted G w S rules v d in (
+      more (leaf (record { terminal = t; at = 0; bytes = [] })) ts,
+      (refl, are),
+      others,
+      rest,
+      first,
+      e ∙ ap (λ x. shifts t ∷ x) second,
+      on,
+    )
+parted G (nonterminal A ∷ w) S rules moves (tree, is, left, v, e, f, d) =
+    let (ts, are, others, rest, first, second, on) = parted G w S left v d in (
+      more tree ts,
+      (is, are),
+      others,
+      rest,
+      e ∙ ap (λ x. rules_of tree ++ x) first ∙ sym (append_assoc (rules_of tree) (rules_among ts) others),
+      f ∙ ap (λ x. moves_of tree ++ x) second ∙ sym (append_assoc (moves_of tree) (moves_among ts) rest),
+      on,
+    )
 
--- trees behind others
-abbrev joined : Trees → Trees → Trees
-joined none us = us
-joined (more t ts) us = more t (joined ts us)
-
-joined_are : (G : Grammar) (w : List Symbol) (v : List Symbol) (ts us : Trees) → AreTrees G w ts → AreTrees G v us
-    → AreTrees G (w ++ v) (joined ts us)
-joined_are G [] v none us are those = those
-joined_are G [] v (more t ts) us are those = absurd are
-joined_are G (X ∷ w) v none us are those = absurd are
-joined_are G (X ∷ w) v (more t ts) us are those = (are.0, joined_are G w v ts us are.1 those)
-
-joined_rules : (ts us : Trees) → rules_among (joined ts us) ≡ rules_among ts ++ rules_among us
-joined_rules none us = refl
-joined_rules (more t ts) us = ap (λ x. rules_of t ++ x) (joined_rules ts us)
-    ∙ sym (append_assoc (rules_of t) (rules_among ts) (rules_among us))
-
-joined_yields : (ts us : Trees) → yields_of (joined ts us) ≡ yields_of ts ++ yields_of us
-joined_yields none us = refl
-joined_yields (more t ts) us = ap (λ x. yield_of t ++ x) (joined_yields ts us)
-    ∙ sym (append_assoc (yield_of t) (yields_of ts) (yields_of us))
-
--- trees of symbols behind others are trees of those, and trees of these
-parted : (G : Grammar) (w : List Symbol) (v : List Symbol) (ts : Trees) → AreTrees G (w ++ v) ts
-    → (us : Trees) × (vs : Trees) × AreTrees G w us × AreTrees G v vs × (joined us vs ≡ ts)
-parted G [] v ts are = (none, ts, tt, are, refl)
-parted G (X ∷ w) v none are = absurd are
-parted G (X ∷ w) v (more t ts) are =
-    let it = parted G w v ts are.1 in
-    (more t it.0, it.1, (are.0, it.2), it.3, ap (more t) it.4)
+-- and the other way
+joined : (G : Grammar) (w : List Symbol) (S : List Ahead) (ts : Trees) (others : List ℕ) (rest : List Move)
+    → AreTrees G w ts → Derive G S others rest
+    → Derive G (map ahead_of w ++ S) (rules_among ts ++ others) (moves_among ts ++ rest)
+joined G [] S none others rest are d = d
+joined G [] S (more t ts) others rest are d = absurd are
+joined G (X ∷ w) S none others rest are d = absurd are
+joined G (terminal t ∷ w) S (more (node q us) ts) others rest are d = absurd are.0
+joined G (terminal t ∷ w) S (more (leaf x) ts) others rest are d = (
+  moves_among ts ++ rest,
+  ap (λ k. shifts k ∷ (moves_among ts ++ rest)) are.0,
+  joined G w S ts others rest are.1 d,
+)
+joined G (nonterminal A ∷ w) S (more tree ts) others rest are d = (
+  tree,
+  are.0,
+  rules_among ts ++ others,
+  moves_among ts ++ rest,
+  append_assoc (rules_of tree) (rules_among ts) others,
+  append_assoc (moves_of tree) (moves_among ts) rest,
+  joined G w S ts others rest are.1 d,
+)
 
 -- ONE STEP
 
--- a token of a terminal
-abbrev token : ℕ → Token ℕ
-token t = record { terminal = t; at = 0; bytes = [] }
-
--- a terminal in front is passed
-pub passes_one : (G : Grammar) (t : ℕ) (S : List Symbol) (rules w : List ℕ)
-    → Derive G (terminal t ∷ S) rules w ↔ ((v : List ℕ) × (w ≡ t ∷ v) × Derive G S rules v)
-passes_one G t S rules w = (λ (ts, are, has, yields). to ts are has yields, back) where
-  to : (ts : Trees) → AreTrees G (terminal t ∷ S) ts → rules_among ts ≡ rules → kinds (yields_of ts) ≡ w
-      → (v : List ℕ) × (w ≡ t ∷ v) × Derive G S rules v
-  to none are has yields = absurd are
-  to (more (node p us) ts) are has yields = absurd are.0
-  to (more (leaf x) ts) are has yields = (
-    kinds (yields_of ts),
-    sym yields ∙ ap (λ k. k ∷ kinds (yields_of ts)) are.0,
-    (ts, are.1, has, refl),
-  )
-
-  back : (v : List ℕ) × (w ≡ t ∷ v) × Derive G S rules v → Derive G (terminal t ∷ S) rules w
-  back (v, e, (ts, are, has, yields)) =
-      (more (leaf (token t)) ts, (refl, are), has, ap (λ x. t ∷ x) yields ∙ sym e)
-
--- so are more of them
-pub passes_all : (G : Grammar) (us : List ℕ) (S : List Symbol) (rules w : List ℕ)
-    → Derive G (map terminal us ++ S) rules w ↔ ((v : List ℕ) × (w ≡ us ++ v) × Derive G S rules v)
+-- moves that are known are made
+pub passes_all : (G : Grammar) (us : List Move) (S : List Ahead) (rules : List ℕ) (w : List Move)
+    → Derive G (map known us ++ S) rules w ↔ ((v : List Move) × (w ≡ us ++ v) × Derive G S rules v)
 passes_all G [] S rules w = (
   λ d. (w, refl, d),
   λ (v, e, d). subst (Derive G S rules) (sym e) d,
 )
 passes_all G (u ∷ us) S rules w = (
-  λ d.
-      let (v, e, on) = (passes_one G u (map terminal us ++ S) rules w).0 d in
+  λ (v, e, on).
       let (x, f, rest) = (passes_all G us S rules v).0 on in
       (x, e ∙ ap (λ y. u ∷ y) f, rest),
-  λ (x, e, rest). (passes_one G u (map terminal us ++ S) rules w).1
-      (us ++ x, e, (passes_all G us S rules (us ++ x)).1 (x, refl, rest)),
+  λ (x, e, rest). (us ++ x, e, (passes_all G us S rules (us ++ x)).1 (x, refl, rest)),
 )
 
--- a nonterminal in front takes the next rule, which is one of its own
-pub takes_rule : (G : Grammar) (A : ℕ) (S : List Symbol) (p : ℕ) (rules w : List ℕ)
-    → Derive G (nonterminal A ∷ S) (p ∷ rules) w
-    → (r : GrammarRule) × IsRule G p r × (r.left ≡ A) × Derive G (r.body ++ S) rules w
-takes_rule G A S p rules w (none, are, has, yields) = absurd are
-takes_rule G A S p rules w (more (leaf x) ts, are, has, yields) = absurd are.0
-takes_rule G A S p rules w (more (node q us) ts, ((r, is, left, those), are), has, yields) =
+-- A nonterminal in front takes the next rule, which is one of its own: its body comes in front, and then the reduction
+-- by it.
+pub takes_rule : (G : Grammar) (A : ℕ) (S : List Ahead) (p : ℕ) (rules : List ℕ) (w : List Move)
+    → Derive G (open_at A ∷ S) (p ∷ rules) w
+    → (r : GrammarRule) × IsRule G p r × (r.left ≡ A)
+    × Derive G (map ahead_of r.body ++ known (reduces p) ∷ S) rules w
+takes_rule G A S p rules w (leaf x, is, others, rest, first, second, on) = absurd is
+takes_rule G A S p rules w (node q us, (r, is, left, those), others, rest, first, second, on) =
     let same : q ≡ p = cc in
-    let rest : rules_among us ++ rules_among ts ≡ rules = cc in (
+    let behind : rules ≡ rules_among us ++ others = cc in
+    let made : w ≡ moves_among us ++ reduces p ∷ rest
+    = second ∙ append_assoc (moves_among us) (reduces q ∷ []) rest
+    ∙ ap (λ n. moves_among us ++ reduces n ∷ rest) same in
+    let S' : List Ahead = known (reduces p) ∷ S in
+    let d : Derive G (map ahead_of r.body ++ S') (rules_among us ++ others) (moves_among us ++ reduces p ∷ rest)
+    = joined G r.body S' us others (reduces p ∷ rest) those (rest, refl, on) in (
       r,
       subst (λ n. IsRule G n r) same is,
       left,
-      (
-        joined us ts,
-        joined_are G r.body S us ts those are,
-        joined_rules us ts ∙ rest,
-        ap kinds (joined_yields us ts) ∙ yields,
-      ),
+      subst (λ rs. Derive G (map ahead_of r.body ++ S') rs w) (sym behind)
+          (subst (Derive G (map ahead_of r.body ++ S') (rules_among us ++ others)) (sym made) d),
     )
 
-pub by_rule : (G : Grammar) (A : ℕ) (S : List Symbol) (p : ℕ) (r : GrammarRule) (rules w : List ℕ) → IsRule G p r
-    → r.left ≡ A → Derive G (r.body ++ S) rules w → Derive G (nonterminal A ∷ S) (p ∷ rules) w
-by_rule G A S p r rules w is left (ts, are, has, yields) =
-    let (us, vs, those, behind, same) = parted G r.body S ts are in (
-      more (node p us) vs,
-      ((r, is, left, those), behind),
-      ap (λ x. p ∷ x) (sym (joined_rules us vs) ∙ ap rules_among same ∙ has),
-      ap kinds (sym (joined_yields us vs) ∙ ap yields_of same) ∙ yields,
+pub by_rule : (G : Grammar) (A : ℕ) (S : List Ahead) (p : ℕ) (r : GrammarRule) (rules : List ℕ) (w : List Move)
+    → IsRule G p r → r.left ≡ A → Derive G (map ahead_of r.body ++ known (reduces p) ∷ S) rules w
+    → Derive G (open_at A ∷ S) (p ∷ rules) w
+by_rule G A S p r rules w is left d =
+    let (us, those, others, rest, first, second, (v, e, on)) = parted G r.body (known (reduces p) ∷ S) rules w d in (
+      node p us,
+      (r, is, left, those),
+      others,
+      v,
+      ap (λ x. p ∷ x) first,
+      second ∙ ap (λ x. moves_among us ++ x) e ∙ sym (append_assoc (moves_among us) (reduces p ∷ []) v),
+      on,
     )
 
 -- no nonterminal is replaced without a rule
-pub needs_rule : (G : Grammar) (A : ℕ) (S : List Symbol) (w : List ℕ) → Derive G (nonterminal A ∷ S) [] w → ⊥
-needs_rule G A S w (none, are, has, yields) = absurd are
-needs_rule G A S w (more (leaf x) ts, are, has, yields) = absurd are.0
-needs_rule G A S w (more (node q us) ts, are, has, yields) = cc
-
--- where nothing is ahead no rule is left, and nothing is yielded
-pub derive_none : (G : Grammar) (rules w : List ℕ) → Derive G [] rules w ↔ ((rules ≡ []) × (w ≡ []))
-derive_none G rules w = (
-  λ (ts, are, has, yields). to ts are has yields,
-  λ (rs, e). (none, tt, sym rs, sym e),
-)
-  where
-    to : (ts : Trees) → AreTrees G [] ts → rules_among ts ≡ rules → kinds (yields_of ts) ≡ w → (rules ≡ []) × (w ≡ [])
-    to none are has yields = (sym has, sym yields)
-    to (more t ts) are has yields = absurd are
+pub needs_rule : (G : Grammar) (A : ℕ) (S : List Ahead) (w : List Move) → Derive G (open_at A ∷ S) [] w → ⊥
+needs_rule G A S w (leaf x, is, others, rest, first, second, on) = absurd is
+needs_rule G A S w (node q us, is, others, rest, first, second, on) = cc
 
 -- UNDER WAY
 
 -- at the start nothing is done
-pub at_start : (G : Grammar) (rules : List ℕ) → IsUnderWay G rules [] (nonterminal G.start ∷ []) rules
+pub at_start : (G : Grammar) (rules : List ℕ) → IsUnderWay G rules [] (open_at G.start ∷ []) rules
 at_start G rules w = (
   λ s. (
     w,
     refl,
     (
-      more s.tree none,
-      (s.derives, tt),
-      append-nil (rules_of s.tree) ∙ s.has,
-      ap kinds (append-nil (yield_of s.tree)) ∙ s.yields,
+      s.tree,
+      s.derives,
+      [],
+      [],
+      sym (append-nil (rules_of s.tree) ∙ s.has),
+      sym (append-nil (moves_of s.tree) ∙ s.made),
+      (refl, refl),
     ),
   ),
-  λ (v, e, (ts, are, has, yields)). back ts are has (yields ∙ sym e),
+  λ (v, e, (tree, is, others, rest, first, second, (none_left, none_made))). record {
+    tree = tree;
+    derives = is;
+    has = sym (first ∙ ap (λ x. rules_of tree ++ x) none_left ∙ append-nil (rules_of tree));
+    made = sym (e ∙ second ∙ ap (λ x. moves_of tree ++ x) none_made ∙ append-nil (moves_of tree));
+  },
 )
-  where
-    back : (ts : Trees) → AreTrees G (nonterminal G.start ∷ []) ts → rules_among ts ≡ rules → kinds (yields_of ts) ≡ w
-        → IsSentenceBy G rules w
-    back none are has yields = absurd are
-    back (more t (more u ts)) are has yields = absurd are.1
-    back (more t none) are has yields = record {
-      tree = t;
-      derives = are.0;
-      has = sym (append-nil (rules_of t)) ∙ has;
-      yields = ap kinds (sym (append-nil (yield_of t))) ∙ yields;
-    }
 
--- behind terminals that are passed
-pub way_passed : (G : Grammar) (rules done : List ℕ) (S : List Symbol) (us left : List ℕ)
-    → IsUnderWay G rules done (map terminal us ++ S) left → IsUnderWay G rules (done ++ us) S left
+-- behind moves that are made
+pub way_passed : (G : Grammar) (rules : List ℕ) (done : List Move) (S : List Ahead) (us : List Move) (left : List ℕ)
+    → IsUnderWay G rules done (map known us ++ S) left → IsUnderWay G rules (done ++ us) S left
 way_passed G rules done S us left way w = (
   λ s.
       let (v, e, d) = (way w).0 s in
@@ -182,90 +164,111 @@ way_passed G rules done S us left way w = (
       (us ++ x, e ∙ append_assoc done us x, (passes_all G us S left (us ++ x)).1 (x, refl, rest)),
 )
 
-pub way_on : (G : Grammar) (rules : List ℕ) (old new : List Symbol) (before behind : List ℕ) (o : Option Sym) (n : Sym)
+pub way_on : (G : Grammar) (rules : List ℕ) (old new : List Ahead) (before behind : List Move) (o : Option Sym)
+    (n : Sym)
     (left : List ℕ) → IsUnderWay G rules before old left → IsPassed old new before behind o → o ≡ Some n
-    → IsUnderWay G rules behind (nonterminal n.0 ∷ new) left
+    → IsUnderWay G rules behind (open_at n.0 ∷ new) left
 way_on G rules old new before behind o n left way passed e =
     let (us, front, back) = subst (IsPassed old new before behind) e passed in
-    subst (λ w. IsUnderWay G rules w (nonterminal n.0 ∷ new) left) (sym back)
-    (way_passed G rules before (nonterminal n.0 ∷ new) us left
+    subst (λ w. IsUnderWay G rules w (open_at n.0 ∷ new) left) (sym back)
+    (way_passed G rules before (open_at n.0 ∷ new) us left
     (subst (λ w. IsUnderWay G rules before w left) front way))
 
-pub way_out : (G : Grammar) (rules : List ℕ) (old new : List Symbol) (before behind : List ℕ) (o : Option Sym)
+pub way_out : (G : Grammar) (rules : List ℕ) (old new : List Ahead) (before behind : List Move) (o : Option Sym)
     (left : List ℕ) → IsUnderWay G rules before old left → IsPassed old new before behind o → o ≡ None
     → IsUnderWay G rules behind [] left
 way_out G rules old new before behind o left way passed e =
     let (us, front, back) = subst (IsPassed old new before behind) e passed in
     subst (λ w. IsUnderWay G rules w [] left) (sym back) (way_passed G rules before [] us left
-    (subst (λ w. IsUnderWay G rules before w left) (front ∙ sym (append-nil (map terminal us))) way))
+    (subst (λ w. IsUnderWay G rules before w left) (front ∙ sym (append-nil (map known us))) way))
 
 -- behind a rule that is taken
-pub way_taken : (G : Grammar) (rules done : List ℕ) (A : ℕ) (S : List Symbol) (p : ℕ) (r : GrammarRule) (left : List ℕ)
-    → IsRule G p r → r.left ≡ A → IsUnderWay G rules done (nonterminal A ∷ S) (p ∷ left)
-    → IsUnderWay G rules done (r.body ++ S) left
+pub way_taken : (G : Grammar) (rules : List ℕ) (done : List Move) (A : ℕ) (S : List Ahead) (p : ℕ) (r : GrammarRule)
+    (left : List ℕ)
+    → IsRule G p r → r.left ≡ A → IsUnderWay G rules done (open_at A ∷ S) (p ∷ left)
+    → IsUnderWay G rules done (map ahead_of r.body ++ known (reduces p) ∷ S) left
 way_taken G rules done A S p r left is same way w = (
   λ s.
       let (v, e, d) = (way w).0 s in
       let (q, is_q, left_q, on) = takes_rule G A S p left v d in
       let one : Some (Some q) ≡ Some (Some r) = sym is_q ∙ is in
       let equal : q ≡ r = cc in
-      (v, e, subst (λ x. Derive G (x.body ++ S) left v) equal on),
+      (v, e, subst (λ x. Derive G (map ahead_of x.body ++ known (reduces p) ∷ S) left v) equal on),
   λ (v, e, d). (way w).1 (v, e, by_rule G A S p r left v is same d),
 )
 
--- no sentence has a rule that isn't one of the nonterminal in front
-pub way_other : (G : Grammar) (rules done : List ℕ) (A : ℕ) (S : List Symbol) (p : ℕ) (left : List ℕ)
-    → ((r : GrammarRule) → IsRule G p r → r.left ≡ A → ⊥) → IsUnderWay G rules done (nonterminal A ∷ S) (p ∷ left)
-    → (w : List ℕ) → IsSentenceBy G rules w → ⊥
+-- no tree has a rule that isn't one of the nonterminal in front
+pub way_other : (G : Grammar) (rules : List ℕ) (done : List Move) (A : ℕ) (S : List Ahead) (p : ℕ) (left : List ℕ)
+    → ((r : GrammarRule) → IsRule G p r → r.left ≡ A → ⊥) → IsUnderWay G rules done (open_at A ∷ S) (p ∷ left)
+    → (w : List Move) → AreMovesBy G rules w → ⊥
 way_other G rules done A S p left never way w s =
     let (v, e, d) = (way w).0 s in
     let (r, is, same, on) = takes_rule G A S p left v d in
     never r is same
 
 -- nor one too many
-pub way_over : (G : Grammar) (rules done : List ℕ) (p : ℕ) (left : List ℕ) → IsUnderWay G rules done [] (p ∷ left)
-    → (w : List ℕ) → IsSentenceBy G rules w → ⊥
+pub way_over : (G : Grammar) (rules : List ℕ) (done : List Move) (p : ℕ) (left : List ℕ)
+    → IsUnderWay G rules done [] (p ∷ left) → (w : List Move) → AreMovesBy G rules w → ⊥
 way_over G rules done p left way w s =
-    let (v, e, d) = (way w).0 s in
-    let both = (derive_none G (p ∷ left) v).0 d in
+    let (v, e, both) = (way w).0 s in
+    let many : p ∷ left ≡ [] = both.0 in
     cc
 
 -- nor one too few
-pub way_short : (G : Grammar) (rules done : List ℕ) (A : ℕ) (S : List Symbol)
-    → IsUnderWay G rules done (nonterminal A ∷ S) [] → (w : List ℕ) → IsSentenceBy G rules w → ⊥
+pub way_short : (G : Grammar) (rules : List ℕ) (done : List Move) (A : ℕ) (S : List Ahead)
+    → IsUnderWay G rules done (open_at A ∷ S) [] → (w : List Move) → AreMovesBy G rules w → ⊥
 way_short G rules done A S way w s =
     let (v, e, d) = (way w).0 s in
     needs_rule G A S v d
 
--- where nothing is left, what is done is the sentence
-pub way_end : (G : Grammar) (rules done : List ℕ) → IsUnderWay G rules done [] [] → IsSentenceBy G rules done
-way_end G rules done way = (way done).1 ([], sym (append-nil done), (derive_none G [] []).1 (refl, refl))
+-- where nothing is left, what is done are the moves
+pub way_end : (G : Grammar) (rules : List ℕ) (done : List Move) → IsUnderWay G rules done [] []
+    → AreMovesBy G rules done
+way_end G rules done way = (way done).1 ([], sym (append-nil done), (refl, refl))
 
--- a sentence by the rules is what is done
-pub one_sentence : (G : Grammar) (rules done : List ℕ) → IsUnderWay G rules done [] [] → (w : List ℕ)
-    → IsSentenceBy G rules w → w ≡ done
-one_sentence G rules done way w s =
-    let (v, e, d) = (way w).0 s in
-    let both = (derive_none G [] v).0 d in
-    e ∙ ap (λ x. done ++ x) both.1 ∙ append-nil done
+-- moves by the rules are those that are done
+pub only_moves : (G : Grammar) (rules : List ℕ) (done : List Move) → IsUnderWay G rules done [] [] → (w : List Move)
+    → AreMovesBy G rules w → w ≡ done
+only_moves G rules done way w s =
+    let (v, e, both) = (way w).0 s in
+    let nothing : v ≡ [] = both.1 in
+    e ∙ ap (λ x. done ++ x) nothing ∙ append-nil done
 
 -- WHAT IS AHEAD
 
--- symbols that are kept behind others, turned round, are next
-pub ahead_body : (kept body : List code.Symbol) → ahead_of (kept ++ reverse body) ≡ map symbol_of body ++ ahead_of kept
-ahead_body kept body = ap reverse (map-append symbol_of kept (reverse body))
-    ∙ reverse-append (map symbol_of kept) (map symbol_of (reverse body))
-    ∙ ap (λ w. w ++ ahead_of kept) (told_turned body)
+-- each of a list is mapped twice
+pub mapped_twice : {X Y Z : Type 0} (f : X → Y) (g : Y → Z) (xs : List X) → map g (map f xs) ≡ map (λ x. g (f x)) xs
+mapped_twice f g [] = refl
+mapped_twice f g (x ∷ xs) = ap (λ w. g (f x) ∷ w) (mapped_twice f g xs)
 
--- one more terminal is passed
-pub passed_more : (S old next : List Symbol) (t : ℕ) (us before done behind : List ℕ) → S ≡ map terminal us ++ old
-    → old ≡ terminal t ∷ next → done ≡ before ++ us → behind ≡ done ++ t ∷ []
-    → (vs : List ℕ) × (S ≡ map terminal vs ++ next) × (behind ≡ before ++ vs)
-passed_more S old next t us before done behind front first back last = (
-  us ++ t ∷ [],
-  front ∙ ap (λ w. map terminal us ++ w) first ∙ sym (append_assoc (map terminal us) (terminal t ∷ []) next)
-      ∙ ap (λ w. w ++ next) (sym (map-append terminal us (t ∷ []))),
-  last ∙ ap (λ w. w ++ t ∷ []) back ∙ append_assoc before us (t ∷ []),
+-- what is kept last is next
+pub kept_last : {X Y : Type 0} (f : X → Y) (kept : List X) (x : X)
+    → reverse (map f (kept ++ x ∷ [])) ≡ f x ∷ reverse (map f kept)
+kept_last f kept x = ap reverse (map-append f kept (x ∷ [])) ∙ reverse-append (map f kept) (f x ∷ [])
+
+-- one more of them, which stand for others
+pub kept_more : {X Y Z : Type 0} (f : Z → Y) (g : X → Y) (old new start : List Z) (z : Z) (xs : List X) (n : ℕ)
+    (d x : X)
+    → n < length xs → x ≡ slice_index_or xs n d → new ≡ old ++ z ∷ [] → f z ≡ g x
+    → reverse (map f old) ≡ reverse (map g (take n xs)) ++ reverse (map f start)
+    → reverse (map f new) ≡ reverse (map g (take (n + 1) xs)) ++ reverse (map f start)
+kept_more f g old new start z xs n d x lt here pushed alike before =
+    let more : take (n + 1) xs ≡ take n xs ++ x ∷ [] = take_more xs n d lt ∙ ap (λ y. take n xs ++ y ∷ []) (sym here)
+    in
+    ap (λ w. reverse (map f w)) pushed ∙ kept_last f old z ∙ ap (λ y. y ∷ reverse (map f old)) alike
+    ∙ ap (λ w. g x ∷ w) before
+    ∙ ap (λ w. w ++ reverse (map f start)) (sym (kept_last g (take n xs) x))
+    ∙ ap (λ w. reverse (map g w) ++ reverse (map f start)) (sym more)
+
+-- one more move is made
+pub passed_more : (S old next : List Ahead) (m : Move) (us before done behind : List Move) → S ≡ map known us ++ old
+    → old ≡ known m ∷ next → done ≡ before ++ us → behind ≡ done ++ m ∷ []
+    → (vs : List Move) × (S ≡ map known vs ++ next) × (behind ≡ before ++ vs)
+passed_more S old next m us before done behind front first back last = (
+  us ++ m ∷ [],
+  front ∙ ap (λ w. map known us ++ w) first ∙ sym (append_assoc (map known us) (known m ∷ []) next)
+      ∙ ap (λ w. w ++ next) (sym (map-append known us (m ∷ []))),
+  last ∙ ap (λ w. w ++ m ∷ []) back ∙ append_assoc before us (m ∷ []),
 )
 
 -- THE RULES OF A GRAMMAR
@@ -298,10 +301,11 @@ pub next_rule : (rules : List ℕ) (k : ℕ) → k < length rules
 next_rule rules k lt = drop-cons rules k 0 lt
     ∙ ap (λ n. slice_index_or rules k 0 ∷ drop n rules) (let e : suc k ≡ k + 1 = omega arith in e)
 
--- where rules are left, behind the terminals that are ahead: the next one is that of the nonterminal behind them
-pub way_next : (G : Grammar) (rules : List ℕ) (k : ℕ) (old new : List Symbol) (before behind : List ℕ) (o : Option Sym)
+-- where rules are left, behind the moves that are known: the next one is that of the nonterminal behind them
+pub way_next : (G : Grammar) (rules : List ℕ) (k : ℕ) (old new : List Ahead) (before behind : List Move)
+    (o : Option Sym)
     (n : Sym) → k < length rules → IsUnderWay G rules before old (drop k rules) → IsPassed old new before behind o
     → o ≡ Some n
-    → IsUnderWay G rules behind (nonterminal n.0 ∷ new) (slice_index_or rules k 0 ∷ drop (k + 1) rules)
+    → IsUnderWay G rules behind (open_at n.0 ∷ new) (slice_index_or rules k 0 ∷ drop (k + 1) rules)
 way_next G rules k old new before behind o n lt way = way_on G rules old new before behind o n
     (slice_index_or rules k 0 ∷ drop (k + 1) rules) (subst (IsUnderWay G rules before old) (next_rule rules k lt) way)

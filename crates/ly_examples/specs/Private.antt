@@ -7,6 +7,7 @@ pub mod Marks
 pub mod Matched
 pub mod Met
 pub mod Opening
+pub mod Parses
 pub mod Reductions
 pub mod Searches
 pub mod Unmarked

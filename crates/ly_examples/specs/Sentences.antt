@@ -32,7 +32,3 @@ pub record HasTwoTrees (G : Grammar) (one other : List ℕ) (sentence : List ℕ
 -- terminals as they are kept
 abbrev pub numbers_of : List Sym → List ℕ
 numbers_of = map (λ t. t.0)
-
--- no sentence has two trees with these rules
-abbrev pub HaveNone : Grammar → List ℕ → List ℕ → Type 0
-HaveNone G one other = (sentence : List ℕ) → HasTwoTrees G one other sentence → ⊥

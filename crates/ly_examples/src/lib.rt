@@ -17,8 +17,12 @@
 //! states, the rows, the rules; from which states a string leads to a rule that returns its first byte is one pass
 //! along the moves.
 //!
+//! `conflicting_sentence` says of the rules of two trees whether these are trees of one sentence that take both
+//! actions of a conflict (`IsAmbiguousAt`). It makes the moves of a parser on the way to each, those of a rightmost
+//! derivation in reverse: both begin with the same ones, which lead to the state of the conflict, and part there.
+//!
 //! Left out: which conflicts there are, which rules are removed, what is told of them, that no shorter string is an
-//! example, and sentences with two trees.
+//! example, and where sentences with two trees are sought.
 #![tactic(auto)]
 
 mod claim;
@@ -31,6 +35,8 @@ mod incoming;
 mod laws;
 mod lists;
 mod marks;
+mod moves;
+mod parses;
 mod rest;
 mod search;
 mod sentences;
@@ -43,7 +49,7 @@ mod unused;
 pub use claim::{Claim, Demand};
 pub use example::{Example, Examples};
 pub use laws::{examples_follow, matched_rules_win, shifts_have_examples};
-pub use sentences::ambiguous_sentence;
+pub use sentences::conflicting_sentence;
 pub use unmatched::unmatched_rules;
 pub use unreduced::unreduced_rules;
 pub use unreturned::unreturned_terminals;

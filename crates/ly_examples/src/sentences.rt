@@ -1,91 +1,117 @@
-//! Sentences that have two trees, each of which is told by its rules.
-ghost use Rattle.std.specs.Prelude.{◌≡◌, ◌++◌, map, IfOk, MatchOption, OnOk};
-ghost use Rattle.ly_join.specs.Grammar.{symbol_of};
-ghost use Rattle.ly_examples.specs.Sentences.{HasTwoTrees, HaveNone, numbers_of};
-ghost use Rattle.ly_examples.specs.Private.Leftmost.{ahead_of, AreOfNone, IsOnlySentence, IsPassed};
+//! Sentences with two trees, each of which is told by its rules, that take both actions of a conflict.
+ghost use Rattle.std.specs.Prelude.{◌≡◌, ◌↔◌, IfOk, IsTrue, MatchOption, Some, option_map};
+ghost use Rattle.ly_resolve.specs.Values.{action_from, conflict_from, IsInside, kind_from};
+ghost use Rattle.ly_examples.specs.Examples.{rival as rival_of};
+ghost use Rattle.ly_examples.specs.Moves.{HaveNoneAt, IsAmbiguousAt, move_before, reduces, shifted as shifted_by};
+ghost use Rattle.ly_examples.specs.Moves.{TakeBoth};
+ghost use Rattle.ly_examples.specs.Sentences.{numbers_of};
+ghost use Rattle.ly_examples.specs.Private.Leftmost.{move_from, moves_from};
 
+use crate::moves::{Move, moves_by};
+use crate::parses::{next_shifted, shared_length, shifted, state_behind, string_behind};
 use ly_base::{OutOfMemory, Sym};
-use ly_join::{Grammar, Symbol};
+use ly_resolve::{Action, Conflict, ConflictKind, Resolved};
 use std::alloc::{AllocError, Global};
 
-/// The sentence that has two trees, by the rules of each: those of its leftmost derivation, in order. None where these
-/// are not two trees of one sentence.
+/// The sentence that has two trees, by the rules of each, those of its leftmost derivation in order, if they take both
+/// actions of a conflict at its place: the first what stands against its rule, and the second that rule. None where
+/// these are not two trees of one sentence, or don't take both actions.
 ///
 /// `OutOfMemory` comes where a growth was refused.
-pub fn ambiguous_sentence(
+pub fn conflicting_sentence(
     alloc: Global,
-    grammar: &Grammar,
+    resolved: &Resolved<'_>,
+    conflict: &Conflict,
     one: &[usize],
     other: &[usize],
 ) -> Result<Option<Vec<Sym>>, OutOfMemory>
-    ensures { IfOk result (λ found. MatchOption found (HaveNone grammar.now one.now other.now)
-        (λ sentence. HasTwoTrees grammar.now one.now other.now (numbers_of sentence.items))) }
+    requires { IsInside resolved.now.automaton conflict.now }
+    ensures { IfOk result (λ found. MatchOption found
+        (HaveNoneAt resolved.now (conflict_from resolved.now.automaton conflict.now) one.now other.now)
+        (λ sentence. IsAmbiguousAt resolved.now (conflict_from resolved.now.automaton conflict.now) one.now other.now
+        (numbers_of sentence.items))) }
 {
-    if one == other {
+    let grammar = resolved.spec().grammar();
+    let Some(mut first) = moves_by(alloc, grammar, one)? else {
+        return Ok(None);
+    };
+    let Some(mut second) = moves_by(alloc, grammar, other)? else {
+        return Ok(None);
+    };
+    let sentence = shifted(alloc, &first)?;
+    if shifted(alloc, &second)? != sentence {
         return Ok(None);
     }
-    let Some(sentence) = sentence_by(alloc, grammar, one)? else {
-        return Ok(None);
-    };
-    let Some(same) = sentence_by(alloc, grammar, other)? else {
-        return Ok(None);
-    };
-    if same != sentence {
+    // a parser that accepts shifts the end behind them
+    first.push(Move::Shift(Sym(0)))?;
+    second.push(Move::Shift(Sym(0)))?;
+    if !take_both(alloc, resolved, conflict, &first, &second)? {
         return Ok(None);
     }
     Ok(Some(sentence))
 }
 
-/// The sentence whose leftmost derivation has these rules, if there is one.
-fn sentence_by(
+/// Whether two parses of the same terminals take both actions of a conflict.
+fn take_both(
     alloc: Global,
-    grammar: &Grammar,
-    rules: &[usize],
-) -> Result<Option<Vec<Sym>>, AllocError>
-    ensures { IfOk result (λ found. MatchOption found (AreOfNone grammar.now rules.now)
-        (λ sentence. IsOnlySentence grammar.now rules.now (numbers_of sentence.items))) }
+    resolved: &Resolved<'_>,
+    conflict: &Conflict,
+    one: &[Move],
+    other: &[Move],
+) -> Result<bool, AllocError>
+    requires inside { IsInside resolved.now.automaton conflict.now }
+    requires same { shifted_by (moves_from one.now) ≡ shifted_by (moves_from other.now) }
+    ensures { IfOk result (λ both. IsTrue both ↔ TakeBoth resolved.now
+        (conflict_from resolved.now.automaton conflict.now) (moves_from one.now) (moves_from other.now)) }
 {
-    let mut ahead = Vec::new(alloc);
-    ahead.push(Symbol::Nonterminal(grammar.start()))?;
-    let mut sentence = Vec::new(alloc);
-    for number in rules {
-        let Some(left) = next_left(&mut ahead, &mut sentence)? else {
-            return Ok(None);
-        };
-        let Some(rule) = grammar.rules().get(*number) else {
-            return Ok(None);
-        };
-        if rule.left() != left {
-            return Ok(None);
-        }
-        push_body(alloc, &mut ahead, rule.body())?;
+    let lr0 = resolved.lr0();
+    let _states = lr0.states();
+    let shared = shared_length(one, other);
+    let Some(first) = one.get(shared) else {
+        return Ok(false);
+    };
+    let Some(second) = other.get(shared) else {
+        return Ok(false);
+    };
+    if !are_actions(conflict, *first, *second) {
+        return Ok(false);
     }
-    match next_left(&mut ahead, &mut sentence)? {
-        None => Ok(Some(sentence)),
-        Some(_) => Ok(None),
+    let Some(next) = next_shifted(&one[shared..]) else {
+        return Ok(false);
+    };
+    if next != conflict.terminal {
+        return Ok(false);
+    }
+    let grammar = resolved.spec().grammar();
+    let Some(string) = string_behind(alloc, grammar, &one[..shared])? else {
+        return Ok(false);
+    };
+    match state_behind(lr0, &string) {
+        Some(state) => Ok(state == conflict.state),
+        None => Ok(false),
     }
 }
 
-/// Passes the terminals that are ahead, and takes the nonterminal behind them, if there is one.
-fn next_left(ahead: &mut Vec<Symbol>, sentence: &mut Vec<Sym>) -> Result<Option<Sym>, AllocError>
-    ensures { IfOk result (IsPassed (ahead_of ahead.old.items) (ahead_of ahead.new.items)
-        (numbers_of sentence.old.items) (numbers_of sentence.new.items)) }
+/// Whether the first move is what stands against the rule of a conflict, and the second reduces by that rule.
+fn are_actions(conflict: &Conflict, first: Move, second: Move) -> bool
+    ensures { IsTrue result ↔ ((move_before conflict.now.terminal.0
+        (rival_of (kind_from conflict.now.kind) (action_from conflict.now.choice)) ≡ Some (move_from first))
+        × (move_from second ≡ reduces conflict.now.rule)) }
 {
-    while let Some(symbol) = ahead.pop() {
-        match symbol {
-            Symbol::Terminal(terminal) => sentence.push(terminal)?,
-            Symbol::Nonterminal(left) => return Ok(Some(left)),
-        }
+    match rival(conflict) {
+        Some(rival) => first == rival && second == Move::Reduce(conflict.rule),
+        None => false,
     }
-    Ok(None)
 }
 
-/// Puts a body in front of what is ahead.
-fn push_body(alloc: Global, ahead: &mut Vec<Symbol>, body: &[Symbol]) -> Result<(), AllocError>
-    ensures { OnOk result (ahead_of ahead.new.items ≡ map symbol_of body.now ++ ahead_of ahead.old.items) }
+/// The move that stands against the rule of a conflict; an error is none.
+fn rival(conflict: &Conflict) -> Option<Move>
+    ensures { option_map move_from result ≡ move_before conflict.now.terminal.0
+        (rival_of (kind_from conflict.now.kind) (action_from conflict.now.choice)) }
 {
-    let mut reversed = Vec::from_slice(alloc, body)?;
-    reversed.reverse();
-    ahead.extend_from_slice(&reversed)?;
-    Ok(())
+    match (conflict.kind, conflict.choice) {
+        (ConflictKind::ShiftReduce, _) | (_, Action::Shift) => Some(Move::Shift(conflict.terminal)),
+        (ConflictKind::ReduceReduce, Action::Reduce(rule)) => Some(Move::Reduce(rule)),
+        (ConflictKind::ReduceReduce, Action::Error) => None,
+    }
 }

@@ -1,0 +1,98 @@
+//! The moves of a parser on the way to a tree, which is told by its rules.
+ghost use Rattle.std.specs.Prelude.{◌≡◌, ◌∷◌, ◌++◌, [], map, IfOk, MatchOption, OnOk};
+ghost use Rattle.ly_join.specs.Grammar.{symbol_of};
+ghost use Rattle.ly_examples.specs.Moves.{shifts};
+ghost use Rattle.ly_examples.specs.Private.Leftmost.{ahead_from, ahead_of, AreOfNone, AreOnlyMoves, IsPassed};
+ghost use Rattle.ly_examples.specs.Private.Leftmost.{moves_from, next_of};
+
+use ly_base::Sym;
+use ly_join::{Grammar, Symbol};
+use std::alloc::{AllocError, Global};
+
+/// What a parser does.
+#[derive(Clone, Copy, Debug, PartialEq, Eq)]
+pub(crate) enum Move {
+    /// It shifts a terminal.
+    Shift(Sym),
+    /// It reduces by the rule of this number.
+    Reduce(usize),
+}
+
+/// What is ahead on the way to a tree.
+#[derive(Clone, Copy)]
+enum Ahead {
+    /// A move that is known.
+    Known(Move),
+    /// A nonterminal, which a rule is still to replace.
+    Open(Sym),
+}
+
+/// The moves of a parser on the way to the tree whose leftmost derivation has these rules, if there is one.
+pub(crate) fn moves_by(
+    alloc: Global,
+    grammar: &Grammar,
+    rules: &[usize],
+) -> Result<Option<Vec<Move>>, AllocError>
+    ensures { IfOk result (λ found. MatchOption found (AreOfNone grammar.now rules.now)
+        (λ moves. AreOnlyMoves grammar.now rules.now (moves_from moves.items))) }
+{
+    let mut ahead = Vec::new(alloc);
+    ahead.push(Ahead::Open(grammar.start()))?;
+    let mut moves = Vec::new(alloc);
+    for number in rules {
+        let Some(left) = next_left(&mut ahead, &mut moves)? else {
+            return Ok(None);
+        };
+        let Some(rule) = grammar.rules().get(*number) else {
+            return Ok(None);
+        };
+        if rule.left() != left {
+            return Ok(None);
+        }
+        ahead.push(Ahead::Known(Move::Reduce(*number)))?;
+        push_body(alloc, &mut ahead, rule.body())?;
+    }
+    match next_left(&mut ahead, &mut moves)? {
+        None => Ok(Some(moves)),
+        Some(_) => Ok(None),
+    }
+}
+
+/// Makes the moves that are known, and takes the nonterminal behind them, if there is one.
+fn next_left(ahead: &mut Vec<Ahead>, moves: &mut Vec<Move>) -> Result<Option<Sym>, AllocError>
+    ensures { IfOk result (IsPassed (next_of ahead.old.items) (next_of ahead.new.items)
+        (moves_from moves.old.items) (moves_from moves.new.items)) }
+{
+    while let Some(next) = ahead.pop() {
+        match next {
+            Ahead::Known(known) => moves.push(known)?,
+            Ahead::Open(left) => return Ok(Some(left)),
+        }
+    }
+    Ok(None)
+}
+
+/// Puts a body in front of what is ahead.
+fn push_body(alloc: Global, ahead: &mut Vec<Ahead>, body: &[Symbol]) -> Result<(), AllocError>
+    ensures { OnOk result (next_of ahead.new.items
+        ≡ map (λ x. ahead_of (symbol_of x)) body.now ++ next_of ahead.old.items) }
+{
+    let mut reversed = Vec::from_slice(alloc, body)?;
+    reversed.reverse();
+    for symbol in &reversed {
+        ahead.push(Ahead::of(*symbol))?;
+    }
+    Ok(())
+}
+
+impl Ahead {
+    /// What a symbol of a body is ahead.
+    fn of(symbol: Symbol) -> Ahead
+        ensures { ahead_from result ≡ ahead_of (symbol_of symbol) }
+    {
+        match symbol {
+            Symbol::Terminal(terminal) => Ahead::Known(Move::Shift(terminal)),
+            Symbol::Nonterminal(left) => Ahead::Open(left),
+        }
+    }
+}
