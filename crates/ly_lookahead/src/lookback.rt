@@ -27,9 +27,9 @@ pub(crate) fn look_back(
         (AreLookedBack lr0.now first.now relations.now.lookbacks sets.old.sets sets.new.sets) }
 {
     for lookback in relations.lookbacks() {
-        if let Some(place) = place_of(lr0.complete(lookback.state), lookback.rule) {
+        if let Some(place) = place_of(lr0.complete(lookback.state), lookback.rule as usize) {
             let row = first[lookback.state.0 as usize] + place;
-            sets.union_row(row, lookback.node)?;
+            sets.union_row(row, lookback.node as usize)?;
         }
     }
     Ok(())

@@ -27,9 +27,22 @@ pub struct Lookback {
     /// The state.
     pub state: StateNo,
     /// The rule's number.
-    pub rule: usize,
+    pub rule: u32,
     /// The node that stands for them: a transition's number, or past these one from which edges lead to each.
-    pub node: usize,
+    pub node: u32,
+}
+
+impl Lookback {
+    /// A rule that is complete in a state looks back to the transitions for which a node stands. It is out of memory
+    /// where a number has no `u32`: no graph has so many nodes, and no grammar so many rules.
+    fn new(state: StateNo, rule: usize, node: usize) -> Result<Lookback, OutOfMemory>
+        ensures { IfOk result (λ l. lookback_from l ≡ record { state = state.0; rule = rule; node = node }) }
+    {
+        match (u32::try_from(rule), u32::try_from(node)) {
+            (Ok(rule), Ok(node)) => Ok(Lookback { state, rule, node }),
+            _ => Err(OutOfMemory),
+        }
+    }
 }
 
 /// What walks found.
@@ -160,7 +173,8 @@ impl Walks {
     {
         let body = gotos.lr0().reduced().grammar().rule(rule).body();
         if let Some(state) = self.pass(gotos, gotos.get(goto).from, body)? {
-            self.lookbacks.push(Lookback { state, rule, node })?;
+            let lookback = Lookback::new(state, rule, node)?;
+            self.lookbacks.push(lookback)?;
             self.include(gotos, node, body)?;
         }
         Ok(())

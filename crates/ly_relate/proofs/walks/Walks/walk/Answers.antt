@@ -1,4 +1,4 @@
-use Rattle.std.proofs.Common.{◌∙◌, ◌++◌, ◌∷◌, [], length, map, sym, ap, subst}
+use Rattle.std.proofs.Common.{◌∙◌, ◌++◌, ◌∷◌, [], length, map, sym, ap, ap₂, subst}
 use Rattle.std.specs.Prelude.{MatchOption}
 use Rattle.std.proofs.lemmas.List.{length-map, map-append}
 use Rattle.ly_join.specs.Grammar.{symbol_of}
@@ -43,7 +43,7 @@ returns-in_ok-include-clause-lookbacks c =
     let passed : IsPassed n.automaton c.get.result.from.0 body (length c.body-body.result.now) path c.in-Some.state.0
     = subst (λ o. MatchOption o (IsStopped n.automaton c.get.result.from.0 body) (λ s. IsPassed n.automaton
     c.get.result.from.0 body (length c.body-body.result.now) path s.0)) c.in-Some.is c.in_ok-state.ensures.passed in
-    let v : code.Lookback = record { state = c.in-Some.state; rule = c.args.rule; node = c.args.node } in
+    let v : code.Lookback = c.in_ok-lookback.lookback in
     let before = ap (λ l. map lookback_from l.items) c.in_ok-state.ensures.lookbacks in
     back_by n c.get.ensures.lawful c.args.goto c.args.node c.args.rule c.get.result.from.0 body
     (length c.body-body.result.now) path
@@ -52,7 +52,8 @@ returns-in_ok-include-clause-lookbacks c =
     (sym (length-map c.body-body.result.now symbol_of)) passed
     (ap (λ l. map lookback_from l.items) c.in_ok-include.ensures.lookbacks
     ∙ ap (map lookback_from) c.in_ok-push.ensures.items
-    ∙ map-append lookback_from c.pass.new.self.lookbacks.items (v ∷ []) ∙ ap (λ w. w ++ lookback_from v ∷ []) before)
+    ∙ map-append lookback_from c.pass.new.self.lookbacks.items (v ∷ [])
+    ∙ ap₂ (λ w l. w ++ l ∷ []) before c.in_ok-lookback.ensures)
 
 pub returns-in_default-clause-includes : goal.returns-in_default-clause-includes
 returns-in_default-clause-includes c =
