@@ -167,12 +167,12 @@ impl<'a> Finder<'a> {
         search: &mut Search,
         conflict: &Conflict,
     ) -> Result<(), OutOfMemory> {
-        let other = self.complete(conflict.rule);
+        let other = self.complete(conflict.rule.0 as usize);
         if let (ConflictKind::ReduceReduce, Action::Reduce(rule)) = (
             conflict.kind,
             conflict.choice,
         ) {
-            let one = self.complete(rule);
+            let one = self.complete(rule.0 as usize);
             return Ok(self.begin_with(alloc, search, conflict.state, one, other)?);
         }
         let ahead = Some(Symbol::Terminal(conflict.terminal));

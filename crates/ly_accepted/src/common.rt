@@ -4,6 +4,7 @@ ghost use Rattle.ly_accepted.specs.Groups.{answer_from};
 ghost use Rattle.ly_accepted.specs.Private.Keys.{choice_from, common_from, key_from};
 
 use indexmap::IndexSet;
+use ly_base::RuleNo;
 use ly_examples::Example;
 use ly_resolve::{Action, Conflict, ConflictKind};
 use std::alloc::{AllocError, Global};
@@ -15,7 +16,7 @@ pub(crate) enum Choice {
     /// The shift.
     Shift,
     /// A reduction by a rule.
-    Reduction(usize),
+    Reduction(RuleNo),
     /// Neither: the terminal is refused.
     Refusal,
 }
@@ -26,7 +27,7 @@ pub(crate) struct Common {
     /// Their state.
     pub(crate) state: u32,
     /// Their rule.
-    pub(crate) rule: usize,
+    pub(crate) rule: RuleNo,
     /// What is chosen.
     pub(crate) choice: Choice,
     /// Whether it is a shift that stands against the rule.

@@ -7,7 +7,7 @@ use crate::surveying::Accepted;
 use crate::told::{Readings, Shown, Spot, Told};
 use crate::trees::told_apart;
 use crate::ways::{Ways, drawn_ways};
-use ly_base::{OutOfMemory, Sym};
+use ly_base::{OutOfMemory, RuleNo, Sym};
 use ly_join::{Spec, Symbol};
 use ly_page::Page;
 use ly_resolve::{Action, ConflictKind};
@@ -65,7 +65,8 @@ fn say_rules(page: &mut Page, files: &Accepted<'_>, places: &Places, told: &Told
 }
 
 /// Says a rule, its number and its place.
-fn say_rule(page: &mut Page, files: &Accepted<'_>, places: &Places, rule: usize) {
+fn say_rule(page: &mut Page, files: &Accepted<'_>, places: &Places, rule: RuleNo) {
+    let rule = rule.0 as usize;
     let at = places.location_of_rule(rule);
     page.say(b"{\"number\":");
     page.say_number(rule as u64);

@@ -95,7 +95,7 @@ fn say_same(page: &mut Page, conflict: &Conflict) {
     if let Some(rule) = reduced_rival(conflict) {
         say_numbered(page, b"    Rule ", rule as u64, b" and rule ");
         let behind = b" are the same: leave one of them out.\n";
-        say_numbered(page, b"", conflict.rule as u64, behind);
+        say_numbered(page, b"", conflict.rule.0 as u64, behind);
     }
 }
 

@@ -3,7 +3,7 @@ ghost use Rattle.std.specs.Prelude.{◌≡◌, ◌<◌, ℕ, Contains, IfOk, len
 ghost use Rattle.ly_resolve.specs.Conflicts as spec;
 ghost use Rattle.ly_resolve.specs.Values.{conflict_from, IsInside};
 ghost use Rattle.ly_accepted.specs.Groups.{AreGroups, IsGroup};
-ghost use Rattle.ly_accepted.specs.Private.Grouping.{IsSought};
+ghost use Rattle.ly_accepted.specs.Private.Grouping.{IsAt, IsSought};
 ghost use Rattle.ly_accepted.specs.Told.{AreReadings, AreTerminalsOf, AreTold, IsShown, IsTold};
 
 use crate::ambiguity::Finder;
@@ -161,13 +161,21 @@ impl Teller<'_> {
         ensures told { IfOk result (IsTold self.now.examples.now group.now.conflicts.items) }
         ensures stays { finder.new.resolved ≡ finder.old.resolved }
     {
-        let conflict = &self.examples.resolved().conflicts()[group.conflicts[0]];
+        let conflict = self.conflict(group.conflicts[0]);
         Ok(Told {
-            conflict: *conflict,
+            conflict,
             terminals: self.terminals(alloc, &group.conflicts)?,
             prefix: self.cores.prefix(alloc, conflict.state)?,
-            shown: self.shown(alloc, conflict, group, finder)?,
+            shown: self.shown(alloc, &conflict, group, finder)?,
         })
+    }
+
+    /// The conflict of an index.
+    fn conflict(&self, index: usize) -> Conflict
+        requires { index < length self.now.examples.now.conflicts }
+        ensures { IsAt self.now.examples.now index result }
+    {
+        self.examples.resolved().conflicts().get(index).unwrap()
     }
 
     /// The terminals of the conflicts of these indices.
@@ -175,10 +183,9 @@ impl Teller<'_> {
         requires { (i : ℕ) → Contains group.now i → i < length self.now.examples.now.conflicts }
         ensures { IfOk result (λ terminals. AreTerminalsOf self.now.examples.now group.now terminals.items) }
     {
-        let conflicts = self.examples.resolved().conflicts();
         let mut terminals = Vec::new(alloc);
         for index in group {
-            terminals.push(conflicts[*index].terminal)?;
+            terminals.push(self.conflict(*index).terminal)?;
         }
         Ok(terminals)
     }
@@ -293,7 +300,7 @@ impl Teller<'_> {
 fn is_between_same(grammar: &Grammar, conflict: &Conflict) -> bool {
     match (conflict.kind, conflict.choice) {
         (ConflictKind::ReduceReduce, Action::Reduce(rule)) => {
-            are_same(grammar, rule, conflict.rule)
+            are_same(grammar, rule.0 as usize, conflict.rule.0 as usize)
         }
         _ => false,
     }

@@ -5,7 +5,7 @@ use crate::surveying::say_numbered;
 use ly_base::{OutOfMemory, Sym};
 use ly_join::Spec;
 use ly_page::Page;
-use ly_resolve::{Conflict, ConflictKind};
+use ly_resolve::{Conflict, ConflictKind, Conflicts};
 use std::alloc::Global;
 
 /// How many groups a precedence settles at least that is said.
@@ -24,7 +24,7 @@ pub(crate) struct Cure {
 pub(crate) fn best_cure(
     alloc: Global,
     spec: &Spec,
-    conflicts: &[Conflict],
+    conflicts: &Conflicts,
     groups: &[Group],
 ) -> Result<Option<Cure>, OutOfMemory> {
     let mut counts: Vec<usize> = vec![in alloc; 0; spec.terminals().len()]?;
@@ -60,10 +60,10 @@ pub(crate) fn say_cure(page: &mut Page, spec: &Spec, cure: Cure, groups: usize) 
 }
 
 /// The token whose precedence settles each conflict of a group, if there is one.
-fn cure_of(spec: &Spec, conflicts: &[Conflict], group: &Group) -> Option<Sym> {
+fn cure_of(spec: &Spec, conflicts: &Conflicts, group: &Group) -> Option<Sym> {
     let mut cure = None;
     for index in &group.conflicts {
-        let needed = needed_for(spec, conflicts.get(*index)?)?;
+        let needed = needed_for(spec, &conflicts.get(*index)?)?;
         if cure.is_some() && cure != Some(needed) {
             return None;
         }
@@ -81,10 +81,10 @@ fn needed_for(spec: &Spec, conflict: &Conflict) -> Option<Sym> {
         Some(_) => None,
         None => Some(conflict.terminal),
     };
-    if precedence_of(spec, conflict.rule).is_some() {
+    if precedence_of(spec, conflict.rule.0 as usize).is_some() {
         return by_terminal;
     }
-    let last = last_terminal(spec, conflict.rule)?;
+    let last = last_terminal(spec, conflict.rule.0 as usize)?;
     let by_both = by_terminal.is_none() || by_terminal == Some(last);
     if rank_of(spec, last).is_none() && by_both {
         Some(last)

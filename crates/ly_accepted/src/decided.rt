@@ -70,7 +70,7 @@ impl Decided {
             let dot = body_of(spec.grammar(), *rule).len();
             let item = Item { rule: *rule, dot };
             if let Some(place) = place_of(lr0, sets, state, item) {
-                for transition in lr0.transitions(state) {
+                for transition in lr0.shifts(state) {
                     if let Symbol::Terminal(terminal) = transition.symbol {
                         if sets.contains(state, place, terminal) {
                             self.mark_meeting(spec, terminal, *rule);

@@ -65,13 +65,16 @@ pub(crate) fn groups_of(alloc: Global, examples: &Examples<'_>) -> Result<Vec<Gr
     let mut groups = Groups::new(alloc);
     let resolved = examples.resolved();
     let _states = resolved.lr0().states();
-    for (index, conflict) in resolved.conflicts().iter().enumerate() {
-        let example = if groups.asks_for(conflict) {
-            example_of(alloc, examples, conflict, &mut patience)?
+    let conflicts = resolved.conflicts();
+    let mut run = 0;
+    for index in 0..conflicts.len() {
+        let conflict = conflicts.get_near(index, &mut run).unwrap();
+        let example = if groups.asks_for(&conflict) {
+            example_of(alloc, examples, &conflict, &mut patience)?
         } else {
             None
         };
-        groups.add(alloc, conflict, index, example)?;
+        groups.add(alloc, &conflict, index, example)?;
     }
     let Groups { list, .. } = groups;
     Ok(list)

@@ -4,7 +4,7 @@ use crate::decided::precedence_of;
 use crate::places::Places;
 use crate::surveying::{Accepted, first_of, say_numbered};
 use crate::told::Told;
-use ly_base::Sym;
+use ly_base::{RuleNo, Sym};
 use ly_join::Spec;
 use ly_page::Page;
 use ly_resolve::{Action, Conflict, ConflictKind};
@@ -16,7 +16,7 @@ const NAMED: usize = 12;
 pub(crate) fn say_heading(page: &mut Page, files: &Accepted<'_>, places: &Places, told: &Told<'_>) {
     let conflict = &told.conflict;
     page.say(b"\n");
-    page.say_location_in(files.yacc, places.location_of_rule(conflict.rule));
+    page.say_location_in(files.yacc, places.location_of_rule(conflict.rule.0 as usize));
     say_place(page, files.spec, told);
     say_before(page, files.spec, &told.terminals);
     say_done(page, conflict);
@@ -32,7 +32,8 @@ pub(crate) fn say_heading(page: &mut Page, files: &Accepted<'_>, places: &Places
 }
 
 /// Says where a rule stands, and the rule.
-fn say_rule_of(page: &mut Page, files: &Accepted<'_>, places: &Places, rule: usize) {
+fn say_rule_of(page: &mut Page, files: &Accepted<'_>, places: &Places, rule: RuleNo) {
+    let rule = rule.0 as usize;
     say_numbered(page, b"    Rule ", rule as u64, b" is ");
     page.say_location_in(files.yacc, places.location_of_rule(rule));
     page.say_rule(files.spec, rule, None);
@@ -68,11 +69,11 @@ fn say_done(page: &mut Page, conflict: &Conflict) {
     match conflict.choice {
         Action::Shift => page.say(b": the shift is taken"),
         Action::Reduce(rule) => {
-            say_numbered(page, b": rule ", rule as u64, b" is taken");
+            say_numbered(page, b": rule ", rule.0 as u64, b" is taken");
         }
         Action::Error => page.say(b": nothing is taken"),
     }
-    say_numbered(page, b", rule ", conflict.rule as u64, b" is not.\n");
+    say_numbered(page, b", rule ", conflict.rule.0 as u64, b" is not.\n");
 }
 
 /// Whether it is said why precedence doesn't settle a conflict: it may settle a shift against a reduction, but before
@@ -83,7 +84,7 @@ pub(crate) fn has_reason(conflict: &Conflict) -> bool {
 
 /// Says why precedence doesn't settle a shift against a reduction, of which there are so many that are alike.
 pub(crate) fn say_reason(page: &mut Page, spec: &Spec, conflict: &Conflict, alike: usize) {
-    if precedence_of(spec, conflict.rule).is_none() {
+    if precedence_of(spec, conflict.rule.0 as usize).is_none() {
         say_unranked(page, spec, conflict, alike);
     } else if alike > 1 {
         page.say(b"These terminals have no precedence.");
@@ -97,10 +98,10 @@ pub(crate) fn say_reason(page: &mut Page, spec: &Spec, conflict: &Conflict, alik
 fn say_unranked(page: &mut Page, spec: &Spec, conflict: &Conflict, alike: usize) {
     let of_terminal = spec.precedences().get(conflict.terminal.0 as usize);
     if alike == 1 && !matches!(of_terminal, Some(Some(_))) {
-        say_numbered(page, b"Neither rule ", conflict.rule as u64, b" nor ");
+        say_numbered(page, b"Neither rule ", conflict.rule.0 as u64, b" nor ");
         page.say_terminal(spec, conflict.terminal);
         page.say(b" has a precedence.");
     } else {
-        say_numbered(page, b"Rule ", conflict.rule as u64, b" has no precedence.");
+        say_numbered(page, b"Rule ", conflict.rule.0 as u64, b" has no precedence.");
     }
 }

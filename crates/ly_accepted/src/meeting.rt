@@ -26,7 +26,7 @@ pub(crate) fn is_met(
         }
         match action_of(resolved, state, ahead) {
             Some(Action::Reduce(rule)) => {
-                if !reduce_by(resolved, &mut stack, rule)? {
+                if !reduce_by(resolved, &mut stack, rule.0 as usize)? {
                     return Ok(false);
                 }
             }

@@ -5,7 +5,7 @@ use crate::cores::Cores;
 use crate::surveying::{Accepted, say_numbered};
 use ly_base::{OutOfMemory, StateNo};
 use ly_join::{Spec, Symbol};
-use ly_lr0::{Item, Lr0};
+use ly_lr0::{Item, Lr0, Transition};
 use ly_page::Page;
 use std::alloc::Global;
 
@@ -67,7 +67,19 @@ fn say_arrows(
 ) -> Result<(), OutOfMemory>
     requires { state.0 < length lr0.now.states }
 {
-    for transition in lr0.transitions(state) {
+    say_each_arrow(alloc, page, spec, state, lr0.shifts(state))?;
+    say_each_arrow(alloc, page, spec, state, lr0.gotos(state))
+}
+
+/// Says the arrows of transitions that leave a state.
+fn say_each_arrow(
+    alloc: Global,
+    page: &mut Page,
+    spec: &Spec,
+    state: StateNo,
+    transitions: &[Transition],
+) -> Result<(), OutOfMemory> {
+    for transition in transitions {
         let mut text = Page::new(alloc);
         text.say_symbol(spec, transition.symbol);
         say_numbered(page, b"    ", state.0 as u64, b" -> ");

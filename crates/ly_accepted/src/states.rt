@@ -132,7 +132,7 @@ impl Teller<'_> {
                 }
                 None => page.say(b" accept\n"),
             },
-            Action::Reduce(rule) => say_numbered(page, b" rule ", rule as u64, b"\n"),
+            Action::Reduce(rule) => say_numbered(page, b" rule ", rule.0 as u64, b"\n"),
             Action::Error => page.say(b" error, since it doesn't associate\n"),
         }
     }
@@ -141,12 +141,10 @@ impl Teller<'_> {
     fn say_gotos(&self, page: &mut Page, state: StateNo)
         requires { state.0 < length self.now.resolved.now.automaton.states }
     {
-        for transition in self.resolved.lr0().transitions(state) {
-            if let Symbol::Nonterminal(_) = transition.symbol {
-                page.say(b"    ");
-                page.say_symbol(self.spec, transition.symbol);
-                say_numbered(page, b" to state ", transition.target.0 as u64, b"\n");
-            }
+        for transition in self.resolved.lr0().gotos(state) {
+            page.say(b"    ");
+            page.say_symbol(self.spec, transition.symbol);
+            say_numbered(page, b" to state ", transition.target.0 as u64, b"\n");
         }
     }
 }
@@ -179,7 +177,7 @@ pub(crate) fn place_of(
 /// Whether an entry is the default reduction.
 fn is_default(entry: &TerminalAction, default: Option<RuleNo>) -> bool {
     match (entry.action, default) {
-        (Action::Reduce(rule), Some(default)) => rule == default.0 as usize,
+        (Action::Reduce(rule), Some(default)) => rule == default,
         _ => false,
     }
 }

@@ -3,7 +3,7 @@ use crate::bodies::body_of;
 use ly_base::{StateNo, Sym};
 use ly_grammar::Reduced;
 use ly_join::Symbol;
-use ly_lr0::{Item, Lr0};
+use ly_lr0::{Item, Lr0, Transition};
 use std::alloc::{AllocError, Global};
 
 /// For nonterminals and states what stands round them.
@@ -90,7 +90,13 @@ impl Surroundings {
         if (from.0 as usize) >= lr0.states() {
             return Ok(());
         }
-        for transition in lr0.transitions(from) {
+        self.push_each(from, lr0.shifts(from))?;
+        self.push_each(from, lr0.gotos(from))
+    }
+
+    /// Adds transitions that leave a state.
+    fn push_each(&mut self, from: StateNo, transitions: &[Transition]) -> Result<(), AllocError> {
+        for transition in transitions {
             if let Some(entering) = self.entering.get_mut(transition.target.0 as usize) {
                 entering.push(Entering {
                     from,

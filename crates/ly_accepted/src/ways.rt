@@ -42,7 +42,7 @@ impl Drawn<'_> {
     ) -> Result<Ways, OutOfMemory> {
         Ok(Ways {
             one: self.way(alloc, one, self.rival(alloc)?)?,
-            other: self.way(alloc, other, self.reduction(self.conflict.rule))?,
+            other: self.way(alloc, other, self.reduction(self.conflict.rule.0 as usize))?,
         })
     }
 
@@ -88,7 +88,7 @@ fn shift(grammar: &Grammar, core: &[Item], terminal: Sym) -> Claim {
 /// The rule that stands against that of a conflict; none where a shift does.
 pub(crate) fn reduced_rival(conflict: &Conflict) -> Option<usize> {
     match (conflict.kind, conflict.choice) {
-        (ConflictKind::ReduceReduce, Action::Reduce(rule)) => Some(rule),
+        (ConflictKind::ReduceReduce, Action::Reduce(rule)) => Some(rule.0 as usize),
         _ => None,
     }
 }
@@ -136,7 +136,7 @@ pub(crate) fn say_ways(
     }
     page.say(&one);
     page.say(b"\n");
-    say_label(page, conflict.rule);
+    say_label(page, conflict.rule.0 as usize);
     page.say(&other);
     page.say(b"\n");
     Ok(())

@@ -58,7 +58,7 @@ module _ (r : Resolved) (lawful : IsLr0Automaton r.automaton) (conflict : Confli
 
   -- they part where both actions are taken
   parts : (t : Both) → n ≡ length t.before
-  parts t = parted_at t.before t.move (reduces conflict.rule) t.behind t.beyond n
+  parts t = parted_at t.before t.move (reduces conflict.rule.0) t.behind t.beyond n
       (λ k lt. ap (λ xs. slice_get xs k) (sym t.first) ∙ same_there k lt ∙ ap (λ xs. slice_get xs k) t.second)
       (λ lt e. apart_there (subst (λ xs. n < length xs) (sym t.first) lt)
       (ap (λ xs. slice_get xs n) t.first ∙ e ∙ ap (λ xs. slice_get xs n) (sym t.second))) t.apart
@@ -67,9 +67,9 @@ module _ (r : Resolved) (lawful : IsLr0Automaton r.automaton) (conflict : Confli
   at_one t = ap (slice_get (moves_from one)) (parts t) ∙ ap (λ xs. slice_get xs (length t.before)) t.first
       ∙ get_behind t.before t.move t.behind
 
-  at_other : (t : Both) → slice_get (moves_from other) n ≡ Some (reduces conflict.rule)
+  at_other : (t : Both) → slice_get (moves_from other) n ≡ Some (reduces conflict.rule.0)
   at_other t = ap (slice_get (moves_from other)) (parts t) ∙ ap (λ xs. slice_get xs (length t.before)) t.second
-      ∙ get_behind t.before (reduces conflict.rule) t.beyond
+      ∙ get_behind t.before (reduces conflict.rule.0) t.beyond
 
   front : (t : Both) → take n (moves_from one) ≡ t.before
   front t = ap (λ k. take k (moves_from one)) (parts t) ∙ ap (take (length t.before)) t.first
@@ -87,17 +87,17 @@ module _ (r : Resolved) (lawful : IsLr0Automaton r.automaton) (conflict : Confli
 
   pub is_other : Both → length other ≤ n → ⊥
   is_other t past =
-      let lt = slice_get_within (moves_from other) n (reduces conflict.rule) (at_other t) in
+      let lt = slice_get_within (moves_from other) n (reduces conflict.rule.0) (at_other t) in
       absurd (omega (arith, lt, past, length-map other move_from))
 
   -- they are the actions
   pub are_both : Both → (a b : made.Move) → slice_get one n ≡ Some a → slice_get other n ≡ Some b
       → (move_before conflict.terminal.0 (rival (kind_from conflict.kind) (action_from conflict.choice))
-      ≡ Some (move_from a)) × (move_from b ≡ reduces conflict.rule)
+      ≡ Some (move_from a)) × (move_from b ≡ reduces conflict.rule.0)
   are_both t a b is_a is_b =
       let one_is : Some (move_from a) ≡ Some t.move
       = ap (option_map move_from) (sym is_a) ∙ sym (slice_get-map move_from one n) ∙ at_one t in
-      let other_is : Some (move_from b) ≡ Some (reduces conflict.rule)
+      let other_is : Some (move_from b) ≡ Some (reduces conflict.rule.0)
       = ap (option_map move_from) (sym is_b) ∙ sym (slice_get-map move_from other n) ∙ at_other t in
       (t.is_rival ∙ sym one_is, cc)
 
@@ -135,7 +135,7 @@ module _ (r : Resolved) (lawful : IsLr0Automaton r.automaton) (conflict : Confli
   pub take_them : shifted (moves_from one) ≡ shifted (moves_from other) → (a b : made.Move) → slice_get one n ≡ Some a
       → slice_get other n ≡ Some b
       → (move_before conflict.terminal.0 (rival (kind_from conflict.kind) (action_from conflict.choice))
-      ≡ Some (move_from a)) → (move_from b ≡ reduces conflict.rule) → (left : List ℕ)
+      ≡ Some (move_from a)) → (move_from b ≡ reduces conflict.rule.0) → (left : List ℕ)
       → shifted (drop n (moves_from one)) ≡ conflict.terminal.0 ∷ left → (g : List Symbol)
       → Lead r.spec.grammar [] (take n (moves_from one)) g → Reaches (goto_of r.automaton) 0 g conflict.state.0 → Both
   take_them equal a b is_a is_b is_rival is_rule left next g leads reaches =
@@ -148,15 +148,15 @@ module _ (r : Resolved) (lawful : IsLr0Automaton r.automaton) (conflict : Confli
       = split_at xs n (move_from a) (slice_get-map move_from one n ∙ ap (option_map move_from) is_a) in
       let common : take n xs ≡ take n ys
       = same_below xs ys n (omega (arith, within, length-map one move_from)) same_there in
-      let second : ys ≡ before ++ reduces conflict.rule ∷ beyond
-      = split_at ys n (reduces conflict.rule)
+      let second : ys ≡ before ++ reduces conflict.rule.0 ∷ beyond
+      = split_at ys n (reduces conflict.rule.0)
       (slice_get-map move_from other n ∙ ap (option_map move_from) is_b ∙ ap Some is_rule)
-      ∙ ap (λ w. w ++ reduces conflict.rule ∷ beyond) (sym common) in
+      ∙ ap (λ w. w ++ reduces conflict.rule.0 ∷ beyond) (sym common) in
       let rest_is : drop n xs ≡ move_from a ∷ behind
       = append_cancel_left before (drop n xs) (move_from a ∷ behind) (take-append-drop n xs ∙ first) in
       let first_next : shifted (move_from a ∷ behind) ≡ conflict.terminal.0 ∷ left = ap shifted (sym rest_is) ∙ next in
       let cut : shifted before ++ shifted beyond ≡ shifted before ++ shifted (move_from a ∷ behind)
-      = sym (shifted_append before (reduces conflict.rule ∷ beyond)) ∙ ap shifted (sym second) ∙ sym equal
+      = sym (shifted_append before (reduces conflict.rule.0 ∷ beyond)) ∙ ap shifted (sym second) ∙ sym equal
       ∙ ap shifted first ∙ shifted_append before (move_from a ∷ behind) in
       record {
         before = before;

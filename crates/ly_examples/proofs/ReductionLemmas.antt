@@ -3,6 +3,7 @@ use Rattle.std.proofs.Common.{◌≡◌, ◌∙◌, ◌↔◌, ◌⊎◌, inl, i
 use Rattle.std.proofs.Common.{length, map, slice_get, slice_index_or, Contains}
 use Rattle.std.proofs.lemmas.Option.{get_or_from_slice_get, slice_get-get_or, slice_get_within}
 use Rattle.ly_base.proofs.ListLemmas.{some_at}
+use Rattle.ly_base.specs.declared.numbers.RuleNo.{RuleNo}
 use Rattle.ly_join.specs.Grammar.{IsRule, GrammarRule}
 use Rattle.ly_join.proofs.ListLemmas.{in_mapped, mapped_in, placed}
 use Rattle.ly_grammar.specs.Derivations.{IsUseful}
@@ -27,24 +28,24 @@ use Rattle.ly_examples.proofs.MarkLemmas.{added_as, all_added, marked_as}
 
 -- THE ENTRIES OF A ROW
 
-pub entry_reduces : (row : List code.TerminalAction) (k : ℕ) (d : code.TerminalAction) → k < length row → (q : ℕ)
-    → (slice_index_or row k d).action ≡ Reduce q → (p : ℕ) → (p ≡ q) ↔ ReducesAt row k p
+pub entry_reduces : (row : List code.TerminalAction) (k : ℕ) (d : code.TerminalAction) → k < length row → (q : RuleNo)
+    → (slice_index_or row k d).action ≡ Reduce q → (p : ℕ) → (p ≡ q.0) ↔ ReducesAt row k p
 entry_reduces row k d lt q e p =
     let at = slice_get-get_or row k d lt in (
-      λ same. (slice_index_or row k d, at, e ∙ ap (λ n. Reduce n) (sym same)),
+      λ same. (slice_index_or row k d, at, e ∙ ap (λ n. Reduce (record { 0 = n })) (sym same)),
       λ (x, is, reduces).
           let one : Some x ≡ Some (slice_index_or row k d) = sym is ∙ at in
           let there : x ≡ slice_index_or row k d = cc in
-          let both : Reduce p ≡ Reduce q = sym reduces ∙ ap (λ y. y.action) there ∙ e in
+          let both : Reduce (record { 0 = p }) ≡ Reduce q = sym reduces ∙ ap (λ y. y.action) there ∙ e in
           cc,
     )
 
 pub no_entry_reduces : (row : List code.TerminalAction) (k : ℕ) (d : code.TerminalAction) → k < length row
-    → ((q : ℕ) → (slice_index_or row k d).action ≡ Reduce q → ⊥) → (p : ℕ) → ReducesAt row k p → ⊥
+    → ((q : RuleNo) → (slice_index_or row k d).action ≡ Reduce q → ⊥) → (p : ℕ) → ReducesAt row k p → ⊥
 no_entry_reduces row k d lt none p (x, is, reduces) =
     let one : Some x ≡ Some (slice_index_or row k d) = sym is ∙ slice_get-get_or row k d lt in
     let there : x ≡ slice_index_or row k d = cc in
-    none p (ap (λ y. y.action) (sym there) ∙ reduces)
+    none (record { 0 = p }) (ap (λ y. y.action) (sym there) ∙ reduces)
 
 pub row_marked : (row : List code.TerminalAction) (n : ℕ) → length row ≤ n → (old new : List Bool)
     → AreAdded (ByStepBefore (ReducesAt row) n) old new → AreAdded (ReducesIn row) old new
@@ -54,9 +55,9 @@ row_marked row n past old new added = added_as (ByStepBefore (ReducesAt row) n) 
 )) added
 
 -- an action that is a reduction
-reduces_by : (a : action.Action) (p : ℕ) → action_from a ≡ reduce p → a ≡ Reduce p
+reduces_by : (a : action.Action) (p : ℕ) → action_from a ≡ reduce p → a ≡ Reduce (record { 0 = p })
 reduces_by Shift p e = absurd cc
-reduces_by (Reduce q) p e = let same : q ≡ p = cc in ap (λ n. Reduce n) same
+reduces_by (Reduce q) p e = let same : q.0 ≡ p = cc in ap (λ n. Reduce (record { 0 = n })) same
 reduces_by Error p e = absurd cc
 
 pub state_reduces : (r : Resolved) (s : ℕ) (row : List code.TerminalAction)

@@ -13,7 +13,7 @@ use crate::claim::{Claim, Demand};
 use crate::ground::{Ground, ground_of};
 use crate::halt::Halt;
 use crate::search::{Sought, shortest};
-use ly_base::OutOfMemory;
+use ly_base::{OutOfMemory, RuleNo};
 use ly_join::{Spec, Symbol};
 use ly_lr0::Item;
 use ly_resolve::{Action, Conflict, ConflictKind, Resolved};
@@ -71,16 +71,13 @@ impl<'a> Examples<'a> {
     }
 
     /// The conflict of an index, if there is one.
-    pub fn conflict(&self, index: usize) -> Option<&'a Conflict>
+    pub fn conflict(&self, index: usize) -> Option<Conflict>
         ensures these { IfSome result (λ c. slice_get self.now.conflicts index
-            ≡ Some (conflict_from self.now.automaton c.now)) }
-        ensures inside { IfSome result (λ c. IsInside self.now.automaton c.now) }
-        ensures among { IfSome result (λ c. Contains self.now.conflicts (conflict_from self.now.automaton c.now)) }
+            ≡ Some (conflict_from self.now.automaton c)) }
+        ensures inside { IfSome result (λ c. IsInside self.now.automaton c) }
+        ensures among { IfSome result (λ c. Contains self.now.conflicts (conflict_from self.now.automaton c)) }
     {
-        match self.resolved.conflicts().get(index) {
-            Some(conflict) => Some(conflict),
-            None => None,
-        }
+        self.resolved.conflicts().get(index)
     }
 
     /// Whether it is found, over so many demands each, that none of the conflicts of these indices has an example.
@@ -98,7 +95,7 @@ impl<'a> Examples<'a> {
             let Some(conflict) = self.conflict(*index) else {
                 return Ok(false);
             };
-            let Example::Merged = self.of(alloc, conflict, bound)? else {
+            let Example::Merged = self.of(alloc, &conflict, bound)? else {
                 return Ok(false);
             };
         }
@@ -146,7 +143,7 @@ impl<'a> Examples<'a> {
         requires inside { IsInside self.now.automaton conflict.now }
         requires conflict { Contains self.now.conflicts (conflict_from self.now.automaton conflict.now) }
         ensures { IfOk result (λ found. IfSome found (λ string. IsPlaceOf self.now.automaton.grammar
-            (conflict_from self.now.automaton conflict.now) (reduce conflict.now.rule)
+            (conflict_from self.now.automaton conflict.now) (reduce conflict.now.rule.0)
             (reverse (map symbol_of string.items)))) }
     {
         let _ground = &self.ground;
@@ -248,11 +245,12 @@ impl<'a> Examples<'a> {
     }
 
     /// The item of a rule with its dot at the end.
-    fn whole(&self, rule: usize) -> Item
-        requires { (r : GrammarRule) × IsRule self.now.automaton.grammar rule r }
-        ensures rule { result.rule ≡ rule }
-        ensures end { (r : GrammarRule) × IsRule self.now.automaton.grammar rule r × (result.dot ≡ length r.body) }
+    fn whole(&self, rule: RuleNo) -> Item
+        requires { (r : GrammarRule) × IsRule self.now.automaton.grammar rule.0 r }
+        ensures rule { result.rule ≡ rule.0 }
+        ensures end { (r : GrammarRule) × IsRule self.now.automaton.grammar rule.0 r × (result.dot ≡ length r.body) }
     {
+        let rule = rule.0 as usize;
         let grammar = self.ground.lr0.reduced().grammar();
         let dot = grammar.rule(rule).body().len();
         Item { rule, dot }

@@ -4,13 +4,13 @@ ghost use Rattle.ly_join.specs.Grammar.{symbol_of};
 ghost use Rattle.ly_grammar.specs.Private.Search.{HasNumberBelow};
 ghost use Rattle.ly_lr0.specs.Automaton.{IsLr0Automaton};
 ghost use Rattle.ly_examples.specs.Private.Grounds.{AreIncoming, AreUses};
-ghost use Rattle.ly_examples.specs.Private.Lists.{AreIncomingOf, AreUsesAdded, IsGround};
+ghost use Rattle.ly_examples.specs.Private.Lists.{AreIncomingOf, AreLeavingAdded, AreUsesAdded, IsGround};
 
 use crate::incoming::Incoming;
 use crate::lists::Lists;
 use ly_base::{OutOfMemory, StateNo};
 use ly_join::Symbol;
-use ly_lr0::{Item, Lr0};
+use ly_lr0::{Item, Lr0, Transition};
 use std::alloc::Global;
 
 /// An automaton, with what leads to its states and where its nonterminals stand.
@@ -65,7 +65,21 @@ fn push_leaving(
     requires before { AreIncomingOf lr0.now incoming.old from.0 }
     ensures { OnOk result (AreIncomingOf lr0.now incoming.new (from.0 + 1)) }
 {
-    for transition in lr0.transitions(from) {
+    let _states = lr0.states();
+    push_each(incoming, from, lr0.shifts(from))?;
+    push_each(incoming, from, lr0.gotos(from))
+}
+
+/// Adds transitions that leave a state.
+fn push_each(
+    incoming: &mut Lists<Incoming>,
+    from: StateNo,
+    transitions: &[Transition],
+) -> Result<(), OutOfMemory>
+    requires { All (λ t. t.target.0 < length incoming.old) transitions.now }
+    ensures { OnOk result (AreLeavingAdded incoming.old incoming.new from transitions.now) }
+{
+    for transition in transitions {
         incoming.push(
             transition.target.0 as usize,
             Incoming {
@@ -121,12 +135,21 @@ fn set_lengths(lr0: &Lr0<'_>, lengths: &mut [usize])
 {
     for state in 0..lr0.states() {
         let behind = lengths.get(state).copied().unwrap_or(0).saturating_add(1);
-        for transition in lr0.transitions(StateNo(state as u32)) {
-            if let Some(length) = lengths.get_mut(transition.target.0 as usize)
-                && *length == 0
-            {
-                *length = behind;
-            }
+        let state = StateNo(state as u32);
+        set_targets(lr0.shifts(state), behind, lengths);
+        set_targets(lr0.gotos(state), behind, lengths);
+    }
+}
+
+/// Sets how long the prefixes of the states are to which transitions lead, where it is 0.
+fn set_targets(transitions: &[Transition], behind: usize, lengths: &mut [usize])
+    ensures { length lengths.new ≡ length lengths.old }
+{
+    for transition in transitions {
+        if let Some(length) = lengths.get_mut(transition.target.0 as usize)
+            && *length == 0
+        {
+            *length = behind;
         }
     }
 }

@@ -96,10 +96,10 @@ fn take_both(
 fn are_actions(conflict: &Conflict, first: Move, second: Move) -> bool
     ensures { IsTrue result ↔ ((move_before conflict.now.terminal.0
         (rival_of (kind_from conflict.now.kind) (action_from conflict.now.choice)) ≡ Some (move_from first))
-        × (move_from second ≡ reduces conflict.now.rule)) }
+        × (move_from second ≡ reduces conflict.now.rule.0)) }
 {
     match rival(conflict) {
-        Some(rival) => first == rival && second == Move::Reduce(conflict.rule),
+        Some(rival) => first == rival && second == Move::Reduce(conflict.rule.0 as usize),
         None => false,
     }
 }
@@ -111,7 +111,9 @@ fn rival(conflict: &Conflict) -> Option<Move>
 {
     match (conflict.kind, conflict.choice) {
         (ConflictKind::ShiftReduce, _) | (_, Action::Shift) => Some(Move::Shift(conflict.terminal)),
-        (ConflictKind::ReduceReduce, Action::Reduce(rule)) => Some(Move::Reduce(rule)),
+        (ConflictKind::ReduceReduce, Action::Reduce(rule)) => {
+            Some(Move::Reduce(rule.0 as usize))
+        }
         (ConflictKind::ReduceReduce, Action::Error) => None,
     }
 }

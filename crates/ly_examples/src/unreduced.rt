@@ -45,7 +45,7 @@ fn mark_reductions(reduced: &mut Marks, row: &[TerminalAction])
 {
     for entry in row {
         if let Action::Reduce(rule) = entry.action {
-            reduced.set(rule);
+            reduced.set(rule.0 as usize);
         }
     }
 }

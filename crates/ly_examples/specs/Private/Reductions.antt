@@ -7,7 +7,7 @@ use Rattle.ly_resolve.specs.declared.action.TerminalAction as code
 
 -- the entry at the place reduces by the rule
 abbrev pub ReducesAt : List code.TerminalAction → ℕ → ℕ → Type 0
-ReducesAt row k p = (x : code.TerminalAction) × (slice_get row k ≡ Some x) × (x.action ≡ Reduce p)
+ReducesAt row k p = (x : code.TerminalAction) × (slice_get row k ≡ Some x) × (x.action ≡ Reduce (record { 0 = p }))
 
 -- an entry does
 abbrev pub ReducesIn : List code.TerminalAction → ℕ → Type 0

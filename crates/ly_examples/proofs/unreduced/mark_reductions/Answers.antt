@@ -21,7 +21,7 @@ loop-entry-preserved c =
     elim c.match-entry.branch [
       | in-Reduce w ↦ rw w.reduced-is
           (step_added P k first old w.set.new.self c.loop-entry.invariant
-          (added_as (λ n. n ≡ w.in-Reduce.rule) (P k) old w.set.new.self
+          (added_as (λ n. n ≡ w.in-Reduce.rule.0) (P k) old w.set.new.self
           (entry_reduces row k no_entry c.loop-entry-test.true w.in-Reduce.rule w.in-Reduce.is) w.set.ensures))
       | in_default w ↦ rw w.reduced-is
           (step_nothing P k first old

@@ -23,7 +23,7 @@ returns c =
     let e : Demand = record { state = d.state; first = d.first; second = Settled } in
     IfOk-weaker c.string_of.result
     (λ found. IfSome found (λ s. IsMet M told.terminal (reverse (map symbol_of s.items)) e))
-    (λ found. IfSome found (λ s. IsPlaceOf M.grammar told (reduce c.args.conflict.now.rule)
+    (λ found. IfSome found (λ s. IsPlaceOf M.grammar told (reduce c.args.conflict.now.rule.0)
     (reverse (map symbol_of s.items))))
     (λ found met. IfSome_then found met
     (λ s m. place_of_rule M is told d e (reverse (map symbol_of s.items)) c.demand.ensures.opens refl refl m))

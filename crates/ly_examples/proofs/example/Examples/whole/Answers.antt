@@ -11,22 +11,22 @@ rule-requires c =
     let x = c.requires.0 in
     let same : c.args.self.now.automaton.grammar ≡ c.reduced.result.now.grammar
     = sym (c.reduced.ensures ∙ ap (λ a. a.grammar) (c.self.invariant.1 ∙ ap (λ v. v.automaton) c.self.view_is)) in
-    slice_get_within c.grammar-grammar.result.now.rules c.args.rule (Some x)
-    (rule_within c.grammar-grammar.result.now c.reduced.result.now.grammar c.grammar-grammar.ensures.keeps c.args.rule x
-    (subst (λ G. IsRule G c.args.rule x) same c.requires.1))
+    slice_get_within c.grammar-grammar.result.now.rules c.args.rule.0 (Some x)
+    (rule_within c.grammar-grammar.result.now c.reduced.result.now.grammar c.grammar-grammar.ensures.keeps c.args.rule.0 x
+    (subst (λ G. IsRule G c.args.rule.0 x) same c.requires.1))
 
 pub returns-clause-end : goal.returns-clause-end
 returns-clause-end c =
     let x = c.requires.0 in
     let same : c.args.self.now.automaton.grammar ≡ c.reduced.result.now.grammar
     = sym (c.reduced.ensures ∙ ap (λ a. a.grammar) (c.self.invariant.1 ∙ ap (λ v. v.automaton) c.self.view_is)) in
-    let is : IsRule c.grammar-grammar.result.now c.args.rule x
-    = rule_within c.grammar-grammar.result.now c.reduced.result.now.grammar c.grammar-grammar.ensures.keeps c.args.rule
+    let is : IsRule c.grammar-grammar.result.now c.args.rule.0 x
+    = rule_within c.grammar-grammar.result.now c.reduced.result.now.grammar c.grammar-grammar.ensures.keeps c.args.rule.0
     x
-    (subst (λ G. IsRule G c.args.rule x) same c.requires.1) in (
+    (subst (λ G. IsRule G c.args.rule.0 x) same c.requires.1) in (
       x,
       c.requires.1,
       sym (length-map c.body-dot.result.now symbol_of) ∙ ap length c.body-dot.ensures
           ∙ ap (λ r. length r.body)
-          (rule_is_one c.grammar-grammar.result.now c.args.rule c.rule.result.now x c.rule.ensures.there is),
+          (rule_is_one c.grammar-grammar.result.now c.args.rule.0 c.rule.result.now x c.rule.ensures.there is),
     )
