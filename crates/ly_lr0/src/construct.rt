@@ -102,10 +102,9 @@ impl<'a> Construction<'a> {
         let complete = complete_rules(alloc, reduced, kernel, &self.nonkernel.complete)?;
         let transitions = self.found.successors(&self.moves, &self.before)?;
         swap(&mut self.moves, &mut self.before);
-        self.found.rows.push(Row {
-            transitions,
-            complete,
-        })?;
+        let next = Row::new(alloc, &transitions, complete, &self.found.rows)?;
+        self.found.rows.push(next)?;
+        self.found.last = transitions;
         Ok(())
     }
 }
