@@ -206,11 +206,10 @@ module _ (r : Resolved) where
     }
 
 -- the conflict of an index
-pub at_index : (r : Resolved) (M : Lr0Automaton) (xs : List Conflict) (i : ℕ) (d : Conflict) → M ≡ r.automaton
-    → map (conflict_from M) xs ≡ r.conflicts → All (IsInside M) xs → i < length xs → IsAt r i (slice_index_or xs i d)
-at_index r M xs i d same these inside lt = record {
+pub at_index : (r : Resolved) (M : Lr0Automaton) (xs : List Conflict) (i : ℕ) (x : Conflict) → M ≡ r.automaton
+    → map (conflict_from M) xs ≡ r.conflicts → All (IsInside M) xs → slice_get xs i ≡ Some x → IsAt r i x
+at_index r M xs i x same these inside at = record {
   at = ap (λ cs. slice_get cs i) (sym these) ∙ slice_get-map (conflict_from M) xs i
-      ∙ ap (option_map (conflict_from M)) (slice_get-get_or xs i d lt)
-      ∙ ap (λ m. Some (conflict_from m (slice_index_or xs i d))) same;
-  inside = subst (λ m. IsInside m (slice_index_or xs i d)) same (inside i d lt);
+      ∙ ap (option_map (conflict_from M)) at ∙ ap (λ m. Some (conflict_from m x)) same;
+  inside = subst (λ m. IsInside m x) same (All-at (IsInside M) xs i x inside at);
 }

@@ -20,23 +20,6 @@ use Rattle.ly_accepted.specs.Told.{AreTold, IsTold, most_told}
 use Rattle.ly_accepted.proofs.GroupLemmas.{pushed_at}
 use Rattle.ly_accepted.proofs.GroupsLemmas.{at_index}
 
--- conflicts as they are kept, and those of a resolved specification
-module _ (r s : Resolved) (xs : List Conflict) (same : s ≡ r)
-    (these : map (conflict_from s.automaton) xs ≡ s.conflicts) where
-  pub as_many : length xs ≡ length r.conflicts
-  as_many = sym (length-map xs (conflict_from s.automaton)) ∙ ap length these ∙ ap (λ v. length v.conflicts) same
-
-  -- an index within one is within the other
-  pub within : (group : List ℕ) → ((i : ℕ) → Contains group i → i < length r.conflicts) → (p : ℕ) → p < length group
-      → slice_index_or group p 0 < length xs
-  within group inside p lt =
-      omega (
-        arith,
-        as_many,
-        inside (slice_index_or group p 0)
-            (member_at group p (slice_index_or group p 0) (slice_get-get_or group p 0 lt)),
-      )
-
 -- one terminal more
 pub terminal_more : (r : Resolved) (group : List ℕ) (n : ℕ) (old new : List Sym) (t : Sym) (j : ℕ) (x : Conflict)
     → slice_get group n ≡ Some j → IsAt r j x → x.terminal ≡ t → new ≡ old ++ t ∷ [] → length old ≡ n
@@ -65,28 +48,19 @@ terminal_more r group n old new t j x here is terminal pushed count before = (
       ],
 )
 
--- the conflict that stands first in a group
-pub first_at : (r s : Resolved) (xs : List Conflict) (d : Conflict) (g : Group) → (group : IsGroup r g) → (index : ℕ)
-    → index ≡ slice_index_or g.conflicts.items 0 index → s ≡ r → map (conflict_from s.automaton) xs ≡ s.conflicts
-    → All (IsInside s.automaton) xs
-    → IsAt r index (slice_index_or xs index d) × (index ≡ group.first)
-    × (group.conflict ≡ conflict_from r.automaton (slice_index_or xs index d))
-first_at r s xs d g group index begins same these inside =
+-- the index that stands first in a group
+pub first_index : (r : Resolved) (g : Group) → (group : IsGroup r g) → (index : ℕ)
+    → index ≡ slice_index_or g.conflicts.items 0 index → (index ≡ group.first) × (index < length r.conflicts)
+first_index r g group index begins =
     let first : index ≡ group.first
     = begins ∙ get_or_from_slice_get g.conflicts.items 0 group.first index group.begins in
-    let lt : index < length xs
-    = omega (
-      arith,
-      first,
-      as_many r s xs same these,
-      slice_get_within r.conflicts group.first group.conflict group.is_first,
-    ) in
-    let is = at_index r s.automaton xs index d (ap (λ v. v.automaton) same) (these ∙ ap (λ v. v.conflicts) same) inside
-    lt in (
-      is,
-      first,
-      same_Some _ _ (sym group.is_first ∙ ap (slice_get r.conflicts) (sym first) ∙ is.at),
-    )
+    (first, omega (arith, first, slice_get_within r.conflicts group.first group.conflict group.is_first))
+
+-- and its conflict
+pub first_at : (r : Resolved) (g : Group) → (group : IsGroup r g) → (index : ℕ) (x : Conflict) → index ≡ group.first
+    → IsAt r index x → group.conflict ≡ conflict_from r.automaton x
+first_at r g group index x first is =
+    same_Some _ _ (sym group.is_first ∙ ap (slice_get r.conflicts) (sym first) ∙ is.at)
 
 -- what stands among the first stands there
 taken_at : {X : Type 0} (n : ℕ) (xs : List X) (p : ℕ) (x : X) → slice_get (take n xs) p ≡ Some x

@@ -2,8 +2,7 @@
 use Rattle.std.proofs.Common.{◌≡◌, ◌≢◌, ◌∙◌, ◌⊎◌, ◌↔◌, inl, inr, ℕ, ◌+◌, ◌<◌, ◌≤◌, List, [], ◌∷◌, ◌++◌, Some, None}
 use Rattle.std.proofs.Common.{refl, sym, ap, subst, arith, length, map, take, drop, slice_get}
 use Rattle.std.proofs.Common.{slice_index_or, slice_set, All, Contains}
-use Rattle.std.specs.Prelude.{option_and_then}
-use Rattle.std.specs.List.{AllPairs}
+use Rattle.std.specs.Prelude.{Bool, false, filter, not, option_and_then, true}
 use Rattle.std.proofs.lemmas.List.{get_or-set_same, get_or-set_other, length-set}
 use Rattle.std.proofs.lemmas.List.Elements.{Contains-get_or}
 use Rattle.std.proofs.lemmas.Bool.{cases_order}
@@ -13,13 +12,15 @@ use Rattle.ly_join.specs.Grammar.{Grammar, IsAugmented, IsRule, GrammarRule, Sym
 use Rattle.ly_join.proofs.ListLemmas.{in_mapped, mapped_in}
 use Rattle.ly_grammar.specs.Private.Search.{HasNumberBelow}
 use Rattle.ly_grammar.proofs.SearchLemmas.{same_or_not}
-use Rattle.ly_lr0.specs.Automaton.{Lr0Automaton, IsLr0Automaton, IsLess, goto_of, state_at, target_of}
+use Rattle.ly_lr0.specs.Automaton.{Lr0Automaton, IsLr0Automaton, IsState, Transition, goto_of, is_goto, is_shift}
+use Rattle.ly_lr0.specs.Automaton.{is_terminal, state_at, target_of}
 use Rattle.ly_lr0.specs.Transitions.{transition_of}
 use Rattle.ly_lr0.specs.declared.transition.Transition as code
 use Rattle.ly_lr0.proofs.GroupLemmas.{symbol_one}
 use Rattle.ly_lr0.proofs.StateLemmas.{state_there, target_some}
 use Rattle.ly_relate.specs.Private.Walks.{HasNumberTo}
 use Rattle.ly_relate.proofs.GotoLemmas.{has_target}
+use Rattle.ly_resolve.proofs.MeetingLemmas.{filter_in, in_filter}
 use Rattle.ly_lr0.specs.declared.item.Item.{Item}
 use Rattle.ly_examples.specs.declared.incoming.Incoming.{Incoming}
 use Rattle.ly_examples.specs.Private.Grounds.{AreIncoming, AreUses}
@@ -216,59 +217,96 @@ leaving_more old mid new from ts k t lt within e are = record {
       (record { from = from; symbol = (slice_index_or ts k t).symbol }) within e s) (are.exact s);
 }
 
-module _ (M : Lr0Automaton) (is : IsLr0Automaton M) (from : StateNo) (lt : from.0 < length M.states)
-    (ts : List code.Transition) (shown : map transition_of ts ≡ (state_at M from.0).transitions) where
-  -- a transition leads to a state
-  pub target_within : (k : ℕ) (t : code.Transition) → k < length ts
-      → (slice_index_or ts k t).target.0 < length M.states
-  target_within k t less = (is.each from.0 (state_at M from.0) (state_there M from.0 lt)).within
-      (transition_of (slice_index_or ts k t)) (subst (λ w. Contains w (transition_of (slice_index_or ts k t))) shown
-      (mapped_in transition_of ts (slice_index_or ts k t) (Contains-get_or ts k t less)))
+module _ (M : Lr0Automaton) (is : IsLr0Automaton M) (from : StateNo) (lt : from.0 < length M.states) where
+  abbrev transitions : List Transition
+  transitions = (state_at M from.0).transitions
 
-  goes : (X : Symbol) → goto_of M from.0 X ≡ target_of (map transition_of ts) X
+  these : IsState M.grammar (length M.states) (state_at M from.0)
+  these = is.each from.0 (state_at M from.0) (state_there M from.0 lt)
+
+  -- one of those that pass a test is the state's
+  passed_there : (p : Transition → Bool) (ts : List code.Transition) → map transition_of ts ≡ filter p transitions
+      → (t : code.Transition) → Contains ts t → Contains transitions (transition_of t)
+  passed_there p ts shown t has = (filter_in p transitions (transition_of t)
+      (subst (λ w. Contains w (transition_of t)) shown (mapped_in transition_of ts t has))).0
+
+  -- it leads to a state
+  pub target_within : (p : Transition → Bool) (ts : List code.Transition) → map transition_of ts ≡ filter p transitions
+      → (t : code.Transition) → Contains ts t → t.target.0 < length M.states
+  target_within p ts shown t has = these.within (transition_of t) (passed_there p ts shown t has)
+
+  goes : (X : Symbol) → goto_of M from.0 X ≡ target_of transitions X
   goes X = ap (option_and_then (λ q. target_of q.transitions X)) (state_there M from.0 lt)
-      ∙ ap (λ w. target_of w X) (sym shown)
 
-  leaving_are : (s : ℕ) (x : Incoming) → HasSource (IsLeaving from s) ts x
-      ↔ ((x.from ≡ from) × (goto_of M x.from.0 (symbol_of x.symbol) ≡ Some s))
-  leaving_are s x = (
-    λ (t, among, (target, e)).
-        let there = has_target (map transition_of ts) (transition_of t)
-        (subst (AllPairs (λ a b. IsLess a.symbol b.symbol)) (sym shown) (is.each from.0 (state_at M from.0)
-        (state_there M from.0 lt)).ordered)
-        (mapped_in transition_of ts t among) in
-        subst (λ y. (y.from ≡ from) × (goto_of M y.from.0 (symbol_of y.symbol) ≡ Some s)) e
-        (refl, goes (symbol_of t.symbol) ∙ there ∙ ap (λ n. Some n) target),
-    λ (at, leads).
-        let there : target_of (map transition_of ts) (symbol_of x.symbol) ≡ Some s
-        = sym (goes (symbol_of x.symbol)) ∙ ap (λ q. goto_of M q.0 (symbol_of x.symbol)) (sym at) ∙ leads in
-        let it = in_mapped transition_of ts _ (target_some (map transition_of ts) (symbol_of x.symbol) s there) in
-        let symbol = symbol_one it.0.symbol x.symbol (ap (λ u. u.symbol) it.2) in
-        let put : StateNo → _ → Incoming = λ q y. record { from = q; symbol = y } in
-        (it.0, it.1, (ap (λ u. u.target) it.2, ap (λ q. put q it.0.symbol) (sym at) ∙ ap (put x.from) symbol)),
-  )
+  -- by one of those that pass a test the state goes where it leads
+  source_leads : (p : Transition → Bool) (ts : List code.Transition) → map transition_of ts ≡ filter p transitions
+      → (s : ℕ) (x : Incoming) → HasSource (IsLeaving from s) ts x
+      → (x.from ≡ from) × (goto_of M x.from.0 (symbol_of x.symbol) ≡ Some s)
+  source_leads p ts shown s x (t, among, (target, e)) =
+      let there = has_target transitions (transition_of t) these.ordered (passed_there p ts shown t among) in
+      subst (λ y. (y.from ≡ from) × (goto_of M y.from.0 (symbol_of y.symbol) ≡ Some s)) e
+      (refl, goes (symbol_of t.symbol) ∙ there ∙ ap (λ n. Some n) target)
 
-  pub leaving_done : (old new : List (List Incoming)) → AreIncomingOf M old from.0 → AreLeavingAdded old new from ts
-      → AreIncomingOf M new (from.0 + 1)
-  leaving_done old new before are = record {
-    count = are.count ∙ before.count;
-    exact = λ s x less. (
-      λ has. elim ((are.exact s x).0 has) [
-        | inl was ↦
-            let there = (before.exact s x less).0 was in
-            ((let e = there.0 in omega (arith, e)), there.1)
-        | inr some ↦
-            let there = (leaving_are s x).0 some in
-            let e : x.from.0 ≡ from.0 = ap (λ q. q.0) there.0 in
-            (omega (arith, e), there.1)
+  -- where the state goes by a symbol, one of those over the symbol's kind leads
+  leading_source : (p : Transition → Bool) (ts : List code.Transition) → map transition_of ts ≡ filter p transitions
+      → (s : ℕ) (x : Incoming) → x.from ≡ from → goto_of M x.from.0 (symbol_of x.symbol) ≡ Some s
+      → p (record { symbol = symbol_of x.symbol; target = s }) ≡ true → HasSource (IsLeaving from s) ts x
+  leading_source p ts shown s x at leads passes =
+      let there : target_of transitions (symbol_of x.symbol) ≡ Some s
+      = sym (goes (symbol_of x.symbol)) ∙ ap (λ q. goto_of M q.0 (symbol_of x.symbol)) (sym at) ∙ leads in
+      let u : Transition = record { symbol = symbol_of x.symbol; target = s } in
+      let among = in_filter p transitions u (target_some transitions (symbol_of x.symbol) s there) passes in
+      let it = in_mapped transition_of ts u (subst (λ w. Contains w u) (sym shown) among) in
+      let symbol = symbol_one it.0.symbol x.symbol (ap (λ v. v.symbol) it.2) in
+      let put : StateNo → _ → Incoming = λ q y. record { from = q; symbol = y } in
+      (it.0, it.1, (ap (λ v. v.target) it.2, ap (λ q. put q it.0.symbol) (sym at) ∙ ap (put x.from) symbol))
+
+  module _ (shifts gotos : List code.Transition) (over_terminals : map transition_of shifts ≡ filter is_shift transitions)
+      (over_nonterminals : map transition_of gotos ≡ filter is_goto transitions) where
+    leaving_are : (s : ℕ) (x : Incoming)
+        → (HasSource (IsLeaving from s) shifts x ⊎ HasSource (IsLeaving from s) gotos x)
+        ↔ ((x.from ≡ from) × (goto_of M x.from.0 (symbol_of x.symbol) ≡ Some s))
+    leaving_are s x = (
+      λ either. elim either [
+        | inl one ↦ source_leads is_shift shifts over_terminals s x one
+        | inr one ↦ source_leads is_goto gotos over_nonterminals s x one
       ],
-      λ (early, leads). (are.exact s x).1 (elim (cases_order x.from.0 from.0) [
-        | inl same ↦ inr ((leaving_are s x).1 (ap (λ n. record { 0 = n }) same, leads))
-        | inr (inl less') ↦ inl ((before.exact s x less).1 (less', leads))
-        | inr (inr more') ↦ absurd (omega (arith, early, more'))
-      ]),
-    );
-  }
+      λ (at, leads). kind (is_terminal (symbol_of x.symbol)) refl at leads,
+    ) where
+      kind : (b : Bool) → is_terminal (symbol_of x.symbol) ≡ b → x.from ≡ from
+          → goto_of M x.from.0 (symbol_of x.symbol) ≡ Some s
+          → HasSource (IsLeaving from s) shifts x ⊎ HasSource (IsLeaving from s) gotos x
+      kind true e at leads = inl (leading_source is_shift shifts over_terminals s x at leads e)
+      kind false e at leads = inr (leading_source is_goto gotos over_nonterminals s x at leads (ap not e))
+
+    pub leaving_done : (old mid new : List (List Incoming)) → AreIncomingOf M old from.0
+        → AreLeavingAdded old mid from shifts → AreLeavingAdded mid new from gotos → AreIncomingOf M new (from.0 + 1)
+    leaving_done old mid new before first second = record {
+      count = second.count ∙ first.count ∙ before.count;
+      exact = λ s x less. (
+        λ has. elim ((second.exact s x).0 has) [
+          | inl was ↦ elim ((first.exact s x).0 was) [
+              | inl older ↦
+                  let there = (before.exact s x less).0 older in
+                  ((let e = there.0 in omega (arith, e)), there.1)
+              | inr some ↦ here s x ((leaving_are s x).0 (inl some))
+            ]
+          | inr some ↦ here s x ((leaving_are s x).0 (inr some))
+        ],
+        λ (early, leads). elim (cases_order x.from.0 from.0) [
+          | inl same ↦ elim ((leaving_are s x).1 (ap (λ n. record { 0 = n }) same, leads)) [
+              | inl one ↦ (second.exact s x).1 (inl ((first.exact s x).1 (inr one)))
+              | inr one ↦ (second.exact s x).1 (inr one)
+            ]
+          | inr (inl less') ↦
+              (second.exact s x).1 (inl ((first.exact s x).1 (inl ((before.exact s x less).1 (less', leads)))))
+          | inr (inr more') ↦ absurd (omega (arith, early, more'))
+        ],
+      );
+    } where
+      here : (s : ℕ) (x : Incoming) → (x.from ≡ from) × (goto_of M x.from.0 (symbol_of x.symbol) ≡ Some s)
+          → (x.from.0 < from.0 + 1) × (goto_of M x.from.0 (symbol_of x.symbol) ≡ Some s)
+      here s x there = let e : x.from.0 ≡ from.0 = ap (λ q. q.0) there.0 in (omega (arith, e), there.1)
 
 pub incoming_all : (M : Lr0Automaton) (lists : List (List Incoming)) (n : ℕ) → length M.states ≤ n
     → AreIncomingOf M lists n → AreIncoming M lists

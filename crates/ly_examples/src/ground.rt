@@ -1,8 +1,9 @@
 //! What an automaton is looked at for, backwards.
-ghost use Rattle.std.specs.Prelude.{◌≡◌, ◌<◌, ◌+◌, length, map, All, IfOk, OnOk};
+ghost use Rattle.std.specs.Prelude.{◌≡◌, ◌<◌, ◌+◌, length, map, All, Contains, IfOk, OnOk};
 ghost use Rattle.ly_join.specs.Grammar.{symbol_of};
 ghost use Rattle.ly_grammar.specs.Private.Search.{HasNumberBelow};
 ghost use Rattle.ly_lr0.specs.Automaton.{IsLr0Automaton};
+ghost use Rattle.ly_lr0.specs.declared.transition.Transition as code;
 ghost use Rattle.ly_examples.specs.Private.Grounds.{AreIncoming, AreUses};
 ghost use Rattle.ly_examples.specs.Private.Lists.{AreIncomingOf, AreLeavingAdded, AreUsesAdded, IsGround};
 
@@ -65,7 +66,6 @@ fn push_leaving(
     requires before { AreIncomingOf lr0.now incoming.old from.0 }
     ensures { OnOk result (AreIncomingOf lr0.now incoming.new (from.0 + 1)) }
 {
-    let _states = lr0.states();
     push_each(incoming, from, lr0.shifts(from))?;
     push_each(incoming, from, lr0.gotos(from))
 }
@@ -76,7 +76,7 @@ fn push_each(
     from: StateNo,
     transitions: &[Transition],
 ) -> Result<(), OutOfMemory>
-    requires { All (λ t. t.target.0 < length incoming.old) transitions.now }
+    requires { (t : code.Transition) → Contains transitions.now t → t.target.0 < length incoming.old }
     ensures { OnOk result (AreLeavingAdded incoming.old incoming.new from transitions.now) }
 {
     for transition in transitions {
