@@ -4,7 +4,7 @@ use Rattle.std.proofs.Common.{length, map, option_map, refl, slice_get, slice_in
 use Rattle.std.specs.Prelude.{All}
 use Rattle.std.proofs.lemmas.Bool.{cases_order}
 use Rattle.std.proofs.lemmas.Option.{same_Some, slice_get-get_or, slice_get-map, slice_get_within}
-use Rattle.ly_base.proofs.ListLemmas.{some_at}
+use Rattle.ly_base.proofs.ListLemmas.{All-at, some_at}
 use Rattle.ly_join.proofs.ListLemmas.{member_at, placed}
 use Rattle.ly_lr0.specs.Automaton.{ComesBefore, IsLr0Automaton, Lr0Automaton, prefix_of}
 use Rattle.ly_lr0.proofs.OrderLemmas.{not_before_itself}
@@ -88,10 +88,10 @@ alike M lawful x y a b e =
     let state = same_state M lawful x.state.0 y.state.0 a.state b.state e.0 in
     let kind = same_flag x.kind y.kind e.1 in
     let choice = same_choice x.choice y.choice e.3 in
-    ap (λ s. record { state = s; rule = x.rule; choice = choice_from x.choice; is_shift = is_shift x.kind }) state
+    ap (λ s. record { state = s; rule = x.rule.0; choice = choice_from x.choice; is_shift = is_shift x.kind }) state
     ∙ ap (λ p. record { state = y.state.0; rule = p; choice = choice_from x.choice; is_shift = is_shift x.kind }) e.2
-    ∙ ap (λ c. record { state = y.state.0; rule = y.rule; choice = c; is_shift = is_shift x.kind }) choice
-    ∙ ap (λ f. record { state = y.state.0; rule = y.rule; choice = choice_from y.choice; is_shift = f }) kind
+    ∙ ap (λ c. record { state = y.state.0; rule = y.rule.0; choice = c; is_shift = is_shift x.kind }) choice
+    ∙ ap (λ f. record { state = y.state.0; rule = y.rule.0; choice = choice_from y.choice; is_shift = f }) kind
 
 -- of a reduction what was answered is asked
 asked_reduction : (k : ConflictKind) (example : Option Example) → kind_from k ≡ reduce_reduce

@@ -4,7 +4,6 @@ ghost use Rattle.ly_accepted.specs.Groups.{answer_from};
 ghost use Rattle.ly_accepted.specs.Private.Keys.{choice_from, common_from, key_from};
 
 use indexmap::IndexSet;
-use ly_base::RuleNo;
 use ly_examples::Example;
 use ly_resolve::{Action, Conflict, ConflictKind};
 use std::alloc::{AllocError, Global};
@@ -16,7 +15,7 @@ pub(crate) enum Choice {
     /// The shift.
     Shift,
     /// A reduction by a rule.
-    Reduction(RuleNo),
+    Reduction(usize),
     /// Neither: the terminal is refused.
     Refusal,
 }
@@ -27,7 +26,7 @@ pub(crate) struct Common {
     /// Their state.
     pub(crate) state: u32,
     /// Their rule.
-    pub(crate) rule: RuleNo,
+    pub(crate) rule: usize,
     /// What is chosen.
     pub(crate) choice: Choice,
     /// Whether it is a shift that stands against the rule.
@@ -61,7 +60,7 @@ impl Common {
     {
         Common {
             state: conflict.state.0,
-            rule: conflict.rule,
+            rule: conflict.rule.0 as usize,
             choice: choice_of(conflict.choice),
             is_shift: matches!(conflict.kind, ConflictKind::ShiftReduce),
         }
@@ -89,7 +88,7 @@ fn choice_of(action: Action) -> Choice
 {
     match action {
         Action::Shift => Choice::Shift,
-        Action::Reduce(rule) => Choice::Reduction(rule),
+        Action::Reduce(rule) => Choice::Reduction(rule.0 as usize),
         Action::Error => Choice::Refusal,
     }
 }

@@ -15,7 +15,7 @@ use Rattle.ly_accepted.specs.Groups.{answer_from}
 
 abbrev pub choice_from : Action → Choice
 choice_from Shift = choice.Shift
-choice_from (Reduce p) = choice.Reduction p
+choice_from (Reduce p) = choice.Reduction p.0
 choice_from Error = choice.Refusal
 
 abbrev pub is_shift : ConflictKind → Bool
@@ -25,7 +25,7 @@ is_shift ReduceReduce = false
 abbrev pub common_from : Conflict → Common
 common_from c = record {
   state = c.state.0;
-  rule = c.rule;
+  rule = c.rule.0;
   choice = choice_from c.choice;
   is_shift = is_shift c.kind;
 }

@@ -1,14 +1,24 @@
-use Rattle.std.proofs.Common.{subst, sym}
-use Rattle.std.specs.Prelude.{Contains}
-use Rattle.ly_join.proofs.ListLemmas.{mapped_in}
-use Rattle.ly_resolve.specs.Values.{conflict_from}
+use Rattle.std.proofs.Common.{subst}
+use Rattle.std.specs.Prelude.{Contains, IfSome, Some, slice_get}
+use Rattle.ly_resolve.specs.Resolved.{Resolved}
+use Rattle.ly_resolve.specs.Values.{conflict_from, IsInside}
+use Rattle.ly_examples.proofs.AtLemmas.{found_among, found_at, found_inside}
 use Rattle.ly_examples.proofs.example.Examples.conflict.Goals as goal
 
-pub returns-in-Some-clause-among : goal.returns-in-Some-clause-among
-returns-in-Some-clause-among c =
-    let conflict = c.in-Some.conflict.now in
-    let told = conflict_from c.self.inside.resolved.now.automaton in
-    subst (λ v. Contains v.conflicts (conflict_from v.automaton conflict)) c.self.view_is
-    (subst (λ xs. Contains xs (told conflict)) c.conflicts.ensures.these
-    (mapped_in told c.conflicts.result.now conflict
-    (c.args.index, c.in-Some.ensures.lookup.3.0, sym c.in-Some.ensures.lookup.1)))
+pub returns-clause-these : goal.returns-clause-these
+returns-clause-these c =
+    subst (λ (v : Resolved). IfSome c.get.result (λ x. slice_get v.conflicts c.args.index ≡ Some (conflict_from v.automaton x)))
+    c.self.view_is (found_at c.self.inside.resolved.now c.conflicts.result.now c.args.index c.get.result
+    c.conflicts.ensures.these c.get.ensures)
+
+pub returns-clause-inside : goal.returns-clause-inside
+returns-clause-inside c =
+    subst (λ (v : Resolved). IfSome c.get.result (IsInside v.automaton))
+    c.self.view_is (found_inside c.self.inside.resolved.now c.conflicts.result.now c.args.index c.get.result
+    c.conflicts.ensures.inside c.get.ensures)
+
+pub returns-clause-among : goal.returns-clause-among
+returns-clause-among c =
+    subst (λ (v : Resolved). IfSome c.get.result (λ x. Contains v.conflicts (conflict_from v.automaton x)))
+    c.self.view_is (found_among c.self.inside.resolved.now c.conflicts.result.now c.args.index c.get.result
+    c.conflicts.ensures.these c.get.ensures)
