@@ -2,6 +2,7 @@ pub mod AmbiguousLemmas
 pub mod AtLemmas
 pub mod BackLemmas
 pub mod BothLemmas
+pub mod ConflictLemmas
 pub mod ExampleLemmas
 pub mod FirstByteLemmas
 pub mod FoundLemmas

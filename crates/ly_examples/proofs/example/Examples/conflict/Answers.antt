@@ -2,7 +2,7 @@ use Rattle.std.proofs.Common.{subst}
 use Rattle.std.specs.Prelude.{Contains, IfSome, Some, slice_get}
 use Rattle.ly_resolve.specs.Resolved.{Resolved}
 use Rattle.ly_resolve.specs.Values.{conflict_from, IsInside}
-use Rattle.ly_examples.proofs.AtLemmas.{found_among, found_at, found_inside}
+use Rattle.ly_examples.proofs.ConflictLemmas.{found_among, found_at, found_inside}
 use Rattle.ly_examples.proofs.example.Examples.conflict.Goals as goal
 
 pub returns-clause-these : goal.returns-clause-these
