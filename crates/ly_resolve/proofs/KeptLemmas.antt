@@ -1,15 +1,12 @@
 -- Rows that are kept once where they are equal.
-use Rattle.std.proofs.Common.{◌≡◌, ◌∙◌, ◌-◌, ◌<◌, ◌++◌, ◌∷◌, [], ℕ, Bool, List, true, All, ap, ap₂}
-use Rattle.std.proofs.Common.{arith, length, map, refl}
-use Rattle.std.proofs.Common.{slice_index_or, subst, sym}
-use Rattle.std.specs.Prelude.{nat_eq}
+use Rattle.std.proofs.Common.{◌≡◌, ◌∙◌, ◌+◌, ◌-◌, ◌≤◌, ◌++◌, ◌∷◌, [], ℕ, Bool, List, true, All, ap, ap₂}
+use Rattle.std.proofs.Common.{arith, drop, length, map, refl, take}
+use Rattle.std.specs.Prelude.{nat_eq, slice_range}
+use Rattle.std.proofs.Math.Seq.{drop-append_seam}
 use Rattle.std.proofs.lemmas.Bool.{and_parts, eqb-true}
-use Rattle.std.proofs.lemmas.List.{get_or-map, get_or_append_left, get_or_push, length-append}
-use Rattle.std.proofs.lemmas.List.{length-map, map-append}
+use Rattle.std.proofs.lemmas.List.{drop-append-le, length-append, length-drop, map-append, take-append-le, take_all}
 use Rattle.std.proofs.lemmas.List.Elements.{All-head, All-tail}
-use Rattle.std.specs.declared.alloc.Global.{Global}
-use Rattle.std.specs.declared.vec.Vec.{Vec}
-use Rattle.ly_resolve.specs.Private.ActionRows.{kept_row, last_row, rows_from}
+use Rattle.ly_resolve.specs.Private.ActionRows.{row_at, rows_from, IsWithin}
 use Rattle.ly_resolve.specs.Resolved.{TerminalAction}
 use Rattle.ly_resolve.specs.Values.{terminal_action_from}
 use Rattle.ly_resolve.specs.contracts.action.ActionPartialEq.TheImpl as action
@@ -17,6 +14,7 @@ use Rattle.ly_resolve.specs.contracts.action.TerminalActionPartialEq.TheImpl as 
 use Rattle.ly_resolve.specs.declared.action.Action as code
 use Rattle.ly_resolve.specs.declared.action.Action.TheVariants.{Error, Reduce, Shift}
 use Rattle.ly_resolve.specs.declared.action.TerminalAction as entry
+use Rattle.ly_resolve.specs.declared.action_rows.RowPlace.{RowPlace}
 
 -- actions that pass the test are the same
 abbrev pub same_action : code.Action → code.Action → Bool
@@ -40,54 +38,51 @@ entry_same x y e =
     ap (λ n. record { terminal = record { 0 = n }; action = x.action }) (eqb-true x.terminal.0 y.terminal.0 p.0)
     ∙ ap (λ a. record { terminal = y.terminal; action = a }) (action_same x.action y.action p.1)
 
-abbrev shown : Vec entry.TerminalAction Global → List TerminalAction
-shown row = map terminal_action_from row.items
+-- what stands within the entries before stays there when others are added
+range_still : {X : Type 0} (xs ys : List X) (a b : ℕ) → a ≤ b → b ≤ length xs
+    → slice_range (xs ++ ys) a b ≡ slice_range xs a b
+range_still xs ys a b ordered within =
+    let le : a ≤ length xs = omega (arith, ordered, within) in
+    let left : b - a ≤ length (drop a xs) = omega (arith, ordered, within, length-drop a xs) in
+    ap (take (b - a)) (drop-append-le a xs ys le) ∙ take-append-le (b - a) (drop a xs) ys left
 
--- a row that is kept at a place
-pub kept_at : (kept : List (Vec entry.TerminalAction Global)) (k : ℕ) (v : Vec entry.TerminalAction Global)
-    → k < length kept → v ≡ slice_index_or kept k v → kept_row kept k ≡ map terminal_action_from v.items
-kept_at kept k v lt is = get_or-map shown kept k v [] lt ∙ ap shown (sym is)
+-- what is added stands behind them
+range_behind : {X : Type 0} (xs ys : List X) (a b : ℕ) → a ≡ length xs → b ≡ length xs + length ys
+    → slice_range (xs ++ ys) a b ≡ ys
+range_behind xs ys a b start end =
+    let rest : b - a ≡ length ys = omega (arith, start, end) in
+    ap₂ (λ n m. take n (drop m (xs ++ ys))) rest start ∙ ap (take (length ys)) (drop-append_seam xs ys)
+    ∙ take_all (length ys) ys (omega arith)
 
--- the rows by their places, of which one is added
-rows_added : (places : List ℕ) (kept : List (Vec entry.TerminalAction Global)) (k : ℕ)
-    → rows_from (places ++ k ∷ []) kept ≡ rows_from places kept ++ kept_row kept k ∷ []
-rows_added places kept k = map-append (kept_row kept) places (k ∷ [])
+-- rows stay when entries are added
+rows_still : (places : List RowPlace) (kept more : List entry.TerminalAction) → All (IsWithin (length kept)) places
+    → rows_from places (kept ++ more) ≡ rows_from places kept
+rows_still [] kept more all = refl
+rows_still (p ∷ places) kept more all =
+    let here = All-head (IsWithin (length kept)) p places all in
+    ap₂ (λ r rs. r ∷ rs) (ap (map terminal_action_from) (range_still kept more p.start p.end here.ordered here.within))
+    (rows_still places kept more (All-tail (IsWithin (length kept)) p places all))
 
--- rows that were kept before another stay where they are
-rows_still : (places : List ℕ) (kept : List (Vec entry.TerminalAction Global)) (v : Vec entry.TerminalAction Global)
-    → All (λ k. k < length kept) places → rows_from places (kept ++ v ∷ []) ≡ rows_from places kept
-rows_still [] kept v all = refl
-rows_still (k ∷ places) kept v all =
-    let lt = All-head (λ n. n < length kept) k places all in
-    let row : kept_row (kept ++ v ∷ []) k ≡ kept_row kept k
-    = ap (λ rows. slice_index_or rows k []) (map-append shown kept (v ∷ []))
-    ∙ get_or_append_left (map shown kept) (shown v ∷ []) [] k
-    (subst (λ n. k < n) (sym (length-map kept shown)) lt) in
-    ap (λ r. r ∷ rows_from places (kept ++ v ∷ [])) row
-    ∙ ap (λ rs. kept_row kept k ∷ rs) (rows_still places kept v (All-tail (λ n. n < length kept) k places all))
+-- places stay within when entries are added
+pub within_still : (places : List RowPlace) (kept more : List entry.TerminalAction) → All (IsWithin (length kept)) places
+    → All (IsWithin (length (kept ++ more))) places
+within_still places kept more all = λ k d lt.
+    let was = all k d lt in
+    record {
+      ordered = was.ordered;
+      within = let le = was.within in omega (arith, le, length-append kept more);
+    }
 
--- one more row that is kept behind the others
-pub rows_put : (places : List ℕ) (kept new : List (Vec entry.TerminalAction Global))
-    (v : Vec entry.TerminalAction Global) (n : ℕ) → All (λ k. k < length kept) places → new ≡ kept ++ v ∷ []
-    → n ≡ length new → rows_from (places ++ (n - 1) ∷ []) new
-    ≡ rows_from places kept ++ map terminal_action_from v.items ∷ []
-rows_put places kept new v n all is count =
-    let long = length-append kept (v ∷ []) in
-    let same = ap length is in
-    let last : length (map shown kept) ≡ n - 1 = let as_many = length-map kept shown in
-    omega (arith, count, same, long, as_many) in
-    let row : kept_row (kept ++ v ∷ []) (n - 1) ≡ shown v
-    = ap (λ rows. slice_index_or rows (n - 1) []) (map-append shown kept (v ∷ []))
-    ∙ get_or_push (map shown kept) (shown v) [] (n - 1) last in
-    ap (rows_from (places ++ (n - 1) ∷ [])) is ∙ rows_added places (kept ++ v ∷ []) (n - 1)
-    ∙ ap₂ (λ rs r. rs ++ r ∷ []) (rows_still places kept v all) row
+-- one more row behind the others
+pub rows_put : (places : List RowPlace) (kept row : List entry.TerminalAction) (p : RowPlace)
+    → All (IsWithin (length kept)) places → p.start ≡ length kept → p.end ≡ length kept + length row
+    → rows_from (places ++ p ∷ []) (kept ++ row) ≡ rows_from places kept ++ map terminal_action_from row ∷ []
+rows_put places kept row p all start end = map-append (row_at (kept ++ row)) places (p ∷ [])
+    ∙ ap₂ (λ rs r. rs ++ r ∷ []) (rows_still places kept row all)
+    (ap (map terminal_action_from) (range_behind kept row p.start p.end start end))
 
--- and one that the last one is equal to
-pub rows_again : (places : List ℕ) (kept new : List (Vec entry.TerminalAction Global))
-    (row : List TerminalAction) (n : ℕ)
-    → new ≡ kept → n ≡ length new → last_row kept ≡ row
-    → rows_from (places ++ (n - 1) ∷ []) new ≡ rows_from places kept ++ row ∷ []
-rows_again places kept new row n is count last =
-    ap₂ (λ k rows. rows_from (places ++ (k - 1) ∷ []) rows) (count ∙ ap length is) is
-    ∙ rows_added places kept (length kept - 1)
-    ∙ ap (λ r. rows_from places kept ++ r ∷ []) last
+-- and one that stands there already
+pub rows_again : (places : List RowPlace) (kept : List entry.TerminalAction) (row : List TerminalAction) (p : RowPlace)
+    → row_at kept p ≡ row → rows_from (places ++ p ∷ []) kept ≡ rows_from places kept ++ row ∷ []
+rows_again places kept row p same = map-append (row_at kept) places (p ∷ [])
+    ∙ ap (λ r. rows_from places kept ++ r ∷ []) same

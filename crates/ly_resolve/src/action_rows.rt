@@ -1,30 +1,38 @@
-ghost use Rattle.std.specs.Prelude.{◌≡◌, ◌<◌, ◌++◌, [], ◌∷◌, length, map, slice_get, All, IfOk, IsTrue, OnOk, Some};
-ghost use Rattle.ly_resolve.specs.Private.ActionRows.{last_row, rows_from};
+ghost use Rattle.std.specs.Prelude.{◌≡◌, ◌+◌, ◌<◌, ◌++◌, [], ◌∷◌, length, map, slice_get, All, IfOk, IfSome, OnOk};
+ghost use Rattle.std.specs.Prelude.{Some};
+ghost use Rattle.ly_resolve.specs.Private.ActionRows.{row_at, rows_from, IsWithin};
 ghost use Rattle.ly_resolve.specs.Values.{terminal_action_from};
 
 use crate::action::TerminalAction;
 use std::alloc::{AllocError, Global};
 
+/// Where a row stands in the list of entries.
+#[derive(Clone, Copy)]
+pub(crate) struct RowPlace {
+    /// Where its first entry does.
+    pub(crate) start: usize,
+    /// How many entries there are up to its end.
+    pub(crate) end: usize,
+}
+
 /// What is done in each of the first states. States often do what the one before does, so a row that is equal to the
-/// one before is kept once.
+/// one before is kept once. All stand in one list: what it takes goes back to the system when it isn't needed any more,
+/// which isn't so of as many lists.
 #[derive(Drop)]
 pub(crate) struct ActionRows {
-    /// Where room comes from.
-    alloc: Global,
-    /// For each state the place of its row among those that are kept.
-    pub(crate) places: Vec<usize>,
-    /// The rows that are kept.
-    pub(crate) kept: Vec<Vec<TerminalAction>>,
-    ghost within: { All (λ k. k < length kept.items) places.items },
+    /// For each state the place of its row.
+    pub(crate) places: Vec<RowPlace>,
+    /// The rows that are kept, one behind the other.
+    pub(crate) kept: Vec<TerminalAction>,
+    ghost within: { All (IsWithin (length kept.items)) places.items },
 }
 
 impl ActionRows {
-    /// No rows, with room for those of so many states.
+    /// No rows, with room for the places of so many states.
     pub(crate) fn with_capacity(alloc: Global, states: usize) -> Result<ActionRows, AllocError>
         ensures { IfOk result (λ r. rows_from r.places.items r.kept.items ≡ []) }
     {
         Ok(ActionRows {
-            alloc,
             places: Vec::with_capacity(alloc, states)?,
             kept: Vec::new(alloc),
         })
@@ -36,7 +44,8 @@ impl ActionRows {
         ensures { slice_get (rows_from self.now.places.items self.now.kept.items) state
             ≡ Some (map terminal_action_from result.now) }
     {
-        &self.kept[self.places[state]]
+        let place = self.places[state];
+        &self.kept[place.start..place.end]
     }
 
     /// Adds the row of the next state.
@@ -44,24 +53,38 @@ impl ActionRows {
         ensures { OnOk result (rows_from self.new.places.items self.new.kept.items
             ≡ rows_from self.old.places.items self.old.kept.items ++ map terminal_action_from row.now ∷ []) }
     {
-        if !self.ends_in(row) {
-            self.kept.push(Vec::from_slice(self.alloc, row)?)?;
-        }
-        self.places.push(self.kept.len() - 1)?;
-        Ok(())
+        let place = match self.last_place(row) {
+            Some(place) => place,
+            None => self.keep(row)?,
+        };
+        self.places.push(place)
     }
 
-    /// Whether the last row that is kept is this one.
-    fn ends_in(&self, row: &[TerminalAction]) -> bool
-        ensures { IsTrue result → (0 < length self.now.kept.items)
-            × (last_row self.now.kept.items ≡ map terminal_action_from row.now) }
+    /// Where the last row stands, if it is this one.
+    fn last_place(&self, row: &[TerminalAction]) -> Option<RowPlace>
+        ensures within { IfSome result (IsWithin (length self.now.kept.items)) }
+        ensures same { IfSome result (λ p. row_at self.now.kept.items p ≡ map terminal_action_from row.now) }
     {
-        match self.kept.last() {
-            Some(last) => {
-                let last: &[TerminalAction] = last;
-                last == row
-            }
-            None => false,
+        let place = *self.places.last()?;
+        if &self.kept[place.start..place.end] == row {
+            Some(place)
+        } else {
+            None
         }
+    }
+
+    /// Keeps a row behind the others, and tells where.
+    fn keep(&mut self, row: &[TerminalAction]) -> Result<RowPlace, AllocError>
+        ensures kept { OnOk result (self.new.kept.items ≡ self.old.kept.items ++ row.now) }
+        ensures places { self.new.places ≡ self.old.places }
+        ensures start { IfOk result (λ p. p.start ≡ length self.old.kept.items) }
+        ensures end { IfOk result (λ p. p.end ≡ length self.old.kept.items + length row.now) }
+    {
+        let start = self.kept.len();
+        self.kept.extend_from_slice(row)?;
+        Ok(RowPlace {
+            start,
+            end: self.kept.len(),
+        })
     }
 }

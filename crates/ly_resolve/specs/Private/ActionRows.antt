@@ -1,19 +1,19 @@
--- Rows of states, of which equal ones are kept once.
-use Rattle.std.specs.Prelude.{◌-◌, ℕ, List, [], length, map, slice_index_or}
-use Rattle.std.specs.declared.alloc.Global.{Global}
-use Rattle.std.specs.declared.vec.Vec.{Vec}
+-- Rows of states, which stand in one list; equal ones of states in turn are kept once.
+use Rattle.std.specs.Prelude.{◌≤◌, ℕ, List, map, slice_range}
 use Rattle.ly_resolve.specs.Resolved.{TerminalAction}
 use Rattle.ly_resolve.specs.Values.{terminal_action_from}
 use Rattle.ly_resolve.specs.declared.action.TerminalAction as entry
+use Rattle.ly_resolve.specs.declared.action_rows.RowPlace.{RowPlace}
 
--- a row that is kept, by its place
-abbrev pub kept_row : List (Vec entry.TerminalAction Global) → ℕ → List TerminalAction
-kept_row kept k = slice_index_or (map (λ row. map terminal_action_from row.items) kept) k []
+-- the place is within so many entries
+pub record IsWithin (count : ℕ) (p : RowPlace) : Type 0 where
+  pub ordered : p.start ≤ p.end
+  pub within : p.end ≤ count
 
--- the last one
-abbrev pub last_row : List (Vec entry.TerminalAction Global) → List TerminalAction
-last_row kept = kept_row kept (length kept - 1)
+-- the row at a place
+abbrev pub row_at : List entry.TerminalAction → RowPlace → List TerminalAction
+row_at kept p = map terminal_action_from (slice_range kept p.start p.end)
 
--- the rows, by the places where they are kept
-abbrev pub rows_from : List ℕ → List (Vec entry.TerminalAction Global) → List (List TerminalAction)
-rows_from places kept = map (kept_row kept) places
+-- the rows, by the places where they stand
+abbrev pub rows_from : List RowPlace → List entry.TerminalAction → List (List TerminalAction)
+rows_from places kept = map (row_at kept) places
