@@ -22,7 +22,7 @@ same_action a b = (action.eq-value).it a b
 
 action_same : (a b : code.Action) → same_action a b ≡ true → a ≡ b
 action_same Shift Shift e = refl
-action_same (Reduce p) (Reduce q) e = ap (λ n. Reduce n) (eqb-true p q e)
+action_same (Reduce p) (Reduce q) e = ap (λ n. Reduce (record { 0 = n })) (eqb-true p.0 q.0 e)
 action_same Error Error e = refl
 action_same Shift (Reduce q) e = absurd (cc)
 action_same Shift Error e = absurd (cc)
@@ -62,16 +62,6 @@ rows_still (p ∷ places) kept more all =
     let here = All-head (IsWithin (length kept)) p places all in
     ap₂ (λ r rs. r ∷ rs) (ap (map terminal_action_from) (range_still kept more p.start p.end here.ordered here.within))
     (rows_still places kept more (All-tail (IsWithin (length kept)) p places all))
-
--- places stay within when entries are added
-pub within_still : (places : List RowPlace) (kept more : List entry.TerminalAction) → All (IsWithin (length kept)) places
-    → All (IsWithin (length (kept ++ more))) places
-within_still places kept more all = λ k d lt.
-    let was = all k d lt in
-    record {
-      ordered = was.ordered;
-      within = let le = was.within in omega (arith, le, length-append kept more);
-    }
 
 -- one more row behind the others
 pub rows_put : (places : List RowPlace) (kept row : List entry.TerminalAction) (p : RowPlace)

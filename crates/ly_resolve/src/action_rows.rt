@@ -57,7 +57,8 @@ impl ActionRows {
             Some(place) => place,
             None => self.keep(row)?,
         };
-        self.places.push(place)
+        self.places.push(place)?;
+        Ok(())
     }
 
     /// Where the last row stands, if it is this one.
