@@ -7,10 +7,9 @@ use Rattle.ly_join.specs.Grammar.{IsAugmented, symbol_of}
 use Rattle.ly_grammar.specs.Derivations.{IsReduced}
 use Rattle.ly_lr0.specs.declared.fault.Lr0Fault.TheVariants.{TooManyStates}
 use Rattle.ly_lr0.specs.Automaton.{Transition}
-use Rattle.ly_lr0.specs.Private.Built.{AreFound, IsWholeRow, Link, transitions_of}
+use Rattle.ly_lr0.specs.Private.Built.{Link, transitions_of}
 use Rattle.ly_lr0.specs.Transitions.{transition_of}
 use Rattle.ly_lr0.specs.Private.Found.{links_of, rows_of}
-use Rattle.ly_lr0.specs.Private.Kernels.{kernel_at}
 use Rattle.std.proofs.Common.{inl, inr}
 use Rattle.std.proofs.lemmas.Bool.{cases_lt}
 use Rattle.ly_lr0.proofs.SharedLemmas.{begun_entered}
