@@ -94,7 +94,6 @@ impl<'a> Found<'a> {
         ensures few { OnOk result (length self.new.kernels ≤ self.new.limit) }
         ensures kept { OnOk result (KeepsKernels self.old.kernels self.new.kernels) }
         ensures rows { self.new.rows ≡ self.old.rows }
-        ensures last { self.new.last ≡ self.old.last }
         ensures reduced { self.new.reduced ≡ self.old.reduced }
         ensures limit { self.new.limit ≡ self.old.limit }
         ensures many { IsErrOf result Lr0Fault.TooManyStates →
@@ -172,7 +171,6 @@ impl<'a> Found<'a> {
             (map (λ m. m.item) moves.now) (link_of link) self.new.kernels (links_of self.new) s.0) }
         ensures few { OnOk result (length self.new.kernels ≤ self.new.limit) }
         ensures rows { self.new.rows ≡ self.old.rows }
-        ensures last { self.new.last ≡ self.old.last }
         ensures reduced { self.new.reduced ≡ self.old.reduced }
         ensures limit { self.new.limit ≡ self.old.limit }
         ensures full { IsErrOf result Lr0Fault.TooManyStates → (length self.old.kernels ≡ self.old.limit)
@@ -203,7 +201,6 @@ impl<'a> Found<'a> {
             self.new.kernels (links_of self.new) s.0) }
         ensures few { OnOk result (length self.new.kernels ≤ self.new.limit) }
         ensures rows { self.new.rows ≡ self.old.rows }
-        ensures last { self.new.last ≡ self.old.last }
         ensures reduced { self.new.reduced ≡ self.old.reduced }
         ensures limit { self.new.limit ≡ self.old.limit }
         ensures full { IsErrOf result Lr0Fault.TooManyStates →

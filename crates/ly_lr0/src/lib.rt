@@ -19,6 +19,7 @@ mod kernels;
 mod laws;
 mod lr0;
 mod nonkernel;
+mod row;
 mod transition;
 
 pub use construct::automaton;

@@ -1,13 +1,8 @@
-ghost use Rattle.std.specs.Prelude.{◌≡◌, map, IfOk};
 ghost use Rattle.std.specs.Rc.{rc_slice_items};
-ghost use Rattle.ly_lr0.specs.Private.Built.{transitions_of, AreInOrder};
 ghost use Rattle.ly_lr0.specs.Private.Kinds.{AreGotos, AreShifts};
-ghost use Rattle.ly_lr0.specs.Transitions.{transition_of};
 
-use crate::lr0::place_of;
-use ly_base::{StateNo, Sym};
+use ly_base::StateNo;
 use ly_join::Symbol;
-use std::alloc::{AllocError, Global};
 use std::rc::RcSlice;
 
 /// A transition of a state: by a symbol to a state.
@@ -40,41 +35,4 @@ pub(crate) struct Row {
     pub(crate) complete: Vec<usize>,
     ghost over_terminals: { AreShifts (rc_slice_items shifts) },
     ghost over_nonterminals: { AreGotos gotos.items },
-}
-
-impl Row {
-    /// The row of transitions in the order of their symbols. Those over terminals are the list of the last of the rows
-    /// before it where that is the same.
-    pub(crate) fn new(
-        alloc: Global,
-        transitions: &[Transition],
-        complete: Vec<usize>,
-        before: &[Row],
-    ) -> Result<Row, AllocError>
-        requires { AreInOrder (map transition_of transitions.now) }
-        ensures transitions { IfOk result (λ r. transitions_of r ≡ map transition_of transitions.now) }
-        ensures complete { IfOk result (λ r. r.complete ≡ complete) }
-    {
-        // terminals come before nonterminals
-        let place = place_of(transitions, Symbol::Nonterminal(Sym(0)));
-        Ok(Row {
-            shifts: shared_shifts(alloc, &transitions[..place], before)?,
-            gotos: Vec::from_slice(alloc, &transitions[place..])?,
-            complete,
-        })
-    }
-}
-
-/// A list of transitions over terminals to be kept: that of the last of the rows before, where it is the same.
-fn shared_shifts(
-    alloc: Global,
-    shifts: &[Transition],
-    before: &[Row],
-) -> Result<RcSlice<Transition>, AllocError>
-    ensures { IfOk result (λ list. rc_slice_items list ≡ shifts.now) }
-{
-    match before.last() {
-        Some(last) if last.shifts.as_slice() == shifts => last.shifts.clone(),
-        _ => RcSlice::from_slice(alloc, shifts),
-    }
 }
