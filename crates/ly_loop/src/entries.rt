@@ -7,12 +7,13 @@ use ly_base::{OutOfMemory, StateNo};
 use ly_pack::{Cell, MachineView, Rows, TableAction};
 use std::alloc::Global;
 use std::borrow::CowSlice;
+use std::rc::Rc;
 
 /// What each state does where it isn't its default, in the order of terminals.
 pub(crate) fn all_entries<'a, A: Rows<TableAction> + Drop, G: Rows<StateNo> + Drop>(
     alloc: Global,
     machine: &MachineView<'a, A, G>,
-) -> Result<CowSlice<'a, Vec<Cell<TableAction>>>, OutOfMemory>
+) -> Result<CowSlice<'a, Rc<Vec<Cell<TableAction>>>>, OutOfMemory>
     requires { IsCountable machine.now }
     ensures { IfOk result (λ rows. AreAllEntries machine.now (cow_slice_items rows)) }
 {
@@ -23,7 +24,7 @@ pub(crate) fn all_entries<'a, A: Rows<TableAction> + Drop, G: Rows<StateNo> + Dr
 pub(crate) fn all_gotos<'a, A: Rows<TableAction> + Drop, G: Rows<StateNo> + Drop>(
     alloc: Global,
     machine: &MachineView<'a, A, G>,
-) -> Result<CowSlice<'a, Vec<Cell<StateNo>>>, OutOfMemory>
+) -> Result<CowSlice<'a, Rc<Vec<Cell<StateNo>>>>, OutOfMemory>
     requires { IsCountable machine.now }
     ensures { IfOk result (λ rows. AreAllGotos machine.now (cow_slice_items rows)) }
 {

@@ -1,6 +1,7 @@
 use ly_base::{RuleNo, StateNo};
 use ly_pack::{Cell, MachineView, Rows, TableAction};
 use std::marker::Model;
+use std::rc::Rc;
 
 /// A machine whose states and symbols can be counted by their numbers, with what its states do in lists.
 #[derive(Drop)]
@@ -8,9 +9,9 @@ pub(crate) struct Listed<'a, A: Rows<TableAction> + Drop, G: Rows<StateNo> + Dro
     /// The machine.
     pub(crate) machine: &'a MachineView<'a, A, G>,
     /// What each state does where it isn't its default.
-    pub(crate) entries: &'a [Vec<Cell<TableAction>>],
+    pub(crate) entries: &'a [Rc<Vec<Cell<TableAction>>>],
     /// Where each state goes.
-    pub(crate) gotos: &'a [Vec<Cell<StateNo>>],
+    pub(crate) gotos: &'a [Rc<Vec<Cell<StateNo>>>],
     /// The rules by which each state reduces.
     pub(crate) reductions: &'a [Vec<RuleNo>],
 }

@@ -10,6 +10,7 @@ use ly_base::{OutOfMemory, RuleNo, SparseSet, StateNo};
 use ly_pack::{Cell, MachineView, Rows, TableAction};
 use std::alloc::Global;
 use std::collections::BTreeMap;
+use std::rc::Rc;
 
 /// Rules that are kept, by their left sides and how many symbols they have.
 type Alike = BTreeMap<(u32, usize), RuleNo>;
@@ -19,7 +20,7 @@ type Alike = BTreeMap<(u32, usize), RuleNo>;
 pub(crate) fn all_reductions<A: Rows<TableAction> + Drop, G: Rows<StateNo> + Drop>(
     alloc: Global,
     machine: &MachineView<'_, A, G>,
-    entries: &[Vec<Cell<TableAction>>],
+    entries: &[Rc<Vec<Cell<TableAction>>>],
 ) -> Result<Vec<Vec<RuleNo>>, OutOfMemory>
     requires countable { IsCountable machine.now }
     requires entries { AreAllEntries machine.now entries.now }

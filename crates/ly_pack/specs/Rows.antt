@@ -1,8 +1,9 @@
 -- Rows of entries, as they are kept: as lists, and laid over one another.
 use Rattle.std.specs.Prelude.{◌≡◌, ℕ, ◌+◌, ◌<◌, ◌≤◌, List, [], ◌∷◌, Option, Some, None, slice_get, Contains}
 use Rattle.std.specs.Prelude.{length, map, option_and_then, nat_lt, nat_eq, if◌then◌else◌, All, AllPairs}
-use Rattle.std.specs.Global.{Vec}
+use Rattle.std.specs.Global.{Global, Vec}
 use Rattle.std.specs.List.{range_with_len}
+use Rattle.std.specs.declared.rc.Rc.{Rc}
 use Rattle.ly_pack.specs.declared.cell.Cell.{Cell}
 
 -- for a row and a column the entry there, if there is one
@@ -36,8 +37,12 @@ pub record Dense (E : Type 0) : Type 0 where
   pub width : ℕ
   pub lists : List (List (Cell E))
 
-abbrev pub dense_of : {E : Type 0} → ℕ → List (Vec (Cell E)) → Dense E
-dense_of width lists = record { rows = length lists; width = width; lists = map (λ cells. cells.items) lists }
+-- the cells of a row, counted by the rows that have them
+abbrev pub Counted : Type 0 → Type 0
+Counted E = Rc (Vec (Cell E)) Global
+
+abbrev pub dense_of : {E : Type 0} → ℕ → List (Counted E) → Dense E
+dense_of width lists = record { rows = length lists; width = width; lists = map (λ cells. cells.value.items) lists }
 
 -- the entry of a row and a column
 abbrev pub dense_entry : {E : Type 0} → Dense E → Entries E
@@ -56,13 +61,13 @@ pub record AreCellsOf {E : Type 0} (entries : ℕ → Option E) (cells : List (C
   pub whole : (column : ℕ) (e : E) → entries column ≡ Some e → Contains cells (record { column = column; entry = e })
 
 -- For each row its entries with their columns, which are below the width.
-pub record AreAllCellsOf {E : Type 0} (entries : Entries E) (rows width : ℕ) (lists : List (Vec (Cell E))) : Type 0
+pub record AreAllCellsOf {E : Type 0} (entries : Entries E) (rows width : ℕ) (lists : List (Counted E)) : Type 0
   where
     pub count : length lists ≡ rows
-    pub each : (row : ℕ) (cells : Vec (Cell E)) → slice_get lists row ≡ Some cells
-        → AreCellsOf (entries row) cells.items
-    pub within : (row : ℕ) (cells : Vec (Cell E)) → slice_get lists row ≡ Some cells
-        → All (λ c. c.column < width) cells.items
+    pub each : (row : ℕ) (cells : Counted E) → slice_get lists row ≡ Some cells
+        → AreCellsOf (entries row) cells.value.items
+    pub within : (row : ℕ) (cells : Counted E) → slice_get lists row ≡ Some cells
+        → All (λ c. c.column < width) cells.value.items
 
 -- A slot that is used: its row, and the entry.
 pub record Used (E : Type 0) : Type 0 where

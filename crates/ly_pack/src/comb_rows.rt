@@ -1,14 +1,14 @@
-ghost use Rattle.std.specs.Prelude.{◌≡◌};
+ghost use Rattle.std.specs.Prelude.{◌≡◌, [], map, replicate, IfOk};
 ghost use Rattle.ly_pack.specs.Combs.{comb_from, slots_from};
 ghost use Rattle.ly_pack.specs.Rows.{IsComb};
 
 use crate::cell::Cell;
-use crate::dense::no_cells;
 use crate::rows::Rows;
 use ly_base::{OutOfMemory, StateNo};
-use std::alloc::Global;
+use std::alloc::{AllocError, Global};
 use std::borrow::CowSlice;
 use std::marker::Model;
+use std::rc::Rc;
 
 /// A slot that is used.
 #[derive(Clone, Copy, Debug, PartialEq, Eq)]
@@ -101,7 +101,7 @@ impl<E: Copy> Rows<E> for Comb<E> {
         }
     }
 
-    fn cells(&self, alloc: Global) -> Result<CowSlice<'_, Vec<Cell<E>>>, OutOfMemory> {
+    fn cells(&self, alloc: Global) -> Result<CowSlice<'_, Rc<Vec<Cell<E>>>>, OutOfMemory> {
         let mut lists = no_cells(alloc, self.bases.len())?;
         for (place, slot) in self.slots.iter().enumerate() {
             if let Some(slot) = slot {
@@ -113,6 +113,31 @@ impl<E: Copy> Rows<E> for Comb<E> {
                 lists[row].push(Cell { column, entry })?;
             }
         }
-        Ok(CowSlice::Owned(lists))
+        Ok(CowSlice::Owned(counted(alloc, lists)?))
     }
+}
+
+/// A list without a cell for each of so many rows.
+fn no_cells<E: Copy>(alloc: Global, rows: usize) -> Result<Vec<Vec<Cell<E>>>, AllocError>
+    ensures { IfOk result (λ lists. map (λ cells. cells.items) lists.items ≡ replicate rows []) }
+{
+    let mut lists = Vec::with_capacity(alloc, rows)?;
+    for _row in 0..rows {
+        lists.push(Vec::new(alloc))?;
+    }
+    Ok(lists)
+}
+
+/// The same lists, each with a count of the rows that have it.
+fn counted<E: Copy>(
+    alloc: Global,
+    lists: Vec<Vec<Cell<E>>>,
+) -> Result<Vec<Rc<Vec<Cell<E>>>>, AllocError>
+    ensures { IfOk result (λ counted. map (λ cells. cells.value) counted.items ≡ lists.items) }
+{
+    let mut counted = Vec::with_capacity(alloc, lists.len())?;
+    for cells in lists {
+        counted.push(Rc::new(alloc, cells)?)?;
+    }
+    Ok(counted)
 }

@@ -1,6 +1,6 @@
 //! Default reductions: each state that reduces does so by its most frequent rule wherever no entry says otherwise, and
 //! the entries that say just this are left out (Aho, Sethi and Ullman 1986, 4.7).
-ghost use Rattle.std.specs.Prelude.{◌≡◌, ◌≢◌, ◌<◌, ◌≤◌, ℕ, length, slice_get, IfOk, Some};
+ghost use Rattle.std.specs.Prelude.{◌≡◌, ◌≢◌, ◌<◌, ◌≤◌, ℕ, length, slice_get, IfOk, OnOk, Some};
 ghost use Rattle.ly_pack.specs.Defaults.{HasDefaultsOf};
 ghost use Rattle.ly_pack.specs.Private.Tally.{out_by, reductions, HaveDefaults};
 ghost use Rattle.ly_pack.specs.Rows.{dense_entry};
@@ -52,22 +52,28 @@ fn take_defaults(
         let state = StateNo(state as u32);
         list_rules(actions, state, &mut reduced)?;
         let default = most_frequent(&reduced, &mut counts);
-        take_out(actions, state, default);
+        take_out(actions, state, default)?;
         defaults.push(default)?;
     }
     Ok(defaults)
 }
 
-/// Takes the reductions by a rule, if one is given, out of a row.
-fn take_out(actions: &mut Dense<TableAction>, state: StateNo, default: Option<RuleNo>)
+/// Takes the reductions by a rule, if one is given, out of a row. It fails where memory runs out.
+fn take_out(
+    actions: &mut Dense<TableAction>,
+    state: StateNo,
+    default: Option<RuleNo>,
+) -> Result<(), OutOfMemory>
     requires { state.0 < actions.old.rows }
     ensures rows { actions.new.rows ≡ actions.old.rows }
     ensures width { actions.new.width ≡ actions.old.width }
-    ensures row { (t : ℕ) → dense_entry actions.new state.0 t
-        ≡ out_by default (dense_entry actions.old state.0 t) }
+    ensures row { OnOk result ((t : ℕ) → dense_entry actions.new state.0 t
+        ≡ out_by default (dense_entry actions.old state.0 t)) }
     ensures others { (r t : ℕ) → r ≢ state.0 → dense_entry actions.new r t ≡ dense_entry actions.old r t }
 {
-    if let Some(rule) = default {
-        leave_out(actions, state, rule);
-    }
+    let Some(rule) = default else {
+        return Ok(());
+    };
+    leave_out(actions, state, rule)?;
+    actions.share(state)
 }

@@ -1,5 +1,5 @@
-ghost use Rattle.std.specs.Prelude.{◌≡◌, ◌≢◌, ◌↔◌, ◌<◌, ◌≤◌, ℕ, [], length, map, replicate, nat_eq, ◌&&◌};
-ghost use Rattle.std.specs.Prelude.{if◌then◌else◌, Some, None, slice_get, All, IfOk, IsTrue, OnOk};
+ghost use Rattle.std.specs.Prelude.{◌≡◌, ◌≢◌, ◌↔◌, ◌<◌, ◌≤◌, ℕ, [], filter, length, map, not, replicate, nat_eq};
+ghost use Rattle.std.specs.Prelude.{◌&&◌, if◌then◌else◌, Some, None, slice_get, All, IfOk, IsTrue, OnErr, OnOk};
 ghost use Rattle.std.specs.List.Sorted.{IsPartitionPoint};
 ghost use Rattle.ly_pack.specs.Defaults.{is_by};
 ghost use Rattle.ly_pack.specs.Private.Cells.{AreCellsStill};
@@ -15,14 +15,17 @@ use ly_base::{OutOfMemory, RuleNo, StateNo};
 use std::alloc::{AllocError, Global};
 use std::borrow::CowSlice;
 use std::marker::Model;
+use std::rc::Rc;
 
 /// Rows as lists: for each of them its entries, with their columns, which rise.
 #[derive(Drop)]
 pub struct Dense<E> {
+    /// Where room comes from.
+    alloc: Global,
     /// How many columns each has.
     width: usize,
-    /// The entries of each.
-    lists: Vec<Vec<Cell<E>>>,
+    /// The entries of each. One list may be that of many rows, and is copied before one of them is written.
+    lists: Vec<Rc<Vec<Cell<E>>>>,
 }
 
 impl<E> Model for Dense<E> {
@@ -45,8 +48,9 @@ impl<E: Copy> Dense<E> {
         ensures none { IfOk result (λ d. (row column : ℕ) → dense_entry d row column ≡ None) }
     {
         Ok(Dense {
+            alloc,
             width,
-            lists: no_cells(alloc, rows)?,
+            lists: no_lists(alloc, rows)?,
         })
     }
 
@@ -79,7 +83,7 @@ impl<E: Copy> Dense<E> {
         requires { row.0 < self.old.rows }
         ensures { self.new ≡ self.old }
     {
-        Ok(self.lists[row.0 as usize].reserve(more)?)
+        Ok(reserve_own(self.alloc, &mut self.lists[row.0 as usize], more)?)
     }
 
     /// Puts an entry, or none, into a row and a column. It fails where memory runs out, and where the column has no
@@ -95,19 +99,106 @@ impl<E: Copy> Dense<E> {
         let Ok(column) = u32::try_from(column) else {
             return Err(OutOfMemory);
         };
-        Ok(put(&mut self.lists[row.0 as usize], column, entry)?)
+        Ok(put_own(self.alloc, &mut self.lists[row.0 as usize], column, entry)?)
     }
 }
 
-/// A list without a cell for each of so many rows.
-pub(crate) fn no_cells<E: Copy>(alloc: Global, rows: usize) -> Result<Vec<Vec<Cell<E>>>, AllocError>
-    ensures { IfOk result (λ lists. map (λ cells. cells.items) lists.items ≡ replicate rows []) }
+impl Dense<TableAction> {
+    /// Keeps a row once with the one before it, where both are equal. What the rows are stays the same. It fails where
+    /// memory runs out.
+    pub fn share(&mut self, row: StateNo) -> Result<(), OutOfMemory>
+        requires { row.0 < self.old.rows }
+        ensures { self.new ≡ self.old }
+    {
+        let row = row.0 as usize;
+        if row > 0 && are_equal(&self.lists[row - 1], &self.lists[row]) {
+            self.lists[row] = self.lists[row - 1].clone()?;
+        }
+        Ok(())
+    }
+}
+
+/// Whether two rows have the same entries.
+fn are_equal(one: &[Cell<TableAction>], other: &[Cell<TableAction>]) -> bool
+    ensures { IsTrue result → one.now ≡ other.now }
 {
+    one == other
+}
+
+/// One list without a cell for all of so many rows.
+fn no_lists<E: Copy>(alloc: Global, rows: usize) -> Result<Vec<Rc<Vec<Cell<E>>>>, AllocError>
+    ensures { IfOk result (λ lists. map (λ cells. cells.value.items) lists.items ≡ replicate rows []) }
+{
+    let none = Rc::new(alloc, Vec::new(alloc))?;
     let mut lists = Vec::with_capacity(alloc, rows)?;
     for _row in 0..rows {
-        lists.push(Vec::new(alloc))?;
+        lists.push(none.clone()?)?;
     }
     Ok(lists)
+}
+
+/// Gives a row a list of its own, where another row has it too.
+fn make_own<E: Copy>(alloc: Global, row: &mut Rc<Vec<Cell<E>>>) -> Result<(), AllocError>
+    ensures { row.new.value.items ≡ row.old.value.items }
+{
+    if Rc::strong_count(row) != 1 {
+        *row = Rc::new(alloc, Vec::from_slice(alloc, row)?)?;
+    }
+    Ok(())
+}
+
+/// Makes room for so many more entries of a row, in a list of its own.
+fn reserve_own<E: Copy>(
+    alloc: Global,
+    row: &mut Rc<Vec<Cell<E>>>,
+    more: usize,
+) -> Result<(), AllocError>
+    ensures { row.new.value.items ≡ row.old.value.items }
+{
+    make_own(alloc, row)?;
+    match Rc::get_mut(row) {
+        Some(cells) => cells.reserve(more),
+        None => Err(AllocError),
+    }
+}
+
+/// Puts an entry, or none, into a column of a row, in a list of its own.
+fn put_own<E: Copy>(
+    alloc: Global,
+    row: &mut Rc<Vec<Cell<E>>>,
+    column: u32,
+    entry: Option<E>,
+) -> Result<(), AllocError>
+    requires { AreRising row.old.value.items }
+    ensures kept { AreCellsStill column row.old.value.items row.new.value.items }
+    ensures entries { OnOk result ((t : ℕ) → entry_in row.new.value.items t
+        ≡ (if nat_eq t column then entry else entry_in row.old.value.items t)) }
+{
+    make_own(alloc, row)?;
+    match Rc::get_mut(row) {
+        Some(cells) => put(cells, column, entry),
+        None => Err(AllocError),
+    }
+}
+
+/// Takes the reductions by a rule out of a row, in a list of its own.
+fn leave_out_own(
+    alloc: Global,
+    row: &mut Rc<Vec<Cell<TableAction>>>,
+    rule: RuleNo,
+) -> Result<(), AllocError>
+    ensures ok { OnOk result (row.new.value.items
+        ≡ filter (λ c. not (is_by rule.0 (Some (action_from c.entry)))) row.old.value.items) }
+    ensures err { OnErr result (row.new.value.items ≡ row.old.value.items) }
+{
+    make_own(alloc, row)?;
+    match Rc::get_mut(row) {
+        Some(cells) => {
+            cells.retain(|cell| !reduces_by(cell.entry, rule));
+            Ok(())
+        }
+        None => Err(AllocError),
+    }
 }
 
 /// Puts an entry, or none, into a column of a row.
@@ -195,15 +286,20 @@ fn entry_of<E: Copy>(cells: &[Cell<E>], column: usize) -> Option<E>
     }
 }
 
-/// Takes the reductions by a rule out of a row.
-pub(crate) fn leave_out(actions: &mut Dense<TableAction>, row: StateNo, rule: RuleNo)
+/// Takes the reductions by a rule out of a row. It fails where memory runs out.
+pub(crate) fn leave_out(
+    actions: &mut Dense<TableAction>,
+    row: StateNo,
+    rule: RuleNo,
+) -> Result<(), OutOfMemory>
     requires { row.0 < actions.old.rows }
     ensures rows { actions.new.rows ≡ actions.old.rows }
     ensures width { actions.new.width ≡ actions.old.width }
-    ensures row { (t : ℕ) → dense_entry actions.new row.0 t ≡ left_out rule.0 (dense_entry actions.old row.0 t) }
+    ensures row { OnOk result ((t : ℕ) → dense_entry actions.new row.0 t
+        ≡ left_out rule.0 (dense_entry actions.old row.0 t)) }
     ensures others { (r t : ℕ) → r ≢ row.0 → dense_entry actions.new r t ≡ dense_entry actions.old r t }
 {
-    actions.lists[row.0 as usize].retain(|cell| !reduces_by(cell.entry, rule));
+    Ok(leave_out_own(actions.alloc, &mut actions.lists[row.0 as usize], rule)?)
 }
 
 /// Whether an entry is a reduction by a rule.
@@ -232,7 +328,7 @@ impl<E: Copy> Rows<E> for Dense<E> {
         }
     }
 
-    fn cells(&self, _alloc: Global) -> Result<CowSlice<'_, Vec<Cell<E>>>, OutOfMemory> {
+    fn cells(&self, _alloc: Global) -> Result<CowSlice<'_, Rc<Vec<Cell<E>>>>, OutOfMemory> {
         Ok(CowSlice::Borrowed(&self.lists))
     }
 }

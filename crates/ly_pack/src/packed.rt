@@ -8,6 +8,7 @@ use ly_base::{OutOfMemory, StateNo};
 use std::alloc::Global;
 use std::borrow::CowSlice;
 use std::marker::Model;
+use std::rc::Rc;
 
 /// A comb whose rows are placed by first fit.
 #[derive(Drop)]
@@ -67,7 +68,7 @@ impl<E: Copy> Rows<E> for Packed<E> {
         self.comb.entry(row, column)
     }
 
-    fn cells(&self, alloc: Global) -> Result<CowSlice<'_, Vec<Cell<E>>>, OutOfMemory> {
+    fn cells(&self, alloc: Global) -> Result<CowSlice<'_, Rc<Vec<Cell<E>>>>, OutOfMemory> {
         self.comb.cells(alloc)
     }
 }

@@ -6,6 +6,7 @@ use crate::cell::Cell;
 use ly_base::{OutOfMemory, StateNo};
 use std::alloc::Global;
 use std::borrow::CowSlice;
+use std::rc::Rc;
 
 /// Rows of entries, however they are kept.
 pub trait Rows<E> {
@@ -24,7 +25,7 @@ pub trait Rows<E> {
 
     /// The entries of each row, with their columns, which rise: the rows' own lists where they have them. It fails
     /// where memory runs out, and where a column has no `u32`.
-    fn cells(&self, alloc: Global) -> Result<CowSlice<'_, Vec<Cell<E>>>, OutOfMemory>
+    fn cells(&self, alloc: Global) -> Result<CowSlice<'_, Rc<Vec<Cell<E>>>>, OutOfMemory>
         ensures { IfOk result (λ lists. AreAllCellsOf (entries self.now) (rows self.now) (width self.now)
             (cow_slice_items lists)) };
 }
