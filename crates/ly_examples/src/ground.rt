@@ -67,7 +67,8 @@ fn push_leaving(
     ensures { OnOk result (AreIncomingOf lr0.now incoming.new (from.0 + 1)) }
 {
     push_each(incoming, from, lr0.shifts(from))?;
-    push_each(incoming, from, lr0.gotos(from))
+    push_each(incoming, from, lr0.gotos(from))?;
+    Ok(())
 }
 
 /// Adds transitions that leave a state.

@@ -10,8 +10,8 @@ push_each-requires c = λ t has.
     let long = c.requires.before.count in
     omega (arith, lt, long)
 
-pub push_each-2-requires : goal.push_each-2-requires
-push_each-2-requires c = λ t has.
+pub push_each-requires-2 : goal.push_each-2-requires
+push_each-requires-2 c = λ t has.
     let lt = target_within c.args.lr0.now c.requires.lawful c.args.from c.requires.state is_goto c.gotos.result.now
     c.gotos.ensures t has in
     let long : length c.push_each.new.incoming ≡ length c.args.lr0.now.states
@@ -19,6 +19,6 @@ push_each-2-requires c = λ t has.
     omega (arith, lt, long)
 
 pub returns : goal.returns
-returns c = λ done. leaving_done c.args.lr0.now c.requires.lawful c.args.from c.requires.state c.shifts.result.now
+returns c = leaving_done c.args.lr0.now c.requires.lawful c.args.from c.requires.state c.shifts.result.now
     c.gotos.result.now c.shifts.ensures c.gotos.ensures c.args.incoming.now c.push_each.new.incoming
-    c.push_each-2.new.incoming c.requires.before c.in_ok-push_each.ensures (c.push_each-2.ensures done)
+    c.push_each-2.new.incoming c.requires.before c.in_ok-push_each.ensures c.in_ok-push_each-2.ensures

@@ -1,4 +1,4 @@
-use Rattle.std.proofs.Common.{subst}
+use Rattle.std.proofs.Common.{◌≡◌, subst}
 use Rattle.std.specs.Prelude.{Contains, IfSome, Some, slice_get}
 use Rattle.ly_resolve.specs.Resolved.{Resolved}
 use Rattle.ly_resolve.specs.Values.{conflict_from, IsInside}
