@@ -7,7 +7,8 @@ use Rattle.std.specs.Prelude.{filter}
 use Rattle.std.proofs.lemmas.Bool.{cases_Bool, cases_order}
 use Rattle.std.proofs.lemmas.List.Elements.{Contains-append_cases, Contains-append_left, Contains-append_right}
 use Rattle.std.proofs.lemmas.Option.{slice_get-get_or, slice_get_within}
-use Rattle.ly_base.proofs.MemberLemmas.{Contains-cons_cases, Contains-first, Contains-later, Contains-none, Contains-one}
+use Rattle.ly_base.proofs.MemberLemmas.{Contains-cons_cases, Contains-first, Contains-later, Contains-none}
+use Rattle.ly_base.proofs.MemberLemmas.{Contains-one}
 use Rattle.ly_join.specs.Grammar.{Grammar, IsAugmented, Symbol, nonterminal, symbol_of, terminal}
 use Rattle.ly_join.proofs.ListLemmas.{member_at}
 use Rattle.ly_grammar.specs.Items.{Valid}

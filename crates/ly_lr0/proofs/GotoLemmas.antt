@@ -152,11 +152,13 @@ module _ (G : Grammar) (links : List link.Link) (rows : List Row) (s : ℕ) (row
   pub shifts_leads : (t : ℕ) → target_of (map transition_of shifts) (terminal t)
       ≡ goto_of (automaton_from G links rows) s (terminal t)
   shifts_leads t
-      = ap (λ ts. target_of ts (terminal t)) (sym (shifts_alone shifts gotos row.over_terminals row.over_nonterminals))
+      = ap (λ ts. target_of ts (terminal t))
+      (sym (shifts_alone shifts gotos row.over_terminals row.over_nonterminals))
       ∙ shifts_lead (transitions_of row) t ∙ row_leads (terminal t)
 
   pub gotos_leads : (A : ℕ) → target_of (map transition_of gotos) (nonterminal A)
       ≡ goto_of (automaton_from G links rows) s (nonterminal A)
   gotos_leads A
-      = ap (λ ts. target_of ts (nonterminal A)) (sym (gotos_alone shifts gotos row.over_terminals row.over_nonterminals))
+      = ap (λ ts. target_of ts (nonterminal A))
+      (sym (gotos_alone shifts gotos row.over_terminals row.over_nonterminals))
       ∙ gotos_lead (transitions_of row) A ∙ row_leads (nonterminal A)

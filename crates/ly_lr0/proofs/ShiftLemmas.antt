@@ -71,12 +71,14 @@ module _ (ss gs : List code.Transition) (over_terminals : AreShifts ss) (over_no
 
   -- those over terminals of a row
   pub shifts_alone : filter is_shift (map transition_of (ss ++ gs)) ≡ map transition_of ss
-  shifts_alone = both is_shift ∙ ap (λ us. us ++ filter is_shift (map transition_of gs)) (shifts_all ss over_terminals).0
+  shifts_alone = both is_shift
+      ∙ ap (λ us. us ++ filter is_shift (map transition_of gs)) (shifts_all ss over_terminals).0
       ∙ ap (λ us. map transition_of ss ++ us) (gotos_all gs over_nonterminals).0 ∙ append-nil (map transition_of ss)
 
   -- and those over nonterminals
   pub gotos_alone : filter is_goto (map transition_of (ss ++ gs)) ≡ map transition_of gs
-  gotos_alone = both is_goto ∙ ap (λ us. us ++ filter is_goto (map transition_of gs)) (shifts_all ss over_terminals).1
+  gotos_alone = both is_goto
+      ∙ ap (λ us. us ++ filter is_goto (map transition_of gs)) (shifts_all ss over_terminals).1
       ∙ (gotos_all gs over_nonterminals).1
 
 -- they say where terminals lead

@@ -85,9 +85,9 @@ impl<'a> Lr0<'a> {
         target_at(transitions, place_of(transitions, symbol), symbol)
     }
 
-    /// Where a symbol leads from a state. Its transition is looked for at an index of those of the state over symbols of
-    /// its kind, and by a search if it isn't there; then the index is the one behind it. So symbols of a kind that rise
-    /// are found without a search.
+    /// Where a symbol leads from a state. Its transition is looked for at an index of those of the state over its kind
+    /// of symbols, and by a search if it isn't there; then the index is the one behind it. So symbols of one kind that
+    /// rise are found without a search.
     #[inline(always)] // it is asked for each state and symbol
     pub fn goto_near(&self, state: StateNo, symbol: Symbol, index: &mut usize) -> Option<StateNo>
         requires { state.0 < length self.now.states }

@@ -1,4 +1,5 @@
-//! Rows from their transitions.
+//! A state's row, from its transitions. A state often has the same transitions over terminals as the one before, so the
+//! list of these is held in common.
 ghost use Rattle.std.specs.Prelude.{◌≡◌, map, IfOk};
 ghost use Rattle.std.specs.Rc.{rc_slice_items};
 ghost use Rattle.ly_lr0.specs.Private.Built.{transitions_of, AreInOrder};
@@ -11,8 +12,8 @@ use ly_join::Symbol;
 use std::alloc::{AllocError, Global};
 use std::rc::RcSlice;
 
-/// The row of transitions in the order of their symbols. Those over terminals are the list of the last of the rows before
-/// it where that is the same.
+/// The row of transitions in the order of their symbols. Those over terminals are the list of the last row before it
+/// where that is the same.
 pub(crate) fn row_of(
     alloc: Global,
     transitions: &[Transition],
@@ -32,7 +33,7 @@ pub(crate) fn row_of(
     })
 }
 
-/// A list of transitions over terminals to be kept: that of the last of the rows before, where it is the same.
+/// A list of transitions over terminals to be kept: that of the last row before, where it is the same.
 fn shared_shifts(
     alloc: Global,
     shifts: &[Transition],

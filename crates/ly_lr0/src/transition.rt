@@ -23,11 +23,11 @@ pub(crate) struct Link {
     pub(crate) symbol: Symbol,
 }
 
-/// What leaves a state, and what is complete in it. Of a large grammar many states in turn have the same transitions over
-/// terminals, and thousands of them, so the list of these is held in common.
+/// What leaves a state, and what is complete in it.
 #[derive(Drop)]
 pub(crate) struct Row {
-    /// The transitions over terminals, in their order.
+    /// The transitions over terminals, in their order. Rows that come one behind the other hold equal ones in common:
+    /// there are grammars of thousands of states with the same thousands of transitions.
     pub(crate) shifts: RcSlice<Transition>,
     /// The transitions over nonterminals, in their order.
     pub(crate) gotos: Vec<Transition>,
