@@ -1,19 +1,21 @@
 -- What transitions directly read, as it comes into rows.
 use Rattle.std.proofs.Common.{◌≡◌, ◌≢◌, ◌∙◌, ◌⊎◌, inl, inr, ◌↔◌, ◌++◌, [], ◌∷◌, ℕ, zero, suc, ◌+◌, ◌<◌, ◌≤◌, List}
 use Rattle.std.proofs.Common.{Contains, Some, ap, arith, length, map, refl, slice_get, slice_index_or, subst, sym}
-use Rattle.std.proofs.Common.{replicate, slice_set}
+use Rattle.std.proofs.Common.{replicate, slice_set, true}
 use Rattle.std.specs.FinSet as set
-use Rattle.std.proofs.lemmas.Bool.{cases_order}
+use Rattle.std.specs.Prelude.{filter}
+use Rattle.std.proofs.lemmas.Bool.{cases_Bool, cases_order}
 use Rattle.std.proofs.lemmas.List.Elements.{Contains-append_cases, Contains-append_left, Contains-append_right}
 use Rattle.std.proofs.lemmas.Option.{slice_get-get_or, slice_get_within}
-use Rattle.ly_base.proofs.MemberLemmas.{Contains-first, Contains-none, Contains-one}
+use Rattle.ly_base.proofs.MemberLemmas.{Contains-cons_cases, Contains-first, Contains-later, Contains-none}
+use Rattle.ly_base.proofs.MemberLemmas.{Contains-one}
 use Rattle.ly_join.specs.Grammar.{Grammar, IsAugmented, Symbol, nonterminal, symbol_of, terminal}
 use Rattle.ly_join.proofs.ListLemmas.{member_at}
 use Rattle.ly_grammar.specs.Items.{Valid}
 use Rattle.ly_grammar.proofs.ItemLemmas.{body_of, zero_item}
 use Rattle.ly_sets.specs.NumberSet.{NumberSet, Member}
 use Rattle.ly_sets.specs.SetMatrix.{row}
-use Rattle.ly_lr0.specs.Automaton.{Lr0Automaton, IsLr0Automaton, Transition, goto_of, state_at}
+use Rattle.ly_lr0.specs.Automaton.{Lr0Automaton, IsLr0Automaton, Transition, goto_of, is_shift, state_at}
 use Rattle.ly_lr0.specs.Transitions.{transition_of}
 use Rattle.ly_lr0.specs.declared.transition.Transition as code
 use Rattle.ly_lr0.proofs.StateLemmas.{target_some}
@@ -92,6 +94,46 @@ inserted_past ts u n old new {A} is before i t = (to, back) where
         let own : nonterminal A ≡ terminal t = sym is ∙ ap (λ v. v.symbol) (Contains-one u (over r) last) in
         absurd (cc)
   ]
+
+-- the transitions over terminals among others
+shift_of : (ts : List Transition) (x : Transition) → Contains (filter is_shift ts) x → Contains ts x
+shift_of [] x has = has
+shift_of (u ∷ ts) x has = elim (cases_Bool (is_shift u)) [
+  | inl on ↦ elim (Contains-cons_cases u (filter is_shift ts) x (rw on at has)) [
+    | inl same ↦ subst (Contains (u ∷ ts)) same (Contains-first u ts)
+    | inr later ↦ Contains-later u ts x (shift_of ts x later)
+  ]
+  | inr off ↦ Contains-later u ts x (shift_of ts x (rw off at has))
+]
+
+shift_in : (ts : List Transition) (x : Transition) → is_shift x ≡ true → Contains ts x → Contains (filter is_shift ts) x
+shift_in [] x is has = has
+shift_in (u ∷ ts) x is has = elim (Contains-cons_cases u ts x has) [
+  | inl same ↦
+      let on : is_shift u ≡ true = ap is_shift same ∙ is in
+      rw on (subst (Contains (u ∷ filter is_shift ts)) same (Contains-first u (filter is_shift ts)))
+  | inr later ↦ elim (cases_Bool (is_shift u)) [
+    | inl on ↦ rw on (Contains-later u (filter is_shift ts) x (shift_in ts x is later))
+    | inr off ↦ rw off (shift_in ts x is later)
+  ]
+]
+
+-- of which all have come if these have
+pub inserted_all : (ts : List Transition) (n : ℕ) (old new : List NumberSet)
+    → AreInserted (filter is_shift ts) n old new → AreInserted ts n old new
+inserted_all ts n old new is i t = (
+  (λ m. elim ((is i t).0 m) [ inl was ↦ inl was | inr (e, r, has) ↦ inr (e, r, shift_of ts _ has) ]),
+  (λ o. elim o [
+    | inl was ↦ (is i t).1 (inl was)
+    | inr (e, r, has) ↦ (is i t).1 (inr (e, r, shift_in ts (record { symbol = terminal t; target = r }) refl has))
+  ]),
+)
+
+-- and of which is said what is said of all
+pub below_all : (ts : List Transition) (width : ℕ)
+    → ((t r : ℕ) → Contains ts (record { symbol = terminal t; target = r }) → t < width)
+    → (t r : ℕ) → Contains (filter is_shift ts) (record { symbol = terminal t; target = r }) → t < width
+below_all ts width below t r has = below t r (shift_of ts _ has)
 
 -- a transition over a terminal is one of those of which something is said
 pub over_terminal : (ts : List Transition) (items : List code.Transition) (i width q : ℕ)

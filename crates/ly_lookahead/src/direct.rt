@@ -55,7 +55,7 @@ fn insert_row(
     ensures inserted { OnOk result
         (AreInserted (state_at lr0.now state.0).transitions row sets.old.sets sets.new.sets) }
 {
-    for transition in lr0.transitions(state) {
+    for transition in lr0.shifts(state) {
         if let Symbol::Terminal(terminal) = transition.symbol {
             sets.insert(row, terminal)?;
         }

@@ -6,8 +6,10 @@ use Rattle.std.proofs.lemmas.Bool.{cases_order}
 use Rattle.std.proofs.lemmas.List.{get_or_default, length-map, get_or-map as list_map}
 use Rattle.std.proofs.lemmas.Option.{slice_get-get_or, slice_get_within, get_or_from_slice_get}
 use Rattle.std.proofs.Math.ListN.{get_or-map}
-use Rattle.ly_join.specs.Grammar.{Grammar, Symbol, symbol_of}
-use Rattle.ly_lr0.specs.Automaton.{IsLess, goto_of, state_at, target_of}
+use Rattle.std.proofs.lemmas.List.Kept.{AllPairs-filter}
+use Rattle.std.specs.Rc.{rc_slice_items}
+use Rattle.ly_join.specs.Grammar.{Grammar, Symbol, nonterminal, symbol_of, terminal}
+use Rattle.ly_lr0.specs.Automaton.{IsLess, goto_of, is_goto, is_shift, state_at, target_of}
 use Rattle.ly_lr0.specs.declared.transition.Transition as code
 use Rattle.ly_lr0.specs.declared.transition.Link as link
 use Rattle.ly_lr0.specs.declared.transition.Row.{Row}
@@ -15,6 +17,7 @@ use Rattle.ly_lr0.specs.Private.Built.{AreInOrder, IsBuilt, automaton_from, link
 use Rattle.ly_lr0.specs.Private.Places.{IsPlace, symbol_at}
 use Rattle.ly_lr0.specs.Transitions.{transition_of}
 use Rattle.ly_lr0.proofs.OrderLemmas.{less_off, less_trans}
+use Rattle.ly_lr0.proofs.ShiftLemmas.{gotos_alone, gotos_lead, shifts_alone, shifts_lead}
 use Rattle.ly_lr0.proofs.StateLemmas.{count_of, goto_of-rows, length-fold, state_of, target_at, target_some}
 
 module _ (ts : List code.Transition) (ordered : AreInOrder (map transition_of ts)) where
@@ -115,7 +118,7 @@ module _ (G : Grammar) (links : List link.Link) (rows : List Row) (s : ℕ) (row
       omega (arith, length-fold ([] ∷ []) (map link_of links), length-map links link_of, count)
 
   -- its transitions are in the order of their symbols
-  pub row_ordered : AreInOrder (map transition_of row.transitions.items)
+  row_ordered : AreInOrder (transitions_of row)
   row_ordered =
       let M = automaton_from G links rows in
       let q = state_at M s in
@@ -125,8 +128,37 @@ module _ (G : Grammar) (links : List link.Link) (rows : List Row) (s : ℕ) (row
       (built.automaton.each s q there).ordered
 
   -- and say where the state leads
-  pub row_leads : (X : Symbol) → target_of (map transition_of row.transitions.items) X
-      ≡ goto_of (automaton_from G links rows) s X
+  row_leads : (X : Symbol) → target_of (transitions_of row) X ≡ goto_of (automaton_from G links rows) s X
   row_leads X = ap (λ r. target_of (transitions_of r) X) is
       ∙ sym (ap (λ ts. target_of ts X) (list_map transitions_of rows s row [] less))
       ∙ sym (goto_of-rows G (prefixes_of (map link_of links)) rows many s X)
+
+  abbrev shifts : List code.Transition
+  shifts = rc_slice_items row.shifts
+
+  abbrev gotos : List code.Transition
+  gotos = row.gotos.items
+
+  -- so are those of a kind
+  pub shifts_ordered : AreInOrder (map transition_of shifts)
+  shifts_ordered = subst AreInOrder (shifts_alone shifts gotos row.over_terminals row.over_nonterminals)
+      (AllPairs-filter (λ t u. IsLess t.symbol u.symbol) is_shift (transitions_of row) row_ordered)
+
+  pub gotos_ordered : AreInOrder (map transition_of gotos)
+  gotos_ordered = subst AreInOrder (gotos_alone shifts gotos row.over_terminals row.over_nonterminals)
+      (AllPairs-filter (λ t u. IsLess t.symbol u.symbol) is_goto (transitions_of row) row_ordered)
+
+  -- which say where symbols of that kind lead
+  pub shifts_leads : (t : ℕ) → target_of (map transition_of shifts) (terminal t)
+      ≡ goto_of (automaton_from G links rows) s (terminal t)
+  shifts_leads t
+      = ap (λ ts. target_of ts (terminal t))
+      (sym (shifts_alone shifts gotos row.over_terminals row.over_nonterminals))
+      ∙ shifts_lead (transitions_of row) t ∙ row_leads (terminal t)
+
+  pub gotos_leads : (A : ℕ) → target_of (map transition_of gotos) (nonterminal A)
+      ≡ goto_of (automaton_from G links rows) s (nonterminal A)
+  gotos_leads A
+      = ap (λ ts. target_of ts (nonterminal A))
+      (sym (gotos_alone shifts gotos row.over_terminals row.over_nonterminals))
+      ∙ gotos_lead (transitions_of row) A ∙ row_leads (nonterminal A)

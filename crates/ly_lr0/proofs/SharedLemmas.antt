@@ -1,18 +1,16 @@
 -- What the row of a state has of the one before, where the moves of both begin alike.
-use Rattle.std.proofs.Common.{◌≡◌, ◌≢◌, ◌⊎◌, inl, inr, ℕ, suc, ◌-◌, ◌<◌, ◌≤◌, List, [], refl, sym, ◌∙◌, ap}
-use Rattle.std.proofs.Common.{arith, length, subst}
-use Rattle.std.proofs.Common.{Some, map, slice_get, take}
+use Rattle.std.proofs.Common.{◌≡◌, ◌≢◌, ◌⊎◌, inl, inr, ℕ, zero, suc, ◌-◌, ◌<◌, ◌≤◌, List, [], ◌∷◌, refl, sym, ◌∙◌, ap}
+use Rattle.std.proofs.Common.{arith, length, map, subst, take}
 use Rattle.std.specs.Prelude.{AllPairs, Contains, slice_index_or}
 use Rattle.std.proofs.lemmas.Bool.{cases_lt}
 use Rattle.std.proofs.lemmas.List.{get_or-map, get_or-take, get_or_default, length-map, length-take-le, take-map}
-use Rattle.std.proofs.lemmas.Option.{get_or_from_slice_get, slice_get_within}
+use Rattle.std.proofs.lemmas.Option.{get_or_from_slice_get}
 use Rattle.ly_base.proofs.ListLemmas.{some_at}
 use Rattle.ly_join.specs.Grammar.{Grammar, Symbol, symbol_of, terminal}
 use Rattle.ly_join.specs.declared.symbol.Symbol.TheVariants.{Terminal}
 use Rattle.ly_lr0.specs.Automaton.{IsLess, Transition}
 use Rattle.ly_lr0.specs.declared.item.Item.{Item}
 use Rattle.ly_lr0.specs.declared.item.Move.{Move}
-use Rattle.ly_lr0.specs.declared.transition.Row as row
 use Rattle.ly_lr0.specs.declared.transition.Transition as code
 use Rattle.ly_lr0.specs.Private.Built.{AreFound, AreInOrder, HasTransition, IsLed, IsWholeRow, Link, LinkIsLess}
 use Rattle.ly_lr0.specs.Private.Built.{link_at, transitions_of}
@@ -258,28 +256,26 @@ row_before_taken ts X q ordered is = record {
           (subst (λ x. IsLess x.symbol X) (sym (sym (shown t c.0 c.1) ∙ c.2)) less))
     ]
 
+-- rows are in order, and what lists have past their ends
+sorted_any : (rows : List (List Transition))
+    → ((s : ℕ) → s < length rows → AreInOrder (slice_index_or rows s [])) → (s : ℕ)
+    → AreInOrder (slice_index_or rows s [])
+sorted_any [] sorted s = λ i j d l m. absurd (omega (arith, m))
+sorted_any (r ∷ rows) sorted zero = sorted 0 (omega arith)
+sorted_any (r ∷ rows) sorted (suc s) = sorted_any rows (λ k l. sorted (suc k) (omega (arith, l))) s
+
 -- and those of the last row
-module _ (rows : List row.Row) (last : row.Row) (ts : List code.Transition) (same : ts ≡ last.transitions.items)
-    (is : slice_get rows (length rows - 1) ≡ Some last) where
-  shown_last : slice_index_or (map transitions_of rows) (length rows - 1) [] ≡ map transition_of ts
-  shown_last = get_or-map transitions_of rows (length rows - 1) last []
-      (slice_get_within rows (length rows - 1) last is)
-      ∙ ap transitions_of (get_or_from_slice_get rows (length rows - 1) last last is)
-      ∙ ap (map transition_of) (sym same)
+module _ (f : Found) (is : IsFound f) (ts : List code.Transition) (same : ts ≡ f.last.items) where
+  pub last_ordered : AreInOrder (map transition_of ts)
+  last_ordered = subst AreInOrder (sym (ap (map transition_of) same ∙ is.last))
+      (sorted_any (rows_of f) is.found.sorted (length f.rows.items - 1))
 
-  pub last_ordered : ((s : ℕ) → s < length (map transitions_of rows)
-      → AreInOrder (slice_index_or (map transitions_of rows) s [])) → AreInOrder (map transition_of ts)
-  last_ordered sorted = subst AreInOrder shown_last (sorted (length rows - 1)
-      (omega (arith, slice_get_within rows (length rows - 1) last is, length-map rows transitions_of)))
-
-  pub last_row_before : (X : Symbol) (q : ℕ) → AreInOrder (map transition_of ts) → IsPlace ts X q → (s : ℕ)
-      → suc s ≡ length rows
-      → IsRowBefore (slice_index_or (map transitions_of rows) s []) X (map transition_of (take q ts))
-  last_row_before X q ordered at s e =
-      let here : length rows - 1 ≡ s = omega (arith, e) in
-      subst (λ k. IsRowBefore (slice_index_or (map transitions_of rows) k []) X (map transition_of (take q ts))) here
-      (subst (λ r. IsRowBefore r X (map transition_of (take q ts))) (sym shown_last)
-      (row_before_taken ts X q ordered at))
+  pub last_row_before : (X : Symbol) (q : ℕ) → IsPlace ts X q → IsLastRowBefore f X (map transition_of (take q ts))
+  last_row_before X q at s e =
+      let here : length f.rows.items - 1 ≡ s = omega (arith, e) in
+      subst (λ k. IsRowBefore (slice_index_or (rows_of f) k []) X (map transition_of (take q ts))) here
+      (subst (λ r. IsRowBefore r X (map transition_of (take q ts))) (ap (map transition_of) same ∙ is.last)
+      (row_before_taken ts X q last_ordered at))
 
 -- a row that begins as the last one does, or with nothing
 pub begun_entered : (f : Found) (moves before : List Move) (at : ℕ) (begun : List code.Transition) → IsFound f
@@ -313,8 +309,8 @@ begun_entered f moves before at begun is next are_moves earlier shared none part
             let long = (shared some).before_long in
             absurd (omega (arith, long, ap length (earlier.none (omega (arith, empty)))))
       ]
-      | inr zero ↦
-          let start : at ≡ 0 = omega (arith, zero) in
+      | inr first ↦
+          let start : at ≡ 0 = omega (arith, first) in
           subst (λ n. HasEntered G f.kernels (links_of f) (rows_of f) (map transition_of begun) from moves n)
           (sym start) (subst (λ ts. HasEntered G f.kernels (links_of f) (rows_of f) (map transition_of ts) from moves 0)
           (sym (none start))

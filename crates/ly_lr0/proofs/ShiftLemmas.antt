@@ -1,20 +1,22 @@
--- The transitions of a state over terminals.
-use Rattle.std.proofs.Common.{Bool, ◌∙◌, ◌≡◌, ℕ, zero, suc, ◌<◌, ◌≤◌, List, [], ◌∷◌, true, false}
-use Rattle.std.proofs.Common.{Some, refl, sym, ap, arith, length, map, take}
+-- The transitions of a state over terminals, and those over nonterminals.
+use Rattle.std.proofs.Common.{Bool, ◌∙◌, ◌≡◌, ℕ, suc, ◌+◌, ◌<◌, List, [], ◌∷◌, ◌++◌, true, false}
+use Rattle.std.proofs.Common.{Some, refl, sym, ap, arith, drop, length, map, subst, take}
 use Rattle.std.specs.Prelude.{filter, nat_eq, option_and_then, if◌then◌else◌}
 use Rattle.std.proofs.lemmas.Bool.Decides.{Decides-and, Decides-eqb, Decides-like}
 use Rattle.std.specs.Bool.{Decides}
+use Rattle.std.proofs.lemmas.List.{append-nil, get_or-drop, get_or-take, length-drop, length-take-le, map-append}
+use Rattle.std.proofs.lemmas.List.Elements.{filter-append}
 use Rattle.std.proofs.lemmas.Option.{slice_get-get_or}
 use Rattle.std.proofs.lemmas.Slice.Eq.{slice_eq-Decides}
 use lib.Pointwise.{pointwise}
 use Rattle.ly_join.specs.Grammar.{Symbol, nonterminal, symbol_of, terminal}
 use Rattle.ly_join.specs.declared.symbol.Symbol as symbol
 use Rattle.ly_join.specs.declared.symbol.Symbol.TheVariants.{Nonterminal, Terminal}
-use Rattle.ly_lr0.specs.Automaton.{IsLess, Lr0Automaton, Transition, goto_of, is_shift, is_terminal, state_at}
-use Rattle.ly_lr0.specs.Automaton.{symbol_eq}
-use Rattle.ly_lr0.specs.Automaton.{target_of}
+use Rattle.ly_lr0.specs.Automaton.{IsLess, Lr0Automaton, Transition, goto_of, is_goto, is_shift, is_terminal}
+use Rattle.ly_lr0.specs.Automaton.{state_at, symbol_eq, target_of}
 use Rattle.ly_lr0.specs.contracts.transition.TransitionPartialEq.TheImpl as test
 use Rattle.ly_lr0.specs.declared.transition.Transition as code
+use Rattle.ly_lr0.specs.Private.Kinds.{AreGotos, AreShifts}
 use Rattle.ly_lr0.specs.Private.Places.{IsPlace, symbol_at}
 use Rattle.ly_lr0.specs.Transitions.{transition_of}
 
@@ -28,30 +30,56 @@ terminal_not_behind : (X : Symbol) → (IsLess X (nonterminal 0) → ⊥) → is
 terminal_not_behind (terminal t) off = absurd (off tt)
 terminal_not_behind (nonterminal A) off = refl
 
--- the first transitions are those over terminals, if these are and the others aren't
-beginning : (ts : List code.Transition) (n : ℕ)
-    → ((k : ℕ) (d : code.Transition) → k < n → k < length ts → is_terminal (symbol_at ts k d) ≡ true)
-    → ((k : ℕ) (d : code.Transition) → n ≤ k → k < length ts → is_terminal (symbol_at ts k d) ≡ false)
-    → map transition_of (take n ts) ≡ filter is_shift (map transition_of ts)
-beginning [] zero before behind = refl
-beginning [] (suc n) before behind = refl
-beginning (t ∷ ts) zero before behind =
-    let off : is_terminal (symbol_of t.symbol) ≡ false = behind 0 t (omega arith) (omega arith) in
-    let rest = beginning ts zero (λ k d l. absurd (omega (arith, l)))
-    (λ k d l m. behind (suc k) d (omega arith) (omega (arith, m))) in
-    rw off rest
-beginning (t ∷ ts) (suc n) before behind =
-    let on : is_terminal (symbol_of t.symbol) ≡ true = before 0 t (omega arith) (omega arith) in
-    let rest = beginning ts n (λ k d l m. before (suc k) d (omega (arith, l)) (omega (arith, m)))
-    (λ k d l m. behind (suc k) d (omega (arith, l)) (omega (arith, m))) in
-    rw on (ap (λ us. transition_of t ∷ us) rest)
+-- those before the place of nonterminal 0 are over terminals
+pub shifts_before : (ts : List code.Transition) (n : ℕ) → IsPlace ts (nonterminal 0) n → AreShifts (take n ts)
+shifts_before ts n is k d l =
+    let long = is.within in
+    let less : k < n = omega (arith, l, length-take-le n ts long) in
+    subst (λ t. is_terminal (symbol_of t.symbol) ≡ true) (sym (get_or-take n ts k d less))
+    (terminal_before (symbol_at ts k d) (is.before k d less))
 
--- those before the place of nonterminal 0 are those over terminals
-pub shifts_before : (ts : List code.Transition) (n : ℕ) → IsPlace ts (nonterminal 0) n
-    → map transition_of (take n ts) ≡ filter is_shift (map transition_of ts)
-shifts_before ts n is = beginning ts n
-    (λ k d l m. terminal_before (symbol_at ts k d) (is.before k d l))
-    (λ k d l m. terminal_not_behind (symbol_at ts k d) (is.behind k d l m))
+-- and those from it on are over nonterminals
+pub gotos_behind : (ts : List code.Transition) (n : ℕ) → IsPlace ts (nonterminal 0) n → AreGotos (drop n ts)
+gotos_behind ts n is k d l =
+    let long = is.within in
+    let less : n + k < length ts = omega (arith, l, length-drop n ts) in
+    subst (λ t. is_terminal (symbol_of t.symbol) ≡ false) (sym (get_or-drop n ts k d))
+    (terminal_not_behind (symbol_at ts (n + k) d) (is.behind (n + k) d (omega arith) less))
+
+-- those over terminals, or over nonterminals, among such
+shifts_all : (ts : List code.Transition) → AreShifts ts
+    → (filter is_shift (map transition_of ts) ≡ map transition_of ts) × (filter is_goto (map transition_of ts) ≡ [])
+shifts_all [] are = (refl, refl)
+shifts_all (t ∷ ts) are =
+    let on : is_terminal (symbol_of t.symbol) ≡ true = are 0 t (omega arith) in
+    let rest = shifts_all ts (λ k d l. are (suc k) d (omega (arith, l))) in
+    (rw on (ap (λ us. transition_of t ∷ us) rest.0), rw on rest.1)
+
+gotos_all : (ts : List code.Transition) → AreGotos ts
+    → (filter is_shift (map transition_of ts) ≡ []) × (filter is_goto (map transition_of ts) ≡ map transition_of ts)
+gotos_all [] are = (refl, refl)
+gotos_all (t ∷ ts) are =
+    let off : is_terminal (symbol_of t.symbol) ≡ false = are 0 t (omega arith) in
+    let rest = gotos_all ts (λ k d l. are (suc k) d (omega (arith, l))) in
+    (rw off rest.0, rw off (ap (λ us. transition_of t ∷ us) rest.1))
+
+module _ (ss gs : List code.Transition) (over_terminals : AreShifts ss) (over_nonterminals : AreGotos gs) where
+  both : (p : Transition → Bool) → filter p (map transition_of (ss ++ gs))
+      ≡ filter p (map transition_of ss) ++ filter p (map transition_of gs)
+  both p = ap (filter p) (map-append transition_of ss gs)
+      ∙ filter-append p (map transition_of ss) (map transition_of gs)
+
+  -- those over terminals of a row
+  pub shifts_alone : filter is_shift (map transition_of (ss ++ gs)) ≡ map transition_of ss
+  shifts_alone = both is_shift
+      ∙ ap (λ us. us ++ filter is_shift (map transition_of gs)) (shifts_all ss over_terminals).0
+      ∙ ap (λ us. map transition_of ss ++ us) (gotos_all gs over_nonterminals).0 ∙ append-nil (map transition_of ss)
+
+  -- and those over nonterminals
+  pub gotos_alone : filter is_goto (map transition_of (ss ++ gs)) ≡ map transition_of gs
+  gotos_alone = both is_goto
+      ∙ ap (λ us. us ++ filter is_goto (map transition_of gs)) (shifts_all ss over_terminals).1
+      ∙ (gotos_all gs over_nonterminals).1
 
 -- they say where terminals lead
 pub shifts_lead : (ts : List Transition) (t : ℕ)
@@ -65,6 +93,19 @@ shifts_lead (u ∷ ts) t = one u ts t u.symbol refl (shifts_lead ts t)
     one u ts t (terminal w) is rest = rw is
         (ap (λ o. if symbol_eq (terminal w) (terminal t) then Some u.target else o) rest)
     one u ts t (nonterminal A) is rest = rw is rest
+
+-- and those over nonterminals where nonterminals lead
+pub gotos_lead : (ts : List Transition) (A : ℕ)
+    → target_of (filter is_goto ts) (nonterminal A) ≡ target_of ts (nonterminal A)
+gotos_lead [] A = refl
+gotos_lead (u ∷ ts) A = one u ts A u.symbol refl (gotos_lead ts A)
+  where
+    one : (u : Transition) (ts : List Transition) (A : ℕ) (X : Symbol) → u.symbol ≡ X
+        → target_of (filter is_goto ts) (nonterminal A) ≡ target_of ts (nonterminal A)
+        → target_of (filter is_goto (u ∷ ts)) (nonterminal A) ≡ target_of (u ∷ ts) (nonterminal A)
+    one u ts A (terminal w) is rest = rw is rest
+    one u ts A (nonterminal B) is rest = rw is
+        (ap (λ o. if symbol_eq (nonterminal B) (nonterminal A) then Some u.target else o) rest)
 
 -- so where terminals lead from a state
 pub shifts_goto : (M : Lr0Automaton) (s t : ℕ) → s < length M.states

@@ -2,7 +2,7 @@
 -- symbols have their last symbol first.
 use Rattle.std.specs.Prelude.{◌≡◌, ◌↔◌, ◌⊎◌, ℕ, ◌<◌, List, [], ◌∷◌, Bool, false, true, Option, Some, None}
 use Rattle.std.specs.Prelude.{option_and_then}
-use Rattle.std.specs.Prelude.{length, map, nat_eq, slice_get, slice_index_or, AllPairs, Contains, if◌then◌else◌}
+use Rattle.std.specs.Prelude.{length, map, nat_eq, not, slice_get, slice_index_or, AllPairs, Contains, if◌then◌else◌}
 use Rattle.ly_join.specs.Grammar.{Grammar, IsAugmented, Symbol, nonterminal, terminal}
 use Rattle.ly_grammar.specs.Derivations.{IsReduced}
 use Rattle.ly_grammar.specs.Items.{InCore, IsComplete, IsViable, SameCore}
@@ -41,6 +41,10 @@ symbol_eq _ _ = false
 -- whether a transition is over a terminal
 abbrev pub is_shift : Transition → Bool
 is_shift t = is_terminal t.symbol
+
+-- whether it is over a nonterminal
+abbrev pub is_goto : Transition → Bool
+is_goto t = not (is_terminal t.symbol)
 
 -- where the first of the transitions over a symbol leads
 abbrev pub target_of : List Transition → Symbol → Option ℕ

@@ -4,6 +4,7 @@ pub mod Construction
 pub mod Found
 pub mod Items
 pub mod Kernels
+pub mod Kinds
 pub mod Nonkernel
 pub mod Places
 pub mod Shared

@@ -10,7 +10,7 @@ use crate::found::Found;
 use crate::item::Move;
 use crate::lr0::Lr0;
 use crate::nonkernel::Nonkernel;
-use crate::transition::Row;
+use crate::row::row_of;
 use ly_base::{Limits, SparseSet};
 use ly_grammar::Reduced;
 use std::alloc::Global;
@@ -102,10 +102,9 @@ impl<'a> Construction<'a> {
         let complete = complete_rules(alloc, reduced, kernel, &self.nonkernel.complete)?;
         let transitions = self.found.successors(&self.moves, &self.before)?;
         swap(&mut self.moves, &mut self.before);
-        self.found.rows.push(Row {
-            transitions,
-            complete,
-        })?;
+        let next = row_of(alloc, &transitions, complete, &self.found.rows)?;
+        self.found.rows.push(next)?;
+        self.found.last = transitions;
         Ok(())
     }
 }

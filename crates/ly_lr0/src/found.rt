@@ -38,6 +38,8 @@ pub(crate) struct Found<'a> {
     pub(crate) links: Vec<Link>,
     /// The rows that are done.
     pub(crate) rows: Vec<Row>,
+    /// All transitions of the last of them, and none before the first.
+    pub(crate) last: Vec<Transition>,
 }
 
 impl<'a> Found<'a> {
@@ -69,6 +71,7 @@ impl<'a> Found<'a> {
             kernels,
             links: Vec::new(alloc),
             rows: Vec::new(alloc),
+            last: Vec::new(alloc),
         })
     }
 
@@ -109,7 +112,6 @@ impl<'a> Found<'a> {
             transitions.push(Transition { symbol, target })?;
             at = end;
         }
-        transitions.shrink_to_fit();
         Ok(transitions)
     }
 
@@ -136,19 +138,14 @@ impl<'a> Found<'a> {
         requires { IsFound self.now }
         ensures { IsLastRowBefore self.now (symbol_of symbol) (map transition_of result.now) }
     {
-        match self.rows.last() {
-            Some(row) => {
-                let transitions: &[Transition] = &row.transitions;
-                &transitions[..place_of(transitions, symbol)]
-            }
-            None => &[],
-        }
+        let transitions: &[Transition] = &self.last;
+        &transitions[..place_of(transitions, symbol)]
     }
 
     /// Where a symbol led from the state before, since it mostly leads there again. Its transition is looked for from a
     /// place on, so symbols that rise are found in one walk. Nothing rests on the answer: the kernel is compared.
     fn hint(&self, symbol: Symbol, place: &mut usize) -> Option<StateNo> {
-        let transitions: &[Transition] = &self.rows.last()?.transitions;
+        let transitions: &[Transition] = &self.last;
         while *place < transitions.len() && comes_before(transitions[*place].symbol, symbol) {
             *place += 1;
         }

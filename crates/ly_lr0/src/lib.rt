@@ -5,6 +5,9 @@
 //! to them, which are their access prefixes: breadth first, symbols in the order of their numbers, terminals before
 //! nonterminals (`AreNumbered`).
 //!
+//! A state's transitions over terminals and those over nonterminals are lists of their own (`Lr0::shifts`, `Lr0::gotos`),
+//! and equal lists over terminals of states in turn are one in memory.
+//!
 //! Left out: lookaheads, and what a state does on a terminal.
 #![tactic(auto)]
 
@@ -19,6 +22,7 @@ mod kernels;
 mod laws;
 mod lr0;
 mod nonkernel;
+mod row;
 mod transition;
 
 pub use construct::automaton;

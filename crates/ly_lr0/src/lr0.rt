@@ -1,7 +1,7 @@
 ghost use Rattle.std.specs.Prelude.{◌≡◌, ◌<◌, ◌≤◌, ◌↔◌, ℕ, Contains, IfOk, IsSome, IsTrue, filter, length};
 ghost use Rattle.std.specs.Prelude.{Some, map, option_map, slice_get};
 ghost use Rattle.ly_join.specs.Grammar.{symbol_of};
-ghost use Rattle.ly_lr0.specs.Automaton.{is_shift, target_of, IsLess};
+ghost use Rattle.ly_lr0.specs.Automaton.{is_goto, is_shift, target_of, IsLess};
 ghost use Rattle.ly_lr0.specs.Private.Built.{AreInOrder};
 ghost use Rattle.ly_lr0.specs.Private.Places.{IsPlace};
 ghost use Rattle.ly_lr0.specs.Transitions.{transition_of};
@@ -60,22 +60,20 @@ impl<'a> Lr0<'a> {
         self.rows.len()
     }
 
-    /// The transitions of a state, in the order of their symbols.
-    pub fn transitions(&self, state: StateNo) -> &[Transition]
-        requires { state.0 < length self.now.states }
-        ensures { map transition_of result.now ≡ (state_at self.now state.0).transitions }
-    {
-        &self.rows[state.0 as usize].transitions
-    }
-
     /// The transitions of a state over terminals, in their order.
     pub fn shifts(&self, state: StateNo) -> &[Transition]
         requires { state.0 < length self.now.states }
         ensures { map transition_of result.now ≡ filter is_shift (state_at self.now state.0).transitions }
     {
-        let transitions: &[Transition] = &self.rows[state.0 as usize].transitions;
-        // terminals come before nonterminals
-        &transitions[..place_of(transitions, Symbol::Nonterminal(Sym(0)))]
+        &self.rows[state.0 as usize].shifts
+    }
+
+    /// The transitions of a state over nonterminals, in their order.
+    pub fn gotos(&self, state: StateNo) -> &[Transition]
+        requires { state.0 < length self.now.states }
+        ensures { map transition_of result.now ≡ filter is_goto (state_at self.now state.0).transitions }
+    {
+        &self.rows[state.0 as usize].gotos
     }
 
     /// Where a symbol leads from a state.
@@ -83,18 +81,19 @@ impl<'a> Lr0<'a> {
         requires { state.0 < length self.now.states }
         ensures { option_map (λ s. s.0) result ≡ goto_of self.now state.0 (symbol_of symbol) }
     {
-        let transitions: &[Transition] = &self.rows[state.0 as usize].transitions;
+        let transitions = self.row_over(state, symbol);
         target_at(transitions, place_of(transitions, symbol), symbol)
     }
 
-    /// Where a symbol leads from a state. Its transition is looked for at an index of those of the state, and by a
-    /// search if it isn't there; then the index is the one behind it. So symbols that rise are found without a search.
+    /// Where a symbol leads from a state. Its transition is looked for at an index of those of the state over its kind
+    /// of symbols, and by a search if it isn't there; then the index is the one behind it. So symbols of one kind that
+    /// rise are found without a search.
     #[inline(always)] // it is asked for each state and symbol
     pub fn goto_near(&self, state: StateNo, symbol: Symbol, index: &mut usize) -> Option<StateNo>
         requires { state.0 < length self.now.states }
         ensures { option_map (λ s. s.0) result ≡ goto_of self.now state.0 (symbol_of symbol) }
     {
-        let transitions: &[Transition] = &self.rows[state.0 as usize].transitions;
+        let transitions = self.row_over(state, symbol);
         if !is_place_of(transitions, *index, symbol) {
             *index = place_of(transitions, symbol);
         }
@@ -103,6 +102,20 @@ impl<'a> Lr0<'a> {
             *index += 1;
         }
         found
+    }
+
+    /// The transitions of a state over symbols of a symbol's kind, in their order.
+    fn row_over(&self, state: StateNo, symbol: Symbol) -> &[Transition]
+        requires { state.0 < length self.now.states }
+        ensures ordered { AreInOrder (map transition_of result.now) }
+        ensures leads { target_of (map transition_of result.now) (symbol_of symbol)
+            ≡ goto_of self.now state.0 (symbol_of symbol) }
+    {
+        let row = &self.rows[state.0 as usize];
+        match symbol {
+            Symbol::Terminal(_) => &row.shifts,
+            Symbol::Nonterminal(_) => &row.gotos,
+        }
     }
 
     /// The numbers of the rules that are complete in a state, rising.

@@ -1,5 +1,9 @@
+ghost use Rattle.std.specs.Rc.{rc_slice_items};
+ghost use Rattle.ly_lr0.specs.Private.Kinds.{AreGotos, AreShifts};
+
 use ly_base::StateNo;
 use ly_join::Symbol;
+use std::rc::RcSlice;
 
 /// A transition of a state: by a symbol to a state.
 #[derive(Clone, Copy, Debug, PartialEq, Eq)]
@@ -22,8 +26,13 @@ pub(crate) struct Link {
 /// What leaves a state, and what is complete in it.
 #[derive(Drop)]
 pub(crate) struct Row {
-    /// The transitions, in the order of their symbols.
-    pub(crate) transitions: Vec<Transition>,
+    /// The transitions over terminals, in their order. Rows that come one behind the other hold equal ones in common:
+    /// there are grammars of thousands of states with the same thousands of transitions.
+    pub(crate) shifts: RcSlice<Transition>,
+    /// The transitions over nonterminals, in their order.
+    pub(crate) gotos: Vec<Transition>,
     /// The rules that are complete, rising.
     pub(crate) complete: Vec<usize>,
+    ghost over_terminals: { AreShifts (rc_slice_items shifts) },
+    ghost over_nonterminals: { AreGotos gotos.items },
 }

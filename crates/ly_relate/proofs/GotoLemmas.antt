@@ -2,7 +2,7 @@
 use Rattle.std.proofs.Common.{◌≡◌, ◌∙◌, ◌⊎◌, inl, inr, ℕ, zero, suc, ◌+◌, ◌<◌, ◌≤◌, List, [], ◌∷◌, ◌++◌}
 use Rattle.std.proofs.Common.{map, Option, ◌↔◌, append_assoc, append-nil, slice_index_or, false, rules, Some, None}
 use Rattle.std.proofs.Common.{arith, refl, sym, ap, subst, length, slice_get, take, drop, Contains}
-use Rattle.std.specs.Prelude.{option_and_then}
+use Rattle.std.specs.Prelude.{filter, option_and_then}
 use Rattle.std.proofs.lemmas.List.{get_or_append_left, get_or_default, length-append, length-map, map-append, take_more}
 use Rattle.std.proofs.lemmas.List.Elements.{Contains-append_cases, Contains-append_left}
 use Rattle.std.proofs.lemmas.List.Elements.{Contains-append_right}
@@ -16,8 +16,7 @@ use Rattle.ly_join.specs.Grammar.{Symbol, nonterminal, symbol_of, terminal}
 use Rattle.ly_join.specs.declared.symbol.Symbol.TheVariants.{Terminal}
 use Rattle.ly_join.proofs.ListLemmas.{member_at, placed}
 use Rattle.ly_lr0.specs.Automaton.{Lr0Automaton, IsLr0Automaton, IsLess, State, Transition, goto_of, state_at}
-use Rattle.ly_lr0.specs.Automaton.{symbol_eq}
-use Rattle.ly_lr0.specs.Automaton.{target_of}
+use Rattle.ly_lr0.specs.Automaton.{is_goto, symbol_eq, target_of}
 use Rattle.std.proofs.Math.Seq.{get_or-append_seam}
 use Rattle.std.proofs.Math.ListN.{get_or-map}
 use Rattle.ly_relate.specs.Values.{goto_from}
@@ -372,6 +371,18 @@ pub row_more : (s : ℕ) (ts : List Transition) (u : Transition) → row_gotos s
 row_more s [] u = append-nil (goto_over s u.symbol u.target)
 row_more s (t ∷ ts) u = ap (λ w. goto_over s t.symbol t.target ++ w) (row_more s ts u)
     ∙ sym (append_assoc (goto_over s t.symbol t.target) (row_gotos s ts) (goto_over s u.symbol u.target))
+
+-- a row's transitions over nonterminals say all of it
+pub row_alone : (s : ℕ) (ts : List Transition) → row_gotos s (filter is_goto ts) ≡ row_gotos s ts
+row_alone s [] = refl
+row_alone s (u ∷ ts) = one s u ts u.symbol refl (row_alone s ts)
+  where
+    one : (s : ℕ) (u : Transition) (ts : List Transition) (X : Symbol) → u.symbol ≡ X
+        → row_gotos s (filter is_goto ts) ≡ row_gotos s ts
+        → row_gotos s (filter is_goto (u ∷ ts)) ≡ row_gotos s (u ∷ ts)
+    one s u ts (terminal t) is rest = rw is rest
+    one s u ts (nonterminal A) is rest = rw is
+        (ap (λ xs. record { from = s; symbol = A; target = u.target } ∷ xs) rest)
 
 -- where none stands
 abbrev pub nowhere : code.Transition

@@ -173,7 +173,7 @@ fn push_row(gotos: &mut Vec<Goto>, lr0: &Lr0<'_>, from: StateNo) -> Result<(), O
     ensures { OnOk result (map goto_from gotos.new.items ≡ map goto_from gotos.old.items
         ++ row_gotos from.0 (state_at lr0.now from.0).transitions) }
 {
-    for transition in lr0.transitions(from) {
+    for transition in lr0.gotos(from) {
         if let Symbol::Nonterminal(symbol) = transition.symbol {
             gotos.push(Goto {
                 from,

@@ -1,6 +1,7 @@
 -- Automata as they are built: kernels, the links by which they were found, and the rows of the first states.
 use Rattle.std.specs.Prelude.{◌≡◌, ◌≢◌, ◌↔◌, ◌⊎◌, ◌<◌, ◌≤◌, ◌++◌, ℕ, suc, List, [], ◌∷◌, length, map, slice_index_or}
 use Rattle.std.specs.Prelude.{Contains, AllPairs, fold}
+use Rattle.std.specs.Rc.{rc_slice_items}
 use Rattle.ly_base.specs.Keys.{IsAbsent}
 use Rattle.ly_join.specs.Grammar.{Grammar, Symbol, symbol_of, terminal}
 use Rattle.ly_lr0.specs.Automaton.{Lr0Automaton, IsLr0Automaton, IsLess, State, Transition}
@@ -21,7 +22,7 @@ abbrev pub link_of : link.Link → Link
 link_of l = record { from = l.from; symbol = symbol_of l.symbol }
 
 abbrev pub transitions_of : row.Row → List Transition
-transitions_of r = map transition_of r.transitions.items
+transitions_of r = map transition_of (rc_slice_items r.shifts ++ r.gotos.items)
 
 -- transitions in the order of their symbols
 abbrev pub AreInOrder : List Transition → Type 0

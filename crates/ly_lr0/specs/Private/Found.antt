@@ -1,5 +1,5 @@
 -- What was found so far, as the code has it.
-use Rattle.std.specs.Prelude.{◌≡◌, ◌≤◌, ◌++◌, ℕ, List, [], ◌∷◌, length, map, Some, slice_get}
+use Rattle.std.specs.Prelude.{◌≡◌, ◌≤◌, ◌++◌, ◌-◌, ℕ, List, [], ◌∷◌, length, map, Some, slice_get, slice_index_or}
 use Rattle.ly_join.specs.Grammar.{IsAugmented}
 use Rattle.ly_grammar.specs.Derivations.{IsReduced}
 use Rattle.ly_lr0.specs.Automaton.{Transition}
@@ -7,6 +7,7 @@ use Rattle.ly_lr0.specs.declared.found.Found.{Found}
 use Rattle.ly_lr0.specs.declared.transition.Row as row
 use Rattle.ly_lr0.specs.Private.Built.{AreFound, IsRowOf, Link, link_of, transitions_of}
 use Rattle.ly_lr0.specs.Private.Kernels.{kernel_at}
+use Rattle.ly_lr0.specs.Transitions.{transition_of}
 
 abbrev pub links_of : Found → List Link
 links_of f = map link_of f.links.items
@@ -26,3 +27,4 @@ pub record IsFound (f : Found) : Type 0 where
   pub rows : (s : ℕ) (r : row.Row) → slice_get f.rows.items s ≡ Some r
       → IsRowOf f.reduced.now.grammar (kernel_at f.kernels s) r
   pub few : length f.kernels ≤ f.limit
+  pub last : map transition_of f.last.items ≡ slice_index_or (rows_of f) (length f.rows.items - 1) []

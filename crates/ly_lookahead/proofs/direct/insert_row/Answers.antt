@@ -1,14 +1,16 @@
 use Rattle.std.proofs.Common.{◌∙◌, ◌++◌, ◌∷◌, [], ap, arith, length, map, refl, slice_index_or, subst, sym, take}
+use Rattle.std.specs.Prelude.{filter}
 use Rattle.std.proofs.lemmas.List.{take_all}
 use Rattle.std.proofs.Math.ListN.{length-set}
 use Rattle.std.specs.FinSet as set
 use Rattle.ly_join.specs.Grammar.{symbol_of}
 use Rattle.ly_sets.specs.SetMatrix.{row}
-use Rattle.ly_lr0.specs.Automaton.{state_at}
+use Rattle.ly_lr0.specs.Automaton.{is_shift, state_at}
 use Rattle.ly_lr0.specs.Transitions.{transition_of}
 use Rattle.ly_relate.proofs.GotoLemmas.{nowhere, shown_more}
 use Rattle.ly_lookahead.specs.Private.Sets.{AreInserted}
-use Rattle.ly_lookahead.proofs.DirectLemmas.{inserted_more, inserted_none, inserted_past, over_terminal}
+use Rattle.ly_lookahead.proofs.DirectLemmas.{below_all, inserted_all, inserted_more, inserted_none, inserted_past}
+use Rattle.ly_lookahead.proofs.DirectLemmas.{over_terminal}
 use Rattle.ly_lookahead.proofs.SetLemmas.{inserted_one}
 use Rattle.ly_lookahead.proofs.direct.insert_row.Goals as goal
 use Rattle.ly_lookahead.proofs.direct.insert_row.Goals.{in-Terminal+in_ok-insert, in_default}
@@ -28,16 +30,17 @@ insert-requires-clause-row c =
 
 pub insert-requires-clause-below : goal.insert-requires-clause-below
 insert-requires-clause-below c =
-    let lt = over_terminal (state_at c.args.lr0.now c.args.state.0).transitions
-    c.transitions-transition-items.result.now c.loop-transition.transition-index c.args.sets.now.width
-    c.in-Terminal.terminal.0 c.transitions-transition-items.ensures c.loop-transition-test.true
-    (ap symbol_of c.in-Terminal.is) c.requires.below in
+    let ts = (state_at c.args.lr0.now c.args.state.0).transitions in
+    let lt = over_terminal (filter is_shift ts)
+    c.shifts-transition-items.result.now c.loop-transition.transition-index c.args.sets.now.width
+    c.in-Terminal.terminal.0 c.shifts-transition-items.ensures c.loop-transition-test.true
+    (ap symbol_of c.in-Terminal.is) (below_all ts c.args.sets.now.width c.requires.below) in
     let width = c.loop-transition.invariant.width in
     omega (arith, lt, width)
 
 pub loop-transition-preserved : goal.loop-transition-preserved
 loop-transition-preserved c =
-    let ts = c.transitions-transition-items.result.now in
+    let ts = c.shifts-transition-items.result.now in
     let i = c.loop-transition.transition-index in
     let n = c.args.row in
     let old = c.args.sets.now.sets in
@@ -79,9 +82,11 @@ returns-clause-width c = c.loop-transition.invariant.width
 
 pub returns-clause-inserted : goal.returns-clause-inserted
 returns-clause-inserted c =
-    let items = c.transitions-transition-items.result.now in
+    let items = c.shifts-transition-items.result.now in
     let i = c.loop-transition.transition-index in
     let past = c.loop-transition-test.false in
     let all = take_all i items (omega (arith, past)) in
-    subst (λ xs. AreInserted xs c.args.row c.args.sets.now.sets c.loop-transition.sets.sets)
-    (ap (map transition_of) all ∙ c.transitions-transition-items.ensures) c.loop-transition.invariant.inserted
+    inserted_all (state_at c.args.lr0.now c.args.state.0).transitions c.args.row c.args.sets.now.sets
+    c.loop-transition.sets.sets
+    (subst (λ xs. AreInserted xs c.args.row c.args.sets.now.sets c.loop-transition.sets.sets)
+    (ap (map transition_of) all ∙ c.shifts-transition-items.ensures) c.loop-transition.invariant.inserted)

@@ -1,4 +1,4 @@
-use Rattle.std.proofs.Common.{◌≡◌, ◌≤◌, ◌∙◌, ap, arith, length, map, subst}
+use Rattle.std.proofs.Common.{◌≡◌, ◌≤◌, ◌∙◌, ap, arith, length, subst}
 use Rattle.std.proofs.lemmas.List.{length-map}
 use Rattle.ly_lr0.specs.Private.Found.{links_of}
 use Rattle.ly_lr0.specs.Private.Built.{automaton_from, IsBuilt, link_of, transitions_of}

@@ -1,18 +1,19 @@
-use Rattle.std.proofs.Common.{◌+◌, ◌≡◌, ◌⊎◌, ◌<◌, ◌≤◌, ◌∙◌, ◌++◌, ◌∷◌, [], ℕ, ap, arith, length, map, subst, sym}
-use Rattle.std.specs.Prelude.{◌↔◌, Contains}
-use Rattle.std.proofs.lemmas.List.{length_push, map_push}
+use Rattle.std.proofs.Common.{◌+◌, ◌-◌, ◌≡◌, ◌⊎◌, ◌<◌, ◌∙◌, ◌++◌, ◌∷◌, [], ℕ, ap, arith, length, map, refl, subst}
+use Rattle.std.proofs.Common.{sym}
+use Rattle.std.specs.Prelude.{◌↔◌, Contains, slice_index_or}
+use Rattle.std.proofs.lemmas.List.{get_or_push, length-map, length_push, map_push}
 use Rattle.std.proofs.lemmas.Option.{slice_get_within}
 use Rattle.ly_join.specs.Grammar.{IsAugmented}
 use Rattle.ly_grammar.specs.Derivations.{IsReduced}
 use Rattle.ly_lr0.specs.declared.item.Move.{Move}
-use Rattle.ly_lr0.specs.declared.transition.Row.{Row}
-use Rattle.ly_lr0.specs.Private.Built.{AreFound, IsRowOf, IsWholeRow, transitions_of}
+use Rattle.ly_lr0.specs.Private.Built.{AreFound, AreInOrder, IsRowOf, IsWholeRow, transitions_of}
 use Rattle.ly_lr0.specs.Private.Closing.{AreByLeft, AreComplete, AreKept, AreMoves, IsMoveOfOne, IsRuleAtEnd}
-use Rattle.ly_lr0.specs.Private.Found.{links_of}
+use Rattle.ly_lr0.specs.Private.Found.{links_of, rows_of}
 use Rattle.ly_lr0.specs.Private.Items.{IsEntered}
 use Rattle.ly_lr0.specs.Private.Kernels.{kernel_at}
 use Rattle.ly_lr0.specs.Private.Nonkernel.{AreNonkernel}
 use Rattle.ly_lr0.specs.Private.Shared.{AreMovesBefore}
+use Rattle.ly_lr0.specs.Transitions.{transition_of}
 use Rattle.ly_lr0.proofs.ClosingLemmas.{entered_within}
 use Rattle.ly_lr0.proofs.ConstructLemmas.{kernel_complete, kernel_moves, rows_more}
 use Rattle.ly_lr0.proofs.construct.Construction.push_row.Goals as goal
@@ -77,6 +78,14 @@ pub successors-requires-clause-before : goal.successors-requires-clause-before
 successors-requires-clause-before c = subst (AreMovesBefore c.args.self.now.found) (sym c.deref-4.ensures.value)
     c.requires.made.before
 
+pub row_of-requires : goal.row_of-requires
+row_of-requires c =
+    let t = c.successors.new.self in
+    let new = map transition_of c.in_ok-transitions.transitions.items in
+    subst (λ ts. AreInOrder (map transition_of ts)) (sym c.deref-5.ensures.value)
+    (subst AreInOrder (get_or_push (rows_of t) new [] (length (rows_of t)) refl)
+    (c.in_ok-transitions.ensures.found.sorted (length (rows_of t)) (omega (arith, length_push (rows_of t) new))))
+
 pub returns-clause-made : goal.returns-clause-made
 returns-clause-made c =
     let f = c.args.self.now.found in
@@ -98,7 +107,10 @@ returns-clause-made c =
     let next = c.requires.next in
     let number : c.len-row.result ≡ n = let is = c.len-row.ensures in let ok = f.rows.ok.0 in omega arith in
     let same : t.reduced.now ≡ f.reduced.now = ap (λ r. r.now) ens.reduced in
-    let row : Row = record { transitions = c.in_ok-transitions.transitions; complete = c.in_ok-complete.complete } in
+    let row = c.in_ok-next.next in
+    let new = map transition_of c.in_ok-transitions.transitions.items in
+    let leaves : transitions_of row ≡ new = c.in_ok-next.ensures.transitions
+    ∙ ap (map transition_of) c.deref-5.ensures.value in
     let kept : (s : ℕ) → s < length f.kernels → kernel_at t.kernels s ≡ kernel_at f.kernels s =
     λ s l. (ens.kept s l).1 in
     let complete = kernel_complete G by_left kernel c.members.result.now c.enter.new.self is.by_left
@@ -117,19 +129,27 @@ returns-clause-made c =
         augmented = subst (λ r. IsAugmented r.now.grammar) (sym ens.reduced) is.found.augmented;
         reduced = subst (λ r. IsReduced r.now.grammar) (sym ens.reduced) is.found.reduced;
         found = subst (AreFound t.reduced.now.grammar t.kernels (links_of t)) (sym (ap (map transitions_of)
-            c.in_ok-push.ensures.items ∙ map_push transitions_of t.rows.items row)) ens.found;
+            c.in_ok-push.ensures.items ∙ map_push transitions_of t.rows.items row
+            ∙ ap (λ ts. rows_of t ++ ts ∷ []) leaves)) ens.found;
         rows = rows_more f.rows.items c.push.new.self.items row
             (λ s r. IsRowOf t.reduced.now.grammar (kernel_at t.kernels s) r) pushed
             (λ s r e. subst (λ k. IsRowOf t.reduced.now.grammar k r)
             (sym (kept s (let l = slice_get_within f.rows.items s r e in omega (arith, l, next))))
             (subst (λ m. IsRowOf m.now.grammar (kernel_at f.kernels s) r) (sym ens.reduced) (is.found.rows s r e)))
             (record {
-              whole = subst (λ m. IsWholeRow t.reduced.now.grammar (kernel_at t.kernels m) (transitions_of row))
-                  (ap length (sym rows)) ens.whole;
+              whole = subst (IsWholeRow t.reduced.now.grammar (kernel_at t.kernels n)) (sym leaves)
+                  (subst (λ m. IsWholeRow t.reduced.now.grammar (kernel_at t.kernels m) new) (ap length (sym rows))
+                  ens.whole);
               complete = subst (λ m. AreComplete m.grammar (kernel_at t.kernels n) row.complete.items) (sym same)
-                  (subst (λ k. AreComplete G k row.complete.items) here complete);
+                  (subst (λ v. AreComplete G (kernel_at t.kernels n) v.items) (sym c.in_ok-next.ensures.complete)
+                  (subst (λ k. AreComplete G k c.in_ok-complete.complete.items) here complete));
             });
         few = ens.few;
+        last = sym (ap (λ rs. slice_index_or (map transitions_of rs) (length c.push.new.self.items - 1) []) pushed
+            ∙ ap (λ rs. slice_index_or rs (length c.push.new.self.items - 1) [])
+            (map_push transitions_of f.rows.items row)
+            ∙ get_or_push (rows_of f) (transitions_of row) [] (length c.push.new.self.items - 1)
+            (omega (arith, longer, length-map f.rows.items transitions_of)) ∙ leaves);
       };
       by_left = subst (λ m. AreByLeft m.grammar by_left) (sym same) is.by_left;
       room = subst (λ m. t.reduced.now.grammar.accept < m) (sym c.close.ensures.below)

@@ -1,6 +1,8 @@
-use Rattle.std.proofs.Common.{◌≡◌, ◌∷◌, [], ap, arith, length, map, subst, sym, ◌∙◌, ◌++◌, List}
+use Rattle.std.proofs.Common.{◌≡◌, ◌∷◌, ◌-◌, [], ap, arith, length, map, subst, sym, ◌∙◌, ◌++◌, List}
+use Rattle.std.specs.Prelude.{slice_index_or}
 use Rattle.ly_lr0.specs.declared.item.Item.{Item}
 use Rattle.ly_lr0.specs.Private.Built.{AreFound, link_of, transitions_of}
+use Rattle.ly_lr0.specs.Transitions.{transition_of}
 use Rattle.ly_lr0.proofs.StartLemmas.{found_start, no_rows, one_core}
 use Rattle.ly_lr0.proofs.found.Found.start.Goals as goal
 
@@ -25,4 +27,6 @@ returns-clause-found c =
           (sym c.new-2.ensures.items) (found_start G c.requires.augmented c.push-2.new.self kernels));
       rows = λ s r e. no_rows c.new-2.result.items s r c.new-2.ensures.items e;
       few = let one = ap length kernels in let some = c.if-limit-eq0.false in omega arith;
+      last = ap (map transition_of) c.new-3.ensures.items
+          ∙ sym (ap (λ rs. slice_index_or (map transitions_of rs) (length rs - 1) []) c.new-2.ensures.items);
     }

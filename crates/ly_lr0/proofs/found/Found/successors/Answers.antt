@@ -7,10 +7,9 @@ use Rattle.ly_join.specs.Grammar.{IsAugmented, symbol_of}
 use Rattle.ly_grammar.specs.Derivations.{IsReduced}
 use Rattle.ly_lr0.specs.declared.fault.Lr0Fault.TheVariants.{TooManyStates}
 use Rattle.ly_lr0.specs.Automaton.{Transition}
-use Rattle.ly_lr0.specs.Private.Built.{AreFound, IsWholeRow, Link, transitions_of}
+use Rattle.ly_lr0.specs.Private.Built.{Link, transitions_of}
 use Rattle.ly_lr0.specs.Transitions.{transition_of}
 use Rattle.ly_lr0.specs.Private.Found.{links_of, rows_of}
-use Rattle.ly_lr0.specs.Private.Kernels.{kernel_at}
 use Rattle.std.proofs.Common.{inl, inr}
 use Rattle.std.proofs.lemmas.Bool.{cases_lt}
 use Rattle.ly_lr0.proofs.SharedLemmas.{begun_entered}
@@ -104,20 +103,15 @@ loop-at-preserved c =
     }
 
 pub returns-clause-found : goal.returns-clause-found
-returns-clause-found c =
-    let f = c.loop-at.self in
-    subst (λ ts. AreFound f.reduced.now.grammar f.kernels (links_of f) (rows_of f ++ map transition_of ts ∷ []))
-    (sym c.shrink_to_fit.ensures.items) c.loop-at.invariant.entered.found
+returns-clause-found c = c.loop-at.invariant.entered.found
 
 pub returns-clause-whole : goal.returns-clause-whole
 returns-clause-whole c =
     let f = c.loop-at.self in
     let was = c.loop-at.invariant in
-    subst (λ ts. IsWholeRow f.reduced.now.grammar (kernel_at f.kernels (length f.rows.items)) (map transition_of ts))
-    (sym c.shrink_to_fit.ensures.items)
-    (entered_whole f.reduced.now.grammar f.kernels (links_of f) (rows_of f)
+    entered_whole f.reduced.now.grammar f.kernels (links_of f) (rows_of f)
     (map transition_of c.loop-at.transitions.items)
     (length f.rows.items) c.args.moves.now c.loop-at.at
     (subst (λ n. HasEntered f.reduced.now.grammar f.kernels (links_of f)
     (rows_of f) (map transition_of c.loop-at.transitions.items) n c.args.moves.now c.loop-at.at) was.from was.entered)
-    (let end = c.loop-at-test.false in omega arith))
+    (let end = c.loop-at-test.false in omega arith)

@@ -1,10 +1,9 @@
-use Rattle.std.proofs.Common.{◌<◌, ◌∙◌, ap, arith, length, map, subst, sym}
+use Rattle.std.proofs.Common.{◌<◌, ◌∙◌, ap, arith, length, map, sym}
 use Rattle.std.specs.Prelude.{filter}
+use Rattle.std.specs.Rc.{rc_slice_items}
 use Rattle.ly_lr0.specs.Automaton.{Lr0Automaton, is_shift, state_at}
-use Rattle.ly_lr0.specs.Private.Built.{AreInOrder}
 use Rattle.ly_lr0.specs.Transitions.{transition_of}
-use Rattle.ly_lr0.proofs.GotoLemmas.{row_ordered}
-use Rattle.ly_lr0.proofs.ShiftLemmas.{shifts_before}
+use Rattle.ly_lr0.proofs.ShiftLemmas.{shifts_alone}
 use Rattle.ly_lr0.proofs.StateLemmas.{count_of, state_of}
 use Rattle.ly_lr0.proofs.lr0.Lr0.shifts.Goals as goal
 
@@ -16,29 +15,17 @@ index-requires c =
     let less = c.requires in
     omega arith
 
-pub place_of-requires : goal.place_of-requires
-place_of-requires c =
-    let view = ap (λ (M : Lr0Automaton). length M.states) c.self.view_is in
-    let links = c.self.inside.links.items in
-    let rows = c.self.inside.rows.items in
-    let s = c.args.state.0 in
-    let many = count_of links rows c.self.invariant.count in
-    let less : s < length rows = let l = c.requires in omega arith in
-    subst (λ ts. AreInOrder (map transition_of ts)) (sym c.deref-transitions.ensures.value)
-    (row_ordered c.self.inside.reduced.now.grammar links rows s c.index.result.now c.self.invariant less
-    c.index.ensures)
-
 pub returns : goal.returns
 returns c =
     let view = ap (λ (M : Lr0Automaton). length M.states) c.self.view_is in
     let links = c.self.inside.links.items in
     let rows = c.self.inside.rows.items in
     let s = c.args.state.0 in
+    let row = c.index.result.now in
     let many = count_of links rows c.self.invariant.count in
     let less : s < length rows = let l = c.requires in omega arith in
-    shifts_before c.deref-transitions.result.now c.place_of.result c.place_of.ensures
-    ∙ ap (λ ts. filter is_shift (map transition_of ts)) c.deref-transitions.ensures.value
+    ap (map transition_of) c.deref.ensures.value
+    ∙ sym (shifts_alone (rc_slice_items row.shifts) row.gotos.items row.over_terminals row.over_nonterminals)
     ∙ ap (filter is_shift) (sym (ap (λ q. q.transitions)
-    (state_of c.self.inside.reduced.now.grammar links rows s c.index.result.now c.self.invariant.count less
-    c.index.ensures))
+    (state_of c.self.inside.reduced.now.grammar links rows s row c.self.invariant.count less c.index.ensures))
     ∙ ap (λ M. (state_at M s).transitions) c.self.view_is)
