@@ -1,4 +1,5 @@
 pub mod ActionRows
+pub mod Conflicts
 pub mod Found
 pub mod Meetings
 pub mod Shifts

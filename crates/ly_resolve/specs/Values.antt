@@ -1,5 +1,5 @@
 -- What contracts see of actions, entries and conflicts.
-use Rattle.std.specs.Prelude.{◌<◌, List, Bool, length, map}
+use Rattle.std.specs.Prelude.{◌<◌, List, Bool, true, false, length, map}
 use Rattle.ly_join.specs.Joined.{Spec}
 use Rattle.ly_lr0.specs.Automaton.{Lr0Automaton, prefix_of}
 use Rattle.ly_resolve.specs.Actions.{Action, error, reduce, shift}
@@ -14,7 +14,7 @@ use Rattle.ly_resolve.specs.declared.conflict.ConflictKind.TheVariants.{ShiftRed
 
 abbrev pub action_from : action.Action → Action
 action_from Shift = shift
-action_from (Reduce p) = reduce p
+action_from (Reduce p) = reduce p.0
 action_from Error = error
 
 abbrev pub terminal_action_from : entry.TerminalAction → TerminalAction
@@ -24,13 +24,19 @@ abbrev pub kind_from : kind.ConflictKind → Kind
 kind_from ShiftReduce = shift_reduce
 kind_from ReduceReduce = reduce_reduce
 
+-- whether two kinds are the same
+abbrev pub same_kind : kind.ConflictKind → kind.ConflictKind → Bool
+same_kind ShiftReduce ShiftReduce = true
+same_kind ReduceReduce ReduceReduce = true
+same_kind _ _ = false
+
 -- a conflict in a state is one at its prefix
 abbrev pub conflict_from : Lr0Automaton → conflict.Conflict → Conflict
 conflict_from M c = record {
   prefix = prefix_of M c.state.0;
   terminal = c.terminal.0;
   kind = kind_from c.kind;
-  rule = c.rule;
+  rule = c.rule.0;
   choice = action_from c.choice;
 }
 

@@ -1,4 +1,4 @@
-use ly_base::Sym;
+use ly_base::{RuleNo, Sym};
 
 /// What a parser does before a terminal.
 #[derive(Clone, Copy, Debug, PartialEq, Eq)]
@@ -6,7 +6,7 @@ pub enum Action {
     /// It shifts the terminal. Before the end it accepts.
     Shift,
     /// It reduces by the rule of this number.
-    Reduce(usize),
+    Reduce(RuleNo),
     /// It refuses the terminal, which doesn't associate.
     Error,
 }

@@ -4,11 +4,10 @@ ghost use Rattle.ly_lookahead.specs.Lookaheads.{AreLookaheads};
 ghost use Rattle.ly_lr0.specs.Automaton.{prefix_of, IsLr0Automaton};
 ghost use Rattle.ly_resolve.specs.Actions.{reduce, shift, IsRaw};
 
-use ly_base::{StateNo, Sym};
+use ly_base::{OutOfMemory, StateNo, Sym};
 use ly_join::Symbol;
 use ly_lookahead::Lookaheads;
 use ly_lr0::Lr0;
-use std::alloc::AllocError;
 
 /// Whether a shift is asked for in a state before a terminal. Behind the start symbol that of the end is. A terminal's
 /// transition is looked for at a place first, which gets to be the one behind it.
@@ -29,14 +28,15 @@ pub(crate) fn asks_shift(lr0: &Lr0<'_>, state: StateNo, terminal: Sym, place: &m
     }
 }
 
-/// Puts the rules into a list by which a reduction is asked for in a state before a terminal, rising.
+/// Puts the rules into a list by which a reduction is asked for in a state before a terminal, rising. It
+/// fails where memory runs out, or where the number of a rule is past 32 bits.
 pub(crate) fn find_reductions(
     lr0: &Lr0<'_>,
     lookaheads: &Lookaheads,
     state: StateNo,
     terminal: Sym,
-    found: &mut Vec<usize>,
-) -> Result<(), AllocError>
+    found: &mut Vec<u32>,
+) -> Result<(), OutOfMemory>
     requires lawful { IsLr0Automaton lr0.now }
     requires state { state.0 < length lr0.now.states }
     requires lookaheads { AreLookaheads lr0.now lookaheads.now }
@@ -47,7 +47,10 @@ pub(crate) fn find_reductions(
     found.clear();
     for (place, rule) in lr0.complete(state).iter().enumerate() {
         if lookaheads.contains(state, place, terminal) {
-            found.push(*rule)?;
+            match u32::try_from(*rule) {
+                Ok(number) => found.push(number)?,
+                Err(_) => return Err(OutOfMemory),
+            }
         }
     }
     Ok(())

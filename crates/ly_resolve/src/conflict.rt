@@ -1,5 +1,5 @@
 use crate::action::Action;
-use ly_base::{StateNo, Sym};
+use ly_base::{RuleNo, StateNo, Sym};
 
 /// What is counted as a conflict.
 #[derive(Clone, Copy, Debug, PartialEq, Eq)]
@@ -20,7 +20,7 @@ pub struct Conflict {
     /// What it is between.
     pub kind: ConflictKind,
     /// The number of the rule.
-    pub rule: usize,
+    pub rule: RuleNo,
     /// What is done.
     pub choice: Action,
 }

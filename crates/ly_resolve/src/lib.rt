@@ -14,6 +14,7 @@ mod action;
 mod action_rows;
 mod asking;
 mod conflict;
+mod conflicts;
 mod laws;
 mod meeting;
 mod resolved;
@@ -23,6 +24,7 @@ mod verdict;
 
 pub use action::{Action, TerminalAction};
 pub use conflict::{Conflict, ConflictKind};
+pub use conflicts::Conflicts;
 pub use laws::{
     accepts_sentences, accepts_trees_only, defaults_never_mislead, is_unambiguous, reads_prefixes,
     refuses_exactly, refuses_first,

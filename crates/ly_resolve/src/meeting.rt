@@ -10,8 +10,9 @@ ghost use Rattle.ly_resolve.specs.Values.{action_from, conflict_from, kind_from,
 
 use crate::action::Action;
 use crate::conflict::{Conflict, ConflictKind};
+use crate::conflicts::Conflicts;
 use crate::verdict::{Verdict, judge};
-use ly_base::{StateNo, Sym};
+use ly_base::{RuleNo, StateNo, Sym};
 use ly_join::Spec;
 use std::alloc::AllocError;
 
@@ -25,7 +26,7 @@ pub(crate) struct Meeting<'a> {
     /// Whether a shift is asked for.
     pub(crate) shift: bool,
     /// The rules by which a reduction is asked for, rising.
-    pub(crate) reductions: &'a [usize],
+    pub(crate) reductions: &'a [u32],
 }
 
 impl<'a> Meeting<'a> {
@@ -45,7 +46,7 @@ impl<'a> Meeting<'a> {
             (λ p. judge_of self.now.spec.now p self.now.terminal.0) (action_from a)) }
     {
         if let Some(rule) = self.earliest() {
-            return Some(Action::Reduce(rule));
+            return Some(Action::Reduce(RuleNo(rule)));
         }
         if !self.shift {
             return None;
@@ -58,7 +59,7 @@ impl<'a> Meeting<'a> {
     }
 
     /// The earliest reduction that stays.
-    fn earliest(&self) -> Option<usize>
+    fn earliest(&self) -> Option<u32>
         requires { AllPairs (λ p q. p < q) self.now.reductions.now }
         ensures { MatchOption result
             ((p : ℕ) → Stays (IsAskedBy self.now.shift self.now.reductions.now)
@@ -88,7 +89,7 @@ impl<'a> Meeting<'a> {
     }
 
     /// Whether a reduction stays: precedence is for it, or there is no shift.
-    fn stays(&self, rule: usize) -> bool
+    fn stays(&self, rule: u32) -> bool
         ensures { IsTrue result
             ↔ (IsTrue self.now.shift → judge_of self.now.spec.now rule self.now.terminal.0 ≡ to_reduce) }
     {
@@ -96,10 +97,10 @@ impl<'a> Meeting<'a> {
     }
 
     /// What precedence says of a reduction against the shift.
-    fn verdict(&self, rule: usize) -> Verdict
+    fn verdict(&self, rule: u32) -> Verdict
         ensures { verdict_from result ≡ judge_of self.now.spec.now rule self.now.terminal.0 }
     {
-        judge(self.spec, rule, self.terminal)
+        judge(self.spec, rule as usize, self.terminal)
     }
 
     /// Adds the conflicts, by kinds and then by rules.
@@ -107,15 +108,15 @@ impl<'a> Meeting<'a> {
         &self,
         state: StateNo,
         choice: Action,
-        conflicts: &mut Vec<Conflict>,
+        conflicts: &mut Conflicts,
     ) -> Result<(), AllocError>
-        ensures told { OnOk result ((M : Lr0Automaton) → map (conflict_from M) conflicts.new.items
-            ≡ map (conflict_from M) conflicts.old.items ++ all_told (prefix_of M state.0) self.now.terminal.0
+        ensures told { OnOk result ((M : Lr0Automaton) → map (conflict_from M) conflicts.new
+            ≡ map (conflict_from M) conflicts.old ++ all_told (prefix_of M state.0) self.now.terminal.0
             self.now.shift self.now.reductions.now (λ p. judge_of self.now.spec.now p self.now.terminal.0)
             (action_from choice)) }
         ensures inside { OnOk result ((M : Lr0Automaton) → state.0 < length M.states
-            → self.now.terminal.0 < M.grammar.terminals → All (IsInside M) conflicts.old.items
-            → All (IsInside M) conflicts.new.items) }
+            → self.now.terminal.0 < M.grammar.terminals → All (IsInside M) conflicts.old
+            → All (IsInside M) conflicts.new) }
     {
         self.push_kind(ConflictKind::ShiftReduce, state, choice, conflicts)?;
         self.push_kind(ConflictKind::ReduceReduce, state, choice, conflicts)
@@ -127,15 +128,15 @@ impl<'a> Meeting<'a> {
         kind: ConflictKind,
         state: StateNo,
         choice: Action,
-        conflicts: &mut Vec<Conflict>,
+        conflicts: &mut Conflicts,
     ) -> Result<(), AllocError>
-        ensures told { OnOk result ((M : Lr0Automaton) → map (conflict_from M) conflicts.new.items
-            ≡ map (conflict_from M) conflicts.old.items ++ told (prefix_of M state.0) self.now.terminal.0
+        ensures told { OnOk result ((M : Lr0Automaton) → map (conflict_from M) conflicts.new
+            ≡ map (conflict_from M) conflicts.old ++ told (prefix_of M state.0) self.now.terminal.0
             self.now.shift self.now.reductions.now (λ p. judge_of self.now.spec.now p self.now.terminal.0)
             (action_from choice) (kind_from kind)) }
         ensures inside { OnOk result ((M : Lr0Automaton) → state.0 < length M.states
-            → self.now.terminal.0 < M.grammar.terminals → All (IsInside M) conflicts.old.items
-            → All (IsInside M) conflicts.new.items) }
+            → self.now.terminal.0 < M.grammar.terminals → All (IsInside M) conflicts.old
+            → All (IsInside M) conflicts.new) }
     {
         for rule in self.reductions {
             if self.is_counted(kind, choice, *rule) {
@@ -143,7 +144,7 @@ impl<'a> Meeting<'a> {
                     state,
                     terminal: self.terminal,
                     kind,
-                    rule: *rule,
+                    rule: RuleNo(*rule),
                     choice,
                 })?;
             }
@@ -152,13 +153,14 @@ impl<'a> Meeting<'a> {
     }
 
     /// Whether a reduction is counted against what is done.
-    fn is_counted(&self, kind: ConflictKind, choice: Action, rule: usize) -> bool
+    fn is_counted(&self, kind: ConflictKind, choice: Action, rule: u32) -> bool
         ensures { result ≡ is_counted self.now.shift (λ p. judge_of self.now.spec.now p self.now.terminal.0)
             (action_from choice) (kind_from kind) rule }
     {
         match kind {
             ConflictKind::ShiftReduce => self.shift && self.verdict(rule) == Verdict::Unsettled,
-            ConflictKind::ReduceReduce => choice != Action::Reduce(rule) && self.stays(rule),
+            ConflictKind::ReduceReduce => choice != Action::Reduce(RuleNo(rule))
+                && self.stays(rule),
         }
     }
 }

@@ -5,7 +5,7 @@ ghost use Rattle.ly_resolve.specs.Values.{conflict_from, terminal_action_from, I
 
 use crate::action::TerminalAction;
 use crate::action_rows::ActionRows;
-use crate::conflict::Conflict;
+use crate::conflicts::Conflicts;
 use ly_base::StateNo;
 use ly_join::Spec;
 use ly_lr0::Lr0;
@@ -21,7 +21,7 @@ pub struct Resolved<'a> {
     /// For each state what is done in it, in the order of the terminals.
     pub(crate) rows: ActionRows,
     /// The conflicts, in their order.
-    pub(crate) conflicts: Vec<Conflict>,
+    pub(crate) conflicts: Conflicts,
     /// Whether no two actions are asked for anywhere.
     pub(crate) conflict_free: bool,
 }
@@ -37,13 +37,13 @@ impl<'a> Model for Resolved<'a> {
     ghost Value = { value.Resolved };
 
     ghost view = { λ r. resolved_from r.spec.now r.lr0.now
-        (rows_from r.rows.places.items r.rows.kept.items) r.conflicts.items r.conflict_free };
+        (rows_from r.rows.places.items r.rows.kept.items) r.conflicts r.conflict_free };
 
     ghost invariant = { λ r. KeepsUseful r.spec.now.grammar r.lr0.now.grammar
         × AreResolved r.spec.now r.lr0.now
         (resolved_from r.spec.now r.lr0.now
-        (rows_from r.rows.places.items r.rows.kept.items) r.conflicts.items r.conflict_free)
-        × All (IsInside r.lr0.now) r.conflicts.items };
+        (rows_from r.rows.places.items r.rows.kept.items) r.conflicts r.conflict_free)
+        × All (IsInside r.lr0.now) r.conflicts };
 }
 
 impl<'a> Resolved<'a> {
@@ -72,7 +72,7 @@ impl<'a> Resolved<'a> {
     }
 
     /// The conflicts, by state, terminal, kind and rule.
-    pub fn conflicts(&self) -> &[Conflict]
+    pub fn conflicts(&self) -> &Conflicts
         ensures these { map (conflict_from self.now.automaton) result.now ≡ self.now.conflicts }
         ensures inside { All (IsInside self.now.automaton) result.now }
     {

@@ -12,7 +12,7 @@ ghost use Rattle.ly_resolve.specs.Values.{action_from, conflict_from, terminal_a
 use crate::action::{Action, TerminalAction};
 use crate::action_rows::ActionRows;
 use crate::asking::{asks_shift, find_reductions};
-use crate::conflict::Conflict;
+use crate::conflicts::Conflicts;
 use crate::meeting::Meeting;
 use crate::resolved::Resolved;
 use crate::shifting::list_shifts;
@@ -25,7 +25,7 @@ use std::alloc::{AllocError, Global};
 /// Settles what a parser does in each state before each terminal, and finds the conflicts. Each state is gone through
 /// once, terminal by terminal.
 ///
-/// `OutOfMemory` comes where a growth was refused.
+/// `OutOfMemory` comes where a growth was refused, or where the number of a rule is past 32 bits.
 pub fn resolve<'a>(
     alloc: Global,
     spec: &'a Spec,
@@ -44,7 +44,7 @@ pub fn resolve<'a>(
     let mut rows = ActionRows::with_capacity(alloc, lr0.states())?;
     let mut row = Vec::new(alloc);
     let mut told = Told {
-        conflicts: Vec::new(alloc),
+        conflicts: Conflicts::new(alloc),
         conflict_free: true,
     };
     for state in 0..lr0.states() {
@@ -75,7 +75,7 @@ struct Sources<'a, 'b> {
 #[derive(Drop)]
 struct Told {
     /// Their conflicts.
-    conflicts: Vec<Conflict>,
+    conflicts: Conflicts,
     /// Whether none of them asks for two actions.
     conflict_free: bool,
 }
@@ -92,13 +92,13 @@ fn resolve_state(
     requires state { state.0 < length sources.now.lr0.now.states }
     requires lookaheads { AreLookaheads sources.now.lr0.now sources.now.lookaheads.now }
     requires told { AreTold sources.now.lr0.now (judge_of sources.now.spec.now) state.0 0
-        (map (conflict_from sources.now.lr0.now) told.old.conflicts.items) told.old.conflict_free }
-    requires inside { All (IsInside sources.now.lr0.now) told.old.conflicts.items }
+        (map (conflict_from sources.now.lr0.now) told.old.conflicts) told.old.conflict_free }
+    requires inside { All (IsInside sources.now.lr0.now) told.old.conflicts }
     ensures row { OnOk result (IsRow sources.now.lr0.now.grammar (judge_of sources.now.spec.now)
         (prefix_of sources.now.lr0.now state.0) (map terminal_action_from row.new.items)) }
     ensures told { OnOk result (AreTold sources.now.lr0.now (judge_of sources.now.spec.now) (state.0 + 1) 0
-        (map (conflict_from sources.now.lr0.now) told.new.conflicts.items) told.new.conflict_free) }
-    ensures inside { OnOk result (All (IsInside sources.now.lr0.now) told.new.conflicts.items) }
+        (map (conflict_from sources.now.lr0.now) told.new.conflicts) told.new.conflict_free) }
+    ensures inside { OnOk result (All (IsInside sources.now.lr0.now) told.new.conflicts) }
 {
     if sources.lr0.complete(state).is_empty() {
         return Ok(list_shifts(sources.lr0, state, row)?);
@@ -140,13 +140,13 @@ impl Told {
         requires rising { AllPairs (λ p q. p < q) meeting.now.reductions.now }
         requires choice { IsDone (IsAskedBy meeting.now.shift meeting.now.reductions.now)
             (λ p. judge_of meeting.now.spec.now p meeting.now.terminal.0) (action_from choice) }
-        ensures told { OnOk result ((M : Lr0Automaton) → map (conflict_from M) self.new.conflicts.items
-            ≡ map (conflict_from M) self.old.conflicts.items ++ all_told (prefix_of M state.0) meeting.now.terminal.0
+        ensures told { OnOk result ((M : Lr0Automaton) → map (conflict_from M) self.new.conflicts
+            ≡ map (conflict_from M) self.old.conflicts ++ all_told (prefix_of M state.0) meeting.now.terminal.0
             meeting.now.shift meeting.now.reductions.now
             (λ p. judge_of meeting.now.spec.now p meeting.now.terminal.0) (action_from choice)) }
         ensures inside { OnOk result ((M : Lr0Automaton) → state.0 < length M.states
-            → meeting.now.terminal.0 < M.grammar.terminals → All (IsInside M) self.old.conflicts.items
-            → All (IsInside M) self.new.conflicts.items) }
+            → meeting.now.terminal.0 < M.grammar.terminals → All (IsInside M) self.old.conflicts
+            → All (IsInside M) self.new.conflicts) }
         ensures free { OnOk result (IsTrue self.new.conflict_free ↔ (IsTrue self.old.conflict_free
             × (AreMany meeting.now.shift meeting.now.reductions.now → ⊥))) }
     {

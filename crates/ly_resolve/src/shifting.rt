@@ -30,7 +30,7 @@ pub(crate) fn list_shifts(
     if asks_shift(lr0, state, Sym(0), &mut 0) {
         row.push(shift_of(Sym(0)))?;
     }
-    for transition in lr0.transitions(state) {
+    for transition in lr0.shifts(state) {
         if let Symbol::Terminal(terminal) = transition.symbol {
             row.push(shift_of(terminal))?;
         }
