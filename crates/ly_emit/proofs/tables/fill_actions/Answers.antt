@@ -62,7 +62,7 @@ loop-entry-preserved c =
     let i = c.loop-entry.entry-index in
     let x = slice_index_or row i (record { terminal = record { 0 = 0 }; action = Shift }) in
     let t = x.terminal.0 in
-    let a = c.in_ok-action.action in
+    let a = c.table_action-action.result in
     let inv = c.loop-entry.invariant in
     let old = dense_entry c.loop-entry.actions in
     let new = dense_entry c.set.new.self in
@@ -70,7 +70,7 @@ loop-entry-preserved c =
     M.grammar judge (prefix_of M k) c.requires.row in
     let is_entry : IsEntryFor M k t (action_from x.action) (entry_action a)
     = subst (λ N. IsEntryFor N k t (action_from x.action) (entry_action a)) c.lr0.ensures.these
-    c.in_ok-action.ensures in
+    c.table_action-action.ensures in
     let put = c.in_ok-set.ensures.entries in
     record {
       rows = c.set.ensures.rows ∙ inv.rows;
@@ -88,6 +88,12 @@ loop-entry-preserved c =
             | inr off ↦ inv.seen j y (omega (arith, lt, off)) at before.0
           ];
     }
+
+pub returns-clause-rows : goal.returns-clause-rows
+returns-clause-rows c = ap (λ d. d.rows) c.share.ensures ∙ c.loop-entry.invariant.rows
+
+pub returns-clause-width : goal.returns-clause-width
+returns-clause-width c = ap (λ d. d.width) c.share.ensures ∙ c.loop-entry.invariant.width
 
 pub returns-clause-filled : goal.returns-clause-filled
 returns-clause-filled c =
