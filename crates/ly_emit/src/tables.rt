@@ -94,7 +94,8 @@ fn fill_actions(
         let action = table_action(resolved.lr0(), state, *entry, &mut place);
         actions.set(state, entry.terminal.0 as usize, Some(action))?;
     }
-    actions.share(state)
+    actions.share(state)?;
+    Ok(())
 }
 
 /// What the table has where this is done. A shift's transition is looked for at a place first, which gets to be the one

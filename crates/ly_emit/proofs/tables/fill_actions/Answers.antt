@@ -1,4 +1,4 @@
-use Rattle.std.proofs.Common.{◌≡◌, ◌∙◌, Some, ap, arith, inl, inr, map, refl, slice_get, slice_index_or}
+use Rattle.std.proofs.Common.{◌≡◌, ◌∙◌, ◌+◌, Some, ap, arith, inl, inr, map, refl, slice_get, slice_index_or}
 use Rattle.std.proofs.Common.{subst, sym}
 use Rattle.std.proofs.lemmas.Bool.{cases_eq}
 use Rattle.std.proofs.lemmas.List.{length-map}
@@ -26,8 +26,8 @@ loop-entry-init c = record {
   seen = λ j x lt. absurd (omega (arith, lt));
 }
 
-pub table_action-requires-clause-shifted : goal.table_action-requires-clause-shifted
-table_action-requires-clause-shifted c =
+pub table_action-action-requires-clause-shifted : goal.table_action-action-requires-clause-shifted
+table_action-action-requires-clause-shifted c =
     let M = c.args.resolved.now.automaton in
     let judge = judge_of c.args.resolved.now.spec in
     let row = c.args.row.now in
@@ -89,12 +89,6 @@ loop-entry-preserved c =
           ];
     }
 
-pub returns-clause-rows : goal.returns-clause-rows
-returns-clause-rows c = ap (λ d. d.rows) c.share.ensures ∙ c.loop-entry.invariant.rows
-
-pub returns-clause-width : goal.returns-clause-width
-returns-clause-width c = ap (λ d. d.width) c.share.ensures ∙ c.loop-entry.invariant.width
-
 pub returns-clause-filled : goal.returns-clause-filled
 returns-clause-filled c =
     let M = c.args.resolved.now.automaton in
@@ -103,11 +97,12 @@ returns-clause-filled c =
     let row = c.args.row.now in
     let inv = c.loop-entry.invariant in
     let past = c.loop-entry-test.false in
-    filled_more (IsActionAt M judge) (IsAskedAt M) (dense_entry c.loop-entry.actions) k inv.filled (λ t none asked.
+    subst (λ d. AreActionsTo M judge (k + 1) (dense_entry d)) (sym c.share.ensures)
+    (filled_more (IsActionAt M judge) (IsAskedAt M) (dense_entry c.loop-entry.actions) k inv.filled (λ t none asked.
     let b = c.requires.row.whole t asked.0 asked.1 in
     let place = placed (map terminal_action_from row) (record { terminal = t; action = b.0 })
     ((c.requires.row.are (record { terminal = t; action = b.0 })).1 b.1) in
     let within
     = slice_get_within (map terminal_action_from row) place.0 (record { terminal = t; action = b.0 }) place.1 in
     let long = length-map row terminal_action_from in
-    inv.seen place.0 (record { terminal = t; action = b.0 }) (omega (arith, within, long, past)) place.1 none)
+    inv.seen place.0 (record { terminal = t; action = b.0 }) (omega (arith, within, long, past)) place.1 none))
