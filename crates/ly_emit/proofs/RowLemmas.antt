@@ -2,6 +2,7 @@
 use Rattle.std.proofs.Common.{◌≡◌, ◌∙◌, inl, inr, ℕ, ◌+◌, ◌-◌, ◌<◌, ◌≤◌, List, [], ◌∷◌, ◌++◌}
 use Rattle.std.proofs.Common.{Some, ap, arith, length, map, option_map, refl, slice_get, slice_index_or}
 use Rattle.std.proofs.Common.{subst, sym}
+use Rattle.std.specs.Prelude.{filter}
 use Rattle.std.proofs.lemmas.Bool.{cases_eq}
 use Rattle.std.proofs.lemmas.List.{length-append, map-append}
 use Rattle.std.proofs.lemmas.Option.{get_or_from_slice_get, slice_get-get_or, slice_get-map, slice_get_within}
@@ -11,7 +12,8 @@ use Rattle.ly_join.specs.Grammar.{Grammar, IsAugmented, IsRule, GrammarRule, Sym
 use Rattle.ly_join.specs.Joined.{Spec, note_of}
 use Rattle.ly_join.specs.declared.rule.RuleNote.{RuleNote}
 use Rattle.ly_join.proofs.ListLemmas.{member_at, placed}
-use Rattle.ly_lr0.specs.Automaton.{Lr0Automaton, IsLr0Automaton, goto_of, state_at, target_of}
+use Rattle.ly_join.proofs.NumberingLemmas.{filter_in, in_filter}
+use Rattle.ly_lr0.specs.Automaton.{Lr0Automaton, IsLr0Automaton, goto_of, is_goto, state_at, target_of}
 use Rattle.ly_lr0.specs.Transitions.{transition_of}
 use Rattle.ly_lr0.specs.declared.transition.Transition as code
 use Rattle.ly_lr0.proofs.StateLemmas.{state_there, target_some}
@@ -30,29 +32,30 @@ use Rattle.ly_emit.specs.Tables.{shape_from, shape_in}
 -- TRANSITIONS
 
 module _ (M : Lr0Automaton) (is : IsLr0Automaton M) (k : ℕ) (lt : k < length M.states) where
-  module _ (ts : List code.Transition) (e : map transition_of ts ≡ (state_at M k).transitions) where
+  module _ (ts : List code.Transition) (e : map transition_of ts ≡ filter is_goto (state_at M k).transitions) where
     -- a transition over a nonterminal leads where the state goes
     pub led_at : (i A : ℕ) → i < length ts → symbol_of (slice_index_or ts i nowhere).symbol ≡ nonterminal A
         → goto_of M k (nonterminal A) ≡ Some (slice_index_or ts i nowhere).target.0
     led_at i A less named =
         let t = transition_of (slice_index_or ts i nowhere) in
         let there = state_there M k lt in
-        let at : slice_get (state_at M k).transitions i ≡ Some t
+        let at : slice_get (filter is_goto (state_at M k).transitions) i ≡ Some t
         = ap (λ w. slice_get w i) (sym e) ∙ slice_get-map transition_of ts i
         ∙ ap (option_map transition_of) (slice_get-get_or ts i nowhere less) in
         goto_at M k (state_at M k) (nonterminal A) there
         ∙ ap (target_of (state_at M k).transitions) (sym named)
         ∙ has_target (state_at M k).transitions t (is.each k (state_at M k) there).ordered
-        (member_at (state_at M k).transitions i t at)
+        (in_filter is_goto (state_at M k).transitions t (member_at (filter is_goto (state_at M k).transitions) i t at)).0
 
     -- and where it goes, a transition leads
     pub found_at : (A s : ℕ) → goto_of M k (nonterminal A) ≡ Some s
         → (j : ℕ) × (j < length ts) × (symbol_of (slice_index_or ts j nowhere).symbol ≡ nonterminal A)
     found_at A s goes =
         let there = state_there M k lt in
-        let place = placed (state_at M k).transitions (record { symbol = nonterminal A; target = s })
+        let place = placed (filter is_goto (state_at M k).transitions) (record { symbol = nonterminal A; target = s })
+        (filter_in is_goto (state_at M k).transitions (record { symbol = nonterminal A; target = s })
         (target_some (state_at M k).transitions (nonterminal A) s
-        (sym (goto_at M k (state_at M k) (nonterminal A) there) ∙ goes)) in
+        (sym (goto_at M k (state_at M k) (nonterminal A) there) ∙ goes)) refl) in
         let x = option_map-some transition_of (slice_get ts place.0) (record { symbol = nonterminal A; target = s })
         (sym (slice_get-map transition_of ts place.0) ∙ ap (λ w. slice_get w place.0) e ∙ place.1) in (
           place.0,

@@ -20,7 +20,7 @@ use std::alloc::Global;
 
 /// The tables of what a parser does in each state, without defaults.
 ///
-/// `OutOfMemory` comes where a growth was refused, or where the number of a rule is past what tables hold.
+/// `OutOfMemory` comes where a growth was refused.
 pub fn machine(
     alloc: Global,
     resolved: &Resolved<'_>,
@@ -91,9 +91,10 @@ fn fill_actions(
     let mut place = 0;
     actions.reserve(state, row.len())?;
     for entry in row {
-        let action = table_action(resolved.lr0(), state, *entry, &mut place)?;
+        let action = table_action(resolved.lr0(), state, *entry, &mut place);
         actions.set(state, entry.terminal.0 as usize, Some(action))?;
     }
+    actions.share(state)?;
     Ok(())
 }
 
@@ -104,21 +105,17 @@ fn table_action(
     state: StateNo,
     entry: TerminalAction,
     place: &mut usize,
-) -> Result<TableAction, OutOfMemory>
+) -> TableAction
     requires lawful { IsLr0Automaton lr0.now }
     requires state { state.0 < length lr0.now.states }
     requires shifted { action_from entry.action ≡ shift
         → IsRaw lr0.now.grammar (prefix_of lr0.now state.0) entry.terminal.0 shift }
-    ensures { IfOk result (λ a. IsEntryFor lr0.now state.0 entry.terminal.0 (action_from entry.action)
-        (entry_action a)) }
+    ensures { IsEntryFor lr0.now state.0 entry.terminal.0 (action_from entry.action) (entry_action result) }
 {
     match entry.action {
-        Action::Shift => Ok(shift_action(lr0, state, entry.terminal, place)),
-        Action::Reduce(rule) => match u32::try_from(rule) {
-            Ok(number) => Ok(TableAction::Reduce(RuleNo(number))),
-            Err(_) => Err(OutOfMemory),
-        },
-        Action::Error => Ok(TableAction::Error),
+        Action::Shift => shift_action(lr0, state, entry.terminal, place),
+        Action::Reduce(rule) => TableAction::Reduce(rule),
+        Action::Error => TableAction::Error,
     }
 }
 
@@ -163,7 +160,7 @@ fn fill_gotos(lr0: &Lr0<'_>, state: StateNo, gotos: &mut Dense<StateNo>) -> Resu
     ensures width { gotos.new.width ≡ gotos.old.width }
     ensures filled { OnOk result (AreGotosTo lr0.now (state.0 + 1) (dense_entry gotos.new)) }
 {
-    for transition in lr0.transitions(state) {
+    for transition in lr0.gotos(state) {
         if let Symbol::Nonterminal(left) = transition.symbol {
             gotos.set(state, left.0 as usize, Some(transition.target))?;
         }

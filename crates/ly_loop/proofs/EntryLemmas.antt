@@ -1,13 +1,12 @@
 -- The entries and the gotos of states, as rows list them.
 use Rattle.std.proofs.Common.{◌≡◌, ◌∙◌, ◌<◌, ℕ, List, ap, arith, refl, sym}
 use Rattle.std.specs.Prelude.{option_map}
-use Rattle.std.specs.Global.{Vec}
 use Rattle.std.proofs.lemmas.List.Elements.{All-contains}
 use Rattle.std.proofs.lemmas.Option.{slice_get_within}
 use Rattle.ly_base.proofs.ListLemmas.{option_map-some}
 use Rattle.ly_base.specs.declared.numbers.StateNo.{StateNo}
 use Rattle.ly_pack.specs.Machine.{Machine, states_of}
-use Rattle.ly_pack.specs.Rows.{AreAllCellsOf, Entries, cell, grid_of}
+use Rattle.ly_pack.specs.Rows.{AreAllCellsOf, Counted, Entries, cell, grid_of}
 use Rattle.ly_pack.specs.Values.{action_from, actions_from, gotos_from}
 use Rattle.ly_pack.specs.declared.action.TableAction as code
 use Rattle.ly_pack.specs.declared.action.TableAction.TheVariants.{Shift}
@@ -16,7 +15,7 @@ use Rattle.ly_pack.proofs.GridLemmas.{cell-grid_of, cell-grid_of_some}
 use Rattle.ly_loop.specs.Private.Entries.{AreAllEntries, AreAllGotos}
 
 pub entries_are : (m : Machine) (entries : Entries code.TableAction) (rows width : ℕ)
-    (lists : List (Vec (Cell code.TableAction)))
+    (lists : List (Counted code.TableAction))
     → m.actions ≡ grid_of (states_of m) m.terminals (actions_from entries) → rows ≡ states_of m → width ≡ m.terminals
     → AreAllCellsOf entries rows width lists → AreAllEntries m lists
 entries_are m entries rows width lists grid many wide so = record {
@@ -26,7 +25,7 @@ entries_are m entries rows width lists grid many wide so = record {
       let small : state < states_of m = omega (arith, row_lt, so.count, many) in
       record {
         sound = λ e has.
-            let lt = All-contains (λ (c : Cell code.TableAction). c.column < width) row.items e (so.within state row at)
+            let lt = All-contains (λ (c : Cell code.TableAction). c.column < width) row.value.items e (so.within state row at)
             has in
             let column : e.column < m.terminals = omega (arith, lt, wide) in (
               column,
@@ -42,7 +41,7 @@ entries_are m entries rows width lists grid many wide so = record {
       };
 }
 
-pub gotos_are : (m : Machine) (entries : Entries StateNo) (rows width : ℕ) (lists : List (Vec (Cell StateNo)))
+pub gotos_are : (m : Machine) (entries : Entries StateNo) (rows width : ℕ) (lists : List (Counted StateNo))
     → m.gotos ≡ grid_of (states_of m) m.nonterminals (gotos_from entries) → rows ≡ states_of m
     → width ≡ m.nonterminals → AreAllCellsOf entries rows width lists → AreAllGotos m lists
 gotos_are m entries rows width lists grid many wide so = record {
@@ -52,7 +51,7 @@ gotos_are m entries rows width lists grid many wide so = record {
       let small : state < states_of m = omega (arith, row_lt, so.count, many) in
       record {
         sound = λ e has.
-            let lt = All-contains (λ (c : Cell StateNo). c.column < width) row.items e (so.within state row at) has in
+            let lt = All-contains (λ (c : Cell StateNo). c.column < width) row.value.items e (so.within state row at) has in
             ap (λ g. cell g state e.column) grid
             ∙ cell-grid_of (states_of m) m.nonterminals (gotos_from entries) state e.column small
             (omega (arith, lt, wide))

@@ -1,13 +1,13 @@
 -- The targets of a state, as they are listed.
 use Rattle.std.proofs.Common.{◌≡◌, ◌∙◌, inl, inr, ℕ, List, [], ◌∷◌, ◌++◌, Contains, Option, None, Some}
 use Rattle.std.proofs.Common.{◌<◌, ap, arith, eqb-true, true, get_or, length, refl, slice_get, subst, sym}
-use Rattle.std.specs.Global.{Vec}
 use Rattle.std.proofs.lemmas.Option.{slice_get_read}
 use Rattle.std.proofs.lemmas.List.Elements.{Contains-append_left, Contains-push, Contains-push_cases}
 use Rattle.ly_base.proofs.MemberLemmas.{Contains-none}
 use Rattle.ly_base.specs.contracts.numbers.StateNoPartialEq.TheImpl as partial
 use Rattle.ly_base.specs.declared.numbers.StateNo.{StateNo}
 use Rattle.ly_pack.specs.Machine.{Machine, TableAction, action_of, entry_at, or_default, shift, states_of}
+use Rattle.ly_pack.specs.Rows.{Counted}
 use Rattle.ly_pack.specs.Steady.{IsTableEdge, by_goto, by_shift}
 use Rattle.ly_pack.specs.Values.{action_from}
 use Rattle.ly_pack.specs.declared.action.TableAction as code
@@ -140,10 +140,10 @@ all_targets m below entries gotos targets all led are = record { sound = sound; 
         (e.0.entry, are.others e.0 e.1, e.2)
 
 -- the targets of the rows of a state
-pub targets_at : (m : Machine) (all : List (Vec (Cell code.TableAction))) (led : List (Vec (Cell StateNo))) (k : ℕ)
-    (row : Vec (Cell code.TableAction)) (gotos : Vec (Cell StateNo)) (es : List (Cell code.TableAction))
+pub targets_at : (m : Machine) (all : List (Counted code.TableAction)) (led : List (Counted StateNo)) (k : ℕ)
+    (row : Counted code.TableAction) (gotos : Counted StateNo) (es : List (Cell code.TableAction))
     (gs : List (Cell StateNo)) (targets : List StateNo) → AreAllEntries m all → AreAllGotos m led → k < states_of m
-    → row ≡ get_or all k row → gotos ≡ get_or led k gotos → es ≡ row.items → gs ≡ gotos.items
+    → row ≡ get_or all k row → gotos ≡ get_or led k gotos → es ≡ row.value.items → gs ≡ gotos.value.items
     → AreTargetsOf es gs targets → AreTargets m k targets
 targets_at m all led k row gotos es gs targets entries goes lt at_row at_gotos is_row is_gotos are =
     all_targets m k es gs targets

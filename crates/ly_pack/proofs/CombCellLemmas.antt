@@ -15,7 +15,7 @@ use Rattle.ly_base.proofs.CellLemmas.{slice_get-set_other, slice_get-set_same}
 use Rattle.ly_base.proofs.ListLemmas.{some_at}
 use Rattle.ly_base.proofs.MemberLemmas.{Contains-none}
 use Rattle.ly_pack.specs.Combs.{comb_from, used_from}
-use Rattle.ly_pack.specs.Rows.{AreAllCellsOf, AreRising, Comb, IsComb, Used, comb_entry, given_to}
+use Rattle.ly_pack.specs.Rows.{AreAllCellsOf, AreRising, Comb, Counted, IsComb, Used, comb_entry, given_to}
 use Rattle.ly_pack.specs.declared.cell.Cell.{Cell}
 use Rattle.ly_pack.specs.declared.comb_rows.Slot.{Slot}
 
@@ -185,15 +185,16 @@ module _ {E : Type 0} (c : Comb E) where
           ];
         }
 
-  -- behind the last one
-  pub below_all : (k : ℕ) (lists : List (Vec (Cell E))) → length c.slots ≤ k → AreAllBelow c k lists
-      → AreAllCellsOf (comb_entry c) (length c.bases) c.width lists
-  below_all k lists past so = record {
-    count = so.count;
+  -- behind the last one, where these lists are counted
+  pub below_all : (k : ℕ) (lists : List (Vec (Cell E))) (counted : List (Counted E))
+      → map (λ (v : Counted E). v.value) counted ≡ lists → length c.slots ≤ k → AreAllBelow c k lists
+      → AreAllCellsOf (comb_entry c) (length c.bases) c.width counted
+  below_all k lists counted same past so = record {
+    count = sym (length-map counted (λ (v : Counted E). v.value)) ∙ ap length same ∙ so.count;
     each = λ row cells at.
-        let lt = slice_get_within lists row cells at in
-        let based = some_at c.bases row (omega (arith, lt, so.count)) in
-        let was = so.each row based.0 cells at based.1 in
+        let there = listed row cells at in
+        let based = based_at row cells.value there in
+        let was = so.each row based.0 cells.value there based.1 in
         record {
           rising = was.rising;
           sound = λ x has. (was.sound x has).0;
@@ -202,12 +203,24 @@ module _ {E : Type 0} (c : Comb E) where
               was.whole column e (omega (arith, small, past)) is;
         };
     within = λ row cells at j d lt.
-        let small = slice_get_within lists row cells at in
-        let based = some_at c.bases row (omega (arith, small, so.count)) in
-        let x = get_or cells.items j d in
-        comb_wide row x.column x.entry ((so.each row based.0 cells at based.1).sound x
-        (Contains-get_or cells.items j d lt)).0;
+        let there = listed row cells at in
+        let based = based_at row cells.value there in
+        let x = get_or cells.value.items j d in
+        comb_wide row x.column x.entry ((so.each row based.0 cells.value there based.1).sound x
+        (Contains-get_or cells.value.items j d lt)).0;
   }
+    where
+      listed : (row : ℕ) (cells : Counted E) → slice_get counted row ≡ Some cells
+          → slice_get lists row ≡ Some cells.value
+      listed row cells at = ap (λ ls. slice_get ls row) (sym same)
+          ∙ slice_get-map (λ (v : Counted E). v.value) counted row
+          ∙ ap (option_map (λ (v : Counted E). v.value)) at
+
+      based_at : (row : ℕ) (cells : Vec (Cell E)) → slice_get lists row ≡ Some cells
+          → (base : ℕ) × (slice_get c.bases row ≡ Some base)
+      based_at row cells there =
+          let lt = slice_get_within lists row cells there in
+          some_at c.bases row (omega (arith, lt, so.count))
 
 -- what a slot says that is read
 module _ {E : Type 0} (width : ℕ) (bases : List ℕ) (slots items : List (Option (Slot E))) (c : Comb E)

@@ -1,9 +1,8 @@
 -- Rows as lists, and what a write to one of them changes.
-use Rattle.std.proofs.Common.{◌≡◌, ◌≢◌, ◌∙◌, ◌<◌, ◌≤◌, ◌∷◌, [], ◌&&◌, ℕ, suc, List, length, map, Option, None, Some}
+use Rattle.std.proofs.Common.{◌≡◌, ◌≢◌, ◌∙◌, ◌-◌, ◌<◌, ◌≤◌, ◌∷◌, [], ◌&&◌, ℕ, suc, List, length, map, Option, None, Some}
 use Rattle.std.proofs.Common.{slice_index_or, slice_set}
 use Rattle.std.proofs.Common.{refl, sym, ap, ap₂, subst, arith, inl, inr, slice_get, set, nat_eq, Bool, All}
 use Rattle.std.specs.Prelude.{option_and_then, option_map, if◌then◌else◌, replicate}
-use Rattle.std.specs.Global.{Vec}
 use Rattle.std.proofs.lemmas.Bool.{and_left, cases_Bool, cases_lt, cond-false, eqb-false, eqb-true}
 use Rattle.std.proofs.lemmas.Bool.{ne_eqb}
 use Rattle.std.proofs.lemmas.List.{get_or-replicate, length-map, length-replicate, length-set, map-set}
@@ -12,7 +11,8 @@ use Rattle.std.proofs.lemmas.List.Elements.{All-set, All-replicate}
 use Rattle.std.proofs.lemmas.Option.{slice_get-get_or, slice_get-map, slice_get_past, slice_get_read}
 use Rattle.ly_base.proofs.CellLemmas.{slice_get-set_other, slice_get-set_same}
 use Rattle.ly_base.proofs.ListLemmas.{All-at, some_at}
-use Rattle.ly_pack.specs.Rows.{AreAllCellsOf, AreCellsOf, AreRising, Dense, IsDense, dense_entry, dense_of, entry_in}
+use Rattle.ly_pack.specs.Rows.{AreAllCellsOf, AreCellsOf, AreRising, Counted, Dense, IsDense, dense_entry, dense_of}
+use Rattle.ly_pack.specs.Rows.{entry_in}
 use Rattle.ly_pack.specs.declared.cell.Cell.{Cell}
 use Rattle.ly_pack.proofs.CellLemmas.{cells_are}
 
@@ -116,110 +116,118 @@ dense_entry-none {E} rows row column d is = elim (cases_lt row rows) [
       )))
 ]
 
--- the rows that are kept in vectors, of which one is read and written
-module _ {E : Type 0} (width : ℕ) (lists : List (Vec (Cell E))) (row : ℕ) (old : Vec (Cell E)) (d : Dense E)
+-- the row before one that is there is there
+pub before_small : {E : Type 0} (width : ℕ) (lists : List (Counted E)) (row : ℕ) (d : Dense E)
+    → dense_of width lists ≡ d → row < d.rows → row - 1 < length lists
+before_small {E} width lists row d view small =
+    let lt = subst (λ (x : Dense E). row < x.rows) (sym view) small in
+    omega (arith, lt)
+
+-- the rows that are kept in lists, of which one is read and written
+module _ {E : Type 0} (width : ℕ) (lists : List (Counted E)) (row : ℕ) (old : Counted E) (d : Dense E)
     (view : dense_of width lists ≡ d) (so : IsDense (dense_of width lists)) (small : row < d.rows)
     (read : old ≡ slice_index_or lists row old) where
   lt : row < length lists
   lt = subst (λ (x : Dense E). row < x.rows) (sym view) small
 
-  at : slice_get (map (λ (v : Vec (Cell E)). v.items) lists) row ≡ Some old.items
-  at = slice_get-map (λ (v : Vec (Cell E)). v.items) lists row
-      ∙ ap (option_map (λ (v : Vec (Cell E)). v.items)) (slice_get_read lists (length lists) row old refl lt read)
+  at : slice_get (map (λ (v : Counted E). v.value.items) lists) row ≡ Some old.value.items
+  at = slice_get-map (λ (v : Counted E). v.value.items) lists row
+      ∙ ap (option_map (λ (v : Counted E). v.value.items)) (slice_get_read lists (length lists) row old refl lt read)
 
-  pub read_are : AreCellsOf (dense_entry d row) old.items
-  read_are = subst (λ (x : Dense E). AreCellsOf (dense_entry x row) old.items) view
-      (row_are (dense_of width lists) so row old.items at)
+  pub read_are : AreCellsOf (dense_entry d row) old.value.items
+  read_are = subst (λ (x : Dense E). AreCellsOf (dense_entry x row) old.value.items) view
+      (row_are (dense_of width lists) so row old.value.items at)
 
-  pub read_rising : AreRising old.items
+  pub read_rising : AreRising old.value.items
   read_rising = read_are.rising
 
-  pub read_within : All (λ c. c.column < width) old.items
-  read_within = All-at (All (λ (c : Cell E). c.column < width)) (dense_of width lists).lists row old.items so.within at
+  pub read_within : All (λ c. c.column < width) old.value.items
+  read_within = All-at (All (λ (c : Cell E). c.column < width)) (dense_of width lists).lists row old.value.items
+      so.within at
 
-  pub entry_read : (t : ℕ) → entry_in old.items t ≡ dense_entry d row t
-  entry_read t = sym (dense_entry-at (dense_of width lists) row t old.items at)
+  pub entry_read : (t : ℕ) → entry_in old.value.items t ≡ dense_entry d row t
+  entry_read t = sym (dense_entry-at (dense_of width lists) row t old.value.items at)
       ∙ ap (λ (x : Dense E). dense_entry x row t) view
 
-  module _ (new : Vec (Cell E)) where
+  module _ (new : Counted E) where
     abbrev pub written : Dense E
     written = dense_of width (slice_set lists row new)
 
     many : row < length (dense_of width lists).lists
-    many = omega (arith, lt, length-map lists (λ (v : Vec (Cell E)). v.items))
+    many = omega (arith, lt, length-map lists (λ (v : Counted E). v.value.items))
 
     written_is : written ≡ record {
       rows = length lists;
       width = width;
-      lists = slice_set (map (λ (v : Vec (Cell E)). v.items) lists) row new.items;
+      lists = slice_set (map (λ (v : Counted E). v.value.items) lists) row new.value.items;
     }
     written_is = ap₂ (λ (n : ℕ) (ls : List (List (Cell E))). let x : Dense E = record {
       rows = n;
       width = width;
       lists = ls;
-    } in x) (length-set lists row new) (map-set (λ (v : Vec (Cell E)). v.items) lists row new)
+    } in x) (length-set lists row new) (map-set (λ (v : Counted E). v.value.items) lists row new)
 
     -- the same cells, with more room
-    pub dense_still : new.items ≡ old.items → written ≡ d
+    pub dense_still : new.value.items ≡ old.value.items → written ≡ d
     dense_still is =
-        let same = map-set_same (λ (v : Vec (Cell E)). v.items) lists row new old
-        (is ∙ ap (λ (v : Vec (Cell E)). v.items) read) in
+        let same = map-set_same (λ (v : Counted E). v.value.items) lists row new old
+        (is ∙ ap (λ (v : Counted E). v.value.items) read) in
         ap₂ (λ (n : ℕ) (ls : List (List (Cell E))). let x : Dense E = record {
           rows = n;
           width = width;
           lists = ls;
         } in x) (length-set lists row new) same ∙ view
 
-    pub is_dense-written : AreRising new.items → All (λ c. c.column < width) new.items → IsDense written
+    pub is_dense-written : AreRising new.value.items → All (λ c. c.column < width) new.value.items → IsDense written
     is_dense-written rising within = subst IsDense (sym written_is)
-        (is_dense-after (dense_of width lists) row old.items new.items at many so rising within)
+        (is_dense-after (dense_of width lists) row old.value.items new.value.items at many so rising within)
 
-    pub dense_entry-written : (t : ℕ) → dense_entry written row t ≡ entry_in new.items t
+    pub dense_entry-written : (t : ℕ) → dense_entry written row t ≡ entry_in new.value.items t
     dense_entry-written t = ap (λ (x : Dense E). dense_entry x row t) written_is
-        ∙ dense_entry-after (dense_of width lists) row old.items new.items at many t
+        ∙ dense_entry-after (dense_of width lists) row old.value.items new.value.items at many t
 
     pub dense_entry-unwritten : (r t : ℕ) → r ≢ row → dense_entry written r t ≡ dense_entry d r t
     dense_entry-unwritten r t other = ap (λ (x : Dense E). dense_entry x r t) written_is
-        ∙ dense_entry-other (dense_of width lists) row old.items new.items at many r t other
+        ∙ dense_entry-other (dense_of width lists) row old.value.items new.value.items at many r t other
         ∙ ap (λ (x : Dense E). dense_entry x r t) view
 
-    pub dense_entry-put : (column : ℕ) (entry : Option E) → ((t : ℕ) → entry_in new.items t
-        ≡ (if nat_eq t column then entry else entry_in old.items t)) → (r c : ℕ) → dense_entry written r c
+    pub dense_entry-put : (column : ℕ) (entry : Option E) → ((t : ℕ) → entry_in new.value.items t
+        ≡ (if nat_eq t column then entry else entry_in old.value.items t)) → (r c : ℕ) → dense_entry written r c
         ≡ (if nat_eq r row && nat_eq c column then entry else dense_entry d r c)
     dense_entry-put column entry is r c = ap (λ (x : Dense E). dense_entry x r c) written_is
-        ∙ dense_entry-set (dense_of width lists) row old.items new.items at many column entry is r c
+        ∙ dense_entry-set (dense_of width lists) row old.value.items new.value.items at many column entry is r c
         ∙ ap (λ (x : Dense E). if nat_eq r row && nat_eq c column then entry else dense_entry x r c) view
 
 -- all lists
-pub all_cells : {E : Type 0} (width : ℕ) (lists : List (Vec (Cell E))) (d : Dense E) → dense_of width lists ≡ d
+pub all_cells : {E : Type 0} (width : ℕ) (lists : List (Counted E)) (d : Dense E) → dense_of width lists ≡ d
     → IsDense (dense_of width lists) → AreAllCellsOf (dense_entry d) d.rows d.width lists
 all_cells {E} width lists d view so = record {
   count = ap (λ (x : Dense E). x.rows) view;
-  each = λ row cells at. subst (λ (x : Dense E). AreCellsOf (dense_entry x row) cells.items) view
-      (row_are (dense_of width lists) so row cells.items (there row cells at));
-  within = λ row cells at. subst (λ (x : Dense E). All (λ (c : Cell E). c.column < x.width) cells.items) view
-      (All-at (All (λ (c : Cell E). c.column < width)) (dense_of width lists).lists row cells.items so.within
+  each = λ row cells at. subst (λ (x : Dense E). AreCellsOf (dense_entry x row) cells.value.items) view
+      (row_are (dense_of width lists) so row cells.value.items (there row cells at));
+  within = λ row cells at. subst (λ (x : Dense E). All (λ (c : Cell E). c.column < x.width) cells.value.items) view
+      (All-at (All (λ (c : Cell E). c.column < width)) (dense_of width lists).lists row cells.value.items so.within
       (there row cells at));
 }
   where
-    there : (row : ℕ) (cells : Vec (Cell E)) → slice_get lists row ≡ Some cells
-        → slice_get (dense_of width lists).lists row ≡ Some cells.items
-    there row cells at = slice_get-map (λ (v : Vec (Cell E)). v.items) lists row
-        ∙ ap (option_map (λ (v : Vec (Cell E)). v.items)) at
+    there : (row : ℕ) (cells : Counted E) → slice_get lists row ≡ Some cells
+        → slice_get (dense_of width lists).lists row ≡ Some cells.value.items
+    there row cells at = slice_get-map (λ (v : Counted E). v.value.items) lists row
+        ∙ ap (option_map (λ (v : Counted E). v.value.items)) at
 
 -- a list that is there, and one that isn't
-module _ {E : Type 0} (width : ℕ) (lists : List (Vec (Cell E))) (d : Dense E) (view : dense_of width lists ≡ d)
+module _ {E : Type 0} (width : ℕ) (lists : List (Counted E)) (d : Dense E) (view : dense_of width lists ≡ d)
     (so : IsDense (dense_of width lists)) (row : ℕ) where
-  module _ (v : Vec (Cell E)) (at : slice_get lists row ≡ Some v) where
-    there : slice_get (dense_of width lists).lists row ≡ Some v.items
-    there = slice_get-map (λ (w : Vec (Cell E)). w.items) lists row
-        ∙ ap (option_map (λ (w : Vec (Cell E)). w.items)) at
+  module _ (v : Counted E) (at : slice_get lists row ≡ Some v) where
+    there : slice_get (dense_of width lists).lists row ≡ Some v.value.items
+    there = slice_get-map (λ (w : Counted E). w.value.items) lists row
+        ∙ ap (option_map (λ (w : Counted E). w.value.items)) at
 
-    pub list_rising : AreRising v.items
-    list_rising = All-at AreRising (dense_of width lists).lists row v.items so.rising there
+    pub list_rising : AreRising v.value.items
+    list_rising = All-at AreRising (dense_of width lists).lists row v.value.items so.rising there
 
-    pub list_entry : (t : ℕ) → entry_in v.items t ≡ dense_entry d row t
-    list_entry t = sym (dense_entry-at (dense_of width lists) row t v.items there)
+    pub list_entry : (t : ℕ) → entry_in v.value.items t ≡ dense_entry d row t
+    list_entry t = sym (dense_entry-at (dense_of width lists) row t v.value.items there)
         ∙ ap (λ (x : Dense E). dense_entry x row t) view
 
   pub list_none : length lists ≤ row → (t : ℕ) → None ≡ dense_entry d row t

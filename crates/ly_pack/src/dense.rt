@@ -137,17 +137,7 @@ fn no_lists<E: Copy>(alloc: Global, rows: usize) -> Result<Vec<Rc<Vec<Cell<E>>>>
     Ok(lists)
 }
 
-/// Gives a row a list of its own, where another row has it too.
-fn make_own<E: Copy>(alloc: Global, row: &mut Rc<Vec<Cell<E>>>) -> Result<(), AllocError>
-    ensures { row.new.value.items ≡ row.old.value.items }
-{
-    if Rc::strong_count(row) != 1 {
-        *row = Rc::new(alloc, Vec::from_slice(alloc, row)?)?;
-    }
-    Ok(())
-}
-
-/// Makes room for so many more entries of a row, in a list of its own.
+/// Makes room for so many more entries of a row: in a list of its own, where another row has the same.
 fn reserve_own<E: Copy>(
     alloc: Global,
     row: &mut Rc<Vec<Cell<E>>>,
@@ -155,14 +145,16 @@ fn reserve_own<E: Copy>(
 ) -> Result<(), AllocError>
     ensures { row.new.value.items ≡ row.old.value.items }
 {
-    make_own(alloc, row)?;
-    match Rc::get_mut(row) {
-        Some(cells) => cells.reserve(more),
-        None => Err(AllocError),
+    if let Some(cells) = Rc::get_mut(row) {
+        return cells.reserve(more);
     }
+    let mut cells = Vec::from_slice(alloc, row)?;
+    cells.reserve(more)?;
+    *row = Rc::new(alloc, cells)?;
+    Ok(())
 }
 
-/// Puts an entry, or none, into a column of a row, in a list of its own.
+/// Puts an entry, or none, into a column of a row: into a list of its own, where another row has the same.
 fn put_own<E: Copy>(
     alloc: Global,
     row: &mut Rc<Vec<Cell<E>>>,
@@ -174,14 +166,16 @@ fn put_own<E: Copy>(
     ensures entries { OnOk result ((t : ℕ) → entry_in row.new.value.items t
         ≡ (if nat_eq t column then entry else entry_in row.old.value.items t)) }
 {
-    make_own(alloc, row)?;
-    match Rc::get_mut(row) {
-        Some(cells) => put(cells, column, entry),
-        None => Err(AllocError),
+    if let Some(cells) = Rc::get_mut(row) {
+        return put(cells, column, entry);
     }
+    let mut cells = Vec::from_slice(alloc, row)?;
+    put(&mut cells, column, entry)?;
+    *row = Rc::new(alloc, cells)?;
+    Ok(())
 }
 
-/// Takes the reductions by a rule out of a row, in a list of its own.
+/// Takes the reductions by a rule out of a row: out of a list of its own, where another row has the same.
 fn leave_out_own(
     alloc: Global,
     row: &mut Rc<Vec<Cell<TableAction>>>,
@@ -191,14 +185,21 @@ fn leave_out_own(
         ≡ filter (λ c. not (is_by rule.0 (Some (action_from c.entry)))) row.old.value.items) }
     ensures err { OnErr result (row.new.value.items ≡ row.old.value.items) }
 {
-    make_own(alloc, row)?;
-    match Rc::get_mut(row) {
-        Some(cells) => {
-            cells.retain(|cell| !reduces_by(cell.entry, rule));
-            Ok(())
-        }
-        None => Err(AllocError),
+    if let Some(cells) = Rc::get_mut(row) {
+        drop_by(cells, rule);
+        return Ok(());
     }
+    let mut cells = Vec::from_slice(alloc, row)?;
+    drop_by(&mut cells, rule);
+    *row = Rc::new(alloc, cells)?;
+    Ok(())
+}
+
+/// Takes the reductions by a rule out of these cells.
+fn drop_by(cells: &mut Vec<Cell<TableAction>>, rule: RuleNo)
+    ensures { cells.new.items ≡ filter (λ c. not (is_by rule.0 (Some (action_from c.entry)))) cells.old.items }
+{
+    cells.retain(|cell| !reduces_by(cell.entry, rule));
 }
 
 /// Puts an entry, or none, into a column of a row.

@@ -4,6 +4,7 @@ pub mod DefaultLemmas
 pub mod ExactLemmas
 pub mod FoundLemmas
 pub mod KeptLemmas
+pub mod KeptRunLemmas
 pub mod MeetingLemmas
 pub mod NextLemmas
 pub mod RawLemmas

@@ -1,5 +1,5 @@
-ghost use Rattle.std.specs.Prelude.{◌≡◌, ◌↔◌, ◌++◌, [], ◌∷◌, length, slice_get, count_by, IsTrue, OnOk};
-ghost use Rattle.ly_resolve.specs.Private.Conflicts.{end_from, items_from, AreRuns, GoesOn, IsPlace};
+ghost use Rattle.std.specs.Prelude.{◌≡◌, ◌≤◌, ◌↔◌, ◌++◌, [], ◌∷◌, length, slice_get, count_by, IsTrue, OnOk};
+ghost use Rattle.ly_resolve.specs.Private.Conflicts.{before, end_from, items_from, AreRuns, GoesOn, IsPlace};
 ghost use Rattle.ly_resolve.specs.Values.{same_kind};
 
 use crate::conflict::{Conflict, ConflictKind};
@@ -50,7 +50,9 @@ impl Conflicts {
     pub(crate) fn push(&mut self, conflict: Conflict) -> Result<(), AllocError>
         ensures { OnOk result (self.new ≡ self.old ++ conflict ∷ []) }
     {
-        let end = end_of(&self.runs).checked_add(1).ok_or(AllocError)?;
+        let Some(end) = end_of(&self.runs).checked_add(1) else {
+            return Err(AllocError);
+        };
         let run = Run {
             last: conflict,
             end,
@@ -188,10 +190,16 @@ fn conflict_at(runs: &[Run], place: usize, index: usize) -> Option<Conflict>
     ensures { result ≡ slice_get (items_from 0 runs.now) index }
 {
     let run = runs.get(place)?;
-    // the conflicts of a run end with its last one
-    let behind = run.end - 1 - index;
-    Some(Conflict {
-        terminal: Sym(run.last.terminal.0 - behind as u32),
-        ..run.last
-    })
+    Some(earlier(run.last, run.end - 1 - index))
+}
+
+/// The conflict that differs from another in the terminal alone, which is so many before.
+fn earlier(conflict: Conflict, count: usize) -> Conflict
+    requires { count ≤ conflict.terminal.0 }
+    ensures { result ≡ before count conflict }
+{
+    Conflict {
+        terminal: Sym(conflict.terminal.0 - count as u32),
+        ..conflict
+    }
 }

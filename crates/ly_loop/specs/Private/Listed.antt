@@ -4,14 +4,14 @@ use Rattle.std.specs.Global.{Vec}
 use Rattle.ly_base.specs.declared.numbers.RuleNo.{RuleNo}
 use Rattle.ly_base.specs.declared.numbers.StateNo.{StateNo}
 use Rattle.ly_pack.specs.Machine.{Machine}
+use Rattle.ly_pack.specs.Rows.{Counted}
 use Rattle.ly_pack.specs.declared.action.TableAction.{TableAction}
-use Rattle.ly_pack.specs.declared.cell.Cell.{Cell}
 use Rattle.ly_loop.specs.Private.Entries.{AreAllEntries, AreAllGotos}
 use Rattle.ly_loop.specs.Private.Reductions.{AreAllReductions}
 use Rattle.ly_loop.specs.Private.Run.{IsCountable}
 
 -- The machine can be counted, and these are the entries, the gotos and the rules of reductions of its states.
-pub record IsListed (m : Machine) (entries : List (Vec (Cell TableAction))) (gotos : List (Vec (Cell StateNo)))
+pub record IsListed (m : Machine) (entries : List (Counted TableAction)) (gotos : List (Counted StateNo))
     (reductions : List (Vec RuleNo)) : Type 0
   where
     pub countable : IsCountable m

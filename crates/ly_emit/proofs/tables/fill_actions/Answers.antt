@@ -1,4 +1,4 @@
-use Rattle.std.proofs.Common.{◌≡◌, ◌∙◌, Some, ap, arith, inl, inr, map, refl, slice_get, slice_index_or}
+use Rattle.std.proofs.Common.{◌≡◌, ◌∙◌, ◌+◌, Some, ap, arith, inl, inr, map, refl, slice_get, slice_index_or}
 use Rattle.std.proofs.Common.{subst, sym}
 use Rattle.std.proofs.lemmas.Bool.{cases_eq}
 use Rattle.std.proofs.lemmas.List.{length-map}
@@ -26,8 +26,8 @@ loop-entry-init c = record {
   seen = λ j x lt. absurd (omega (arith, lt));
 }
 
-pub table_action-requires-clause-shifted : goal.table_action-requires-clause-shifted
-table_action-requires-clause-shifted c =
+pub table_action-action-requires-clause-shifted : goal.table_action-action-requires-clause-shifted
+table_action-action-requires-clause-shifted c =
     let M = c.args.resolved.now.automaton in
     let judge = judge_of c.args.resolved.now.spec in
     let row = c.args.row.now in
@@ -62,7 +62,7 @@ loop-entry-preserved c =
     let i = c.loop-entry.entry-index in
     let x = slice_index_or row i (record { terminal = record { 0 = 0 }; action = Shift }) in
     let t = x.terminal.0 in
-    let a = c.in_ok-action.action in
+    let a = c.table_action-action.result in
     let inv = c.loop-entry.invariant in
     let old = dense_entry c.loop-entry.actions in
     let new = dense_entry c.set.new.self in
@@ -70,7 +70,7 @@ loop-entry-preserved c =
     M.grammar judge (prefix_of M k) c.requires.row in
     let is_entry : IsEntryFor M k t (action_from x.action) (entry_action a)
     = subst (λ N. IsEntryFor N k t (action_from x.action) (entry_action a)) c.lr0.ensures.these
-    c.in_ok-action.ensures in
+    c.table_action-action.ensures in
     let put = c.in_ok-set.ensures.entries in
     record {
       rows = c.set.ensures.rows ∙ inv.rows;
@@ -97,11 +97,12 @@ returns-clause-filled c =
     let row = c.args.row.now in
     let inv = c.loop-entry.invariant in
     let past = c.loop-entry-test.false in
-    filled_more (IsActionAt M judge) (IsAskedAt M) (dense_entry c.loop-entry.actions) k inv.filled (λ t none asked.
+    subst (λ d. AreActionsTo M judge (k + 1) (dense_entry d)) (sym c.share.ensures)
+    (filled_more (IsActionAt M judge) (IsAskedAt M) (dense_entry c.loop-entry.actions) k inv.filled (λ t none asked.
     let b = c.requires.row.whole t asked.0 asked.1 in
     let place = placed (map terminal_action_from row) (record { terminal = t; action = b.0 })
     ((c.requires.row.are (record { terminal = t; action = b.0 })).1 b.1) in
     let within
     = slice_get_within (map terminal_action_from row) place.0 (record { terminal = t; action = b.0 }) place.1 in
     let long = length-map row terminal_action_from in
-    inv.seen place.0 (record { terminal = t; action = b.0 }) (omega (arith, within, long, past)) place.1 none)
+    inv.seen place.0 (record { terminal = t; action = b.0 }) (omega (arith, within, long, past)) place.1 none))

@@ -15,8 +15,8 @@ pub set-requires-clause-column : goal.set-requires-clause-column
 set-requires-clause-column c =
     let M = c.args.lr0.now in
     let k = c.args.state.0 in
-    let goes = led_at M c.requires.lawful k c.requires.state c.transitions-transition-items.result.now
-    c.transitions-transition-items.ensures c.loop-transition.transition-index c.in-Nonterminal.left.0
+    let goes = led_at M c.requires.lawful k c.requires.state c.gotos-transition-items.result.now
+    c.gotos-transition-items.ensures c.loop-transition.transition-index c.in-Nonterminal.left.0
     c.loop-transition-test.true (ap symbol_of c.in-Nonterminal.is) in
     let lt = led_within M c.requires.lawful k c.requires.state c.in-Nonterminal.left.0 _ goes in
     let now = c.loop-transition.invariant.width in
@@ -27,7 +27,7 @@ pub loop-transition-preserved : goal.loop-transition-preserved
 loop-transition-preserved c =
     let M = c.args.lr0.now in
     let k = c.args.state.0 in
-    let ts = c.transitions-transition-items.result.now in
+    let ts = c.gotos-transition-items.result.now in
     let i = c.loop-transition.transition-index in
     let t = slice_index_or ts i nowhere in
     let inv = c.loop-transition.invariant in
@@ -43,7 +43,7 @@ loop-transition-preserved c =
             rows = ap (λ d. d.rows) w.gotos-is ∙ w.set.ensures.rows ∙ inv.rows;
             width = ap (λ d. d.width) w.gotos-is ∙ w.set.ensures.width ∙ inv.width;
             filled = put_filled old new k A t.target put (IsGotoAt M) (IsLedAt M) k
-                (led_at M c.requires.lawful k c.requires.state ts c.transitions-transition-items.ensures i A
+                (led_at M c.requires.lawful k c.requires.state ts c.gotos-transition-items.ensures i A
                 c.loop-transition-test.true named) inv.filled;
             seen = λ j B lt is none. let before = put_none old new k A t.target put k B none in
                 elim (cases_eq j i) [
@@ -77,7 +77,7 @@ returns-clause-filled c =
     let inv = c.loop-transition.invariant in
     let past = c.loop-transition-test.false in
     filled_more (IsGotoAt M) (IsLedAt M) (dense_entry c.loop-transition.gotos) k inv.filled (λ A none led.
-    let found = found_at M c.requires.lawful k c.requires.state c.transitions-transition-items.result.now
-    c.transitions-transition-items.ensures A led.0 led.1 in
+    let found = found_at M c.requires.lawful k c.requires.state c.gotos-transition-items.result.now
+    c.gotos-transition-items.ensures A led.0 led.1 in
     let within = found.1 in
     inv.seen found.0 A (omega (arith, within, past)) found.2 none)

@@ -32,7 +32,7 @@ loop-state-preserved c =
           c.take_out.ensures.width
           (subst (λ s. (t : ℕ) → dense_entry c.take_out.new.actions s t
           ≡ out_by c.most_frequent-default.result (dense_entry c.loop-state.actions s t)) (sym so.states)
-          c.take_out.ensures.row)
+          c.in_ok-take_out.ensures.row)
           (subst (λ s. (r t : ℕ) → r ≢ s → dense_entry c.take_out.new.actions r t
           ≡ dense_entry c.loop-state.actions r t) (sym so.states) c.take_out.ensures.others)
           (subst (λ s. IsChosen (reductions (dense_entry c.loop-state.actions) c.loop-state.actions.width s)

@@ -13,14 +13,16 @@ push_doubtful-requires-clause-targets g c =
     let m = c.args.self.now in
     let listed = subst (λ n. IsListed n c.self.inside.entries.now c.self.inside.gotos.now c.self.inside.reductions.now)
     c.self.view_is c.self.invariant in
-    subst (AreTargets m c.loop-number.number) (sym c.deref-in-loop-number-2.ensures.value)
+    subst (AreTargets m c.loop-number.number) (sym c.deref-in-loop-number-4.ensures.value)
     (targets_at m c.self.inside.entries.now c.self.inside.gotos.now c.loop-number.number
-    c.index-self-number.result c.index-self-number-in-loop-number.result c.deref.result.now
-    c.deref-in-loop-number.result.now c.targets.new.targets.items listed.entries_are listed.gotos_are
+    c.index-self-number.result c.index-self-number-in-loop-number.result c.deref-in-loop-number.result.now
+    c.deref-in-loop-number-3.result.now c.targets.new.targets.items listed.entries_are listed.gotos_are
     (omega (arith, c.loop-number-test.true, ap states_of c.self.view_is, c.states-number-end.ensures.count))
     c.index-self-number.is c.index-self-number-in-loop-number.is
-    (c.deref.ensures.value ∙ ap (λ v. v.items) (sym c.index-self-number.is))
-    (c.deref-in-loop-number.ensures.value ∙ ap (λ v. v.items) (sym c.index-self-number-in-loop-number.is))
+    (c.deref-in-loop-number.ensures.value ∙ ap (λ v. v.items) c.deref.ensures
+    ∙ ap (λ r. r.value.items) (sym c.index-self-number.is))
+    (c.deref-in-loop-number-3.ensures.value ∙ ap (λ v. v.items) c.deref-in-loop-number-2.ensures
+    ∙ ap (λ r. r.value.items) (sym c.index-self-number-in-loop-number.is))
     c.in_ok-targets.ensures)
 
 pub loop-number-init : goal.loop-number-init
@@ -36,15 +38,17 @@ loop-number-preserved g c =
     c.self.view_is c.self.invariant in
     let n = c.loop-number.number in
     let below : StateNo = record { 0 = n } in
-    let targets = c.deref-in-loop-number-2.result.now in
-    let are = subst (AreTargets m n) (sym c.deref-in-loop-number-2.ensures.value)
+    let targets = c.deref-in-loop-number-4.result.now in
+    let are = subst (AreTargets m n) (sym c.deref-in-loop-number-4.ensures.value)
     (targets_at m c.self.inside.entries.now c.self.inside.gotos.now n
-    c.index-self-number.result c.index-self-number-in-loop-number.result c.deref.result.now
-    c.deref-in-loop-number.result.now c.targets.new.targets.items listed.entries_are listed.gotos_are
+    c.index-self-number.result c.index-self-number-in-loop-number.result c.deref-in-loop-number.result.now
+    c.deref-in-loop-number-3.result.now c.targets.new.targets.items listed.entries_are listed.gotos_are
     (omega (arith, c.loop-number-test.true, ap states_of c.self.view_is, c.states-number-end.ensures.count))
     c.index-self-number.is c.index-self-number-in-loop-number.is
-    (c.deref.ensures.value ∙ ap (λ v. v.items) (sym c.index-self-number.is))
-    (c.deref-in-loop-number.ensures.value ∙ ap (λ v. v.items) (sym c.index-self-number-in-loop-number.is))
+    (c.deref-in-loop-number.ensures.value ∙ ap (λ v. v.items) c.deref.ensures
+    ∙ ap (λ r. r.value.items) (sym c.index-self-number.is))
+    (c.deref-in-loop-number-3.ensures.value ∙ ap (λ v. v.items) c.deref-in-loop-number-2.ensures
+    ∙ ap (λ r. r.value.items) (sym c.index-self-number-in-loop-number.is))
     c.in_ok-targets.ensures) in
     record {
       known = c.in_ok-push_doubtful.ensures.known;

@@ -93,4 +93,5 @@ returns g c =
       length-map c.self.inside.slots.items (option_map used_from),
       ap (λ (x : Comb g.row.E.Denot). length x.slots) c.self.view_is,
     ) in
-    below_all c.args.self.now c.loop-place.place c.loop-place.lists.items past c.loop-place.invariant
+    below_all c.args.self.now c.loop-place.place c.loop-place.lists.items c.in_ok-counted.field-0.items
+    c.in_ok-counted.ensures past c.loop-place.invariant

@@ -12,7 +12,8 @@ entry_of-requires g c =
     let at : slice_get c.self.inside.lists.items c.args.row.0 ≡ Some c.in-Some.cells.now
     = ap (λ ls. slice_get ls c.args.row.0) (sym c.deref.ensures.value) ∙ slice_get_read vecs (length vecs) c.args.row.0
     c.in-Some.cells.now refl (ltb-true c.args.row.0 (length vecs) (sym found.0)) found.1 in
-    subst AreRising (sym c.deref-in-Some.ensures.value) (list_rising c.self.inside.width c.self.inside.lists.items
+    let cells = c.deref-in-Some-2.ensures.value ∙ ap (λ v. v.items) c.deref-in-Some.ensures in
+    subst AreRising (sym cells) (list_rising c.self.inside.width c.self.inside.lists.items
     c.args.self.now c.self.view_is c.self.invariant c.args.row.0 c.in-Some.cells.now at)
 
 pub returns-in-Some : goal.returns-in-Some
@@ -22,7 +23,8 @@ returns-in-Some g c =
     let at : slice_get c.self.inside.lists.items c.args.row.0 ≡ Some c.in-Some.cells.now
     = ap (λ ls. slice_get ls c.args.row.0) (sym c.deref.ensures.value) ∙ slice_get_read vecs (length vecs) c.args.row.0
     c.in-Some.cells.now refl (ltb-true c.args.row.0 (length vecs) (sym found.0)) found.1 in
-    c.entry_of.ensures ∙ ap (λ cs. entry_in cs c.args.column) c.deref-in-Some.ensures.value
+    let cells = c.deref-in-Some-2.ensures.value ∙ ap (λ v. v.items) c.deref-in-Some.ensures in
+    c.entry_of.ensures ∙ ap (λ cs. entry_in cs c.args.column) cells
     ∙ list_entry c.self.inside.width c.self.inside.lists.items c.args.self.now c.self.view_is c.self.invariant
     c.args.row.0 c.in-Some.cells.now at c.args.column
 
