@@ -1,6 +1,6 @@
 -- Conflicts that are kept as runs.
 use Rattle.std.proofs.Common.{◌≡◌, ◌∙◌, ◌+◌, ◌-◌, ◌<◌, ◌≤◌, ◌++◌, ◌∷◌, [], ℕ, zero, suc, Bool, true, false, List, Some}
-use Rattle.std.proofs.Common.{None, ap, ap₂, append-nil, append_assoc, arith, cond, length, refl, set, slice_index_or, subst, sym, take}
+use Rattle.std.proofs.Common.{ap, ap₂, append-nil, append_assoc, arith, cond, length, refl, set, slice_index_or, subst, sym, take}
 use Rattle.std.specs.Prelude.{count_by, option_map, slice_get}
 use Rattle.std.proofs.lemmas.List.{length-append, length_push}
 use Rattle.std.proofs.lemmas.List.Sums.{sum_by-append}
@@ -106,8 +106,13 @@ run_fits s (x ∷ rs) (suc k) r are is = run_fits x.end rs k r are.2 is
 pub items_length : (s : ℕ) (rs : List Run) → AreRuns s rs → length (items_from s rs) + s ≡ end_from s rs
 items_length s [] are = omega arith
 items_length s (r ∷ rs) are =
-    omega (arith, are.0, length-append (row_to r.last (r.end - s)) (items_from r.end rs), row_length r.last (r.end - s),
-    items_length r.end rs are.2)
+    omega (
+      arith,
+      are.0,
+      length-append (row_to r.last (r.end - s)) (items_from r.end rs),
+      row_length r.last (r.end - s),
+      items_length r.end rs are.2,
+    )
 
 -- a conflict by its index, and by its run
 pub item_at : (s : ℕ) (rs : List Run) (i k m : ℕ) → AreRuns s rs → s + m ≡ i → start_from s rs k ≤ i

@@ -1,5 +1,5 @@
 use Rattle.std.proofs.Common.{◌<◌, ◌-◌, arith, length, sym}
-use Rattle.std.proofs.lemmas.Option.{get_or_from_slice_get, slice_get-get_or}
+use Rattle.std.proofs.lemmas.Option.{slice_get-get_or}
 use Rattle.std.proofs.Common.{◌∙◌, ap, Some}
 use Rattle.ly_resolve.proofs.KeptRunLemmas.{end_last}
 use Rattle.ly_resolve.proofs.conflicts.end_of.Goals as goal
