@@ -1,6 +1,7 @@
 -- Conflicts that are kept as runs.
-use Rattle.std.proofs.Common.{◌≡◌, ◌∙◌, ◌+◌, ◌-◌, ◌<◌, ◌≤◌, ◌++◌, ◌∷◌, [], ℕ, zero, suc, Bool, true, false, List, Some}
-use Rattle.std.proofs.Common.{ap, ap₂, append-nil, append_assoc, arith, cond, length, refl, set, slice_index_or, subst, sym, take}
+use Rattle.std.proofs.Common.{◌≡◌, ◌∙◌, ◌+◌, ◌-◌, ◌<◌, ◌≤◌, ◌++◌, ◌∷◌, [], ℕ, zero, suc, Bool, true, false, List}
+use Rattle.std.proofs.Common.{Some, ap, ap₂, append-nil, append_assoc, arith, cond, length, refl, set}
+use Rattle.std.proofs.Common.{slice_index_or, subst, sym, take}
 use Rattle.std.specs.Prelude.{count_by, option_map, slice_get}
 use Rattle.std.proofs.lemmas.List.{length-append, length_push}
 use Rattle.std.proofs.lemmas.List.Sums.{sum_by-append}
@@ -56,6 +57,11 @@ row_at c (suc n) k (suc m) e =
     get_left (row_to (before 1 c) n) (c ∷ []) k (omega (arith, e, row_length (before 1 c) n))
     ∙ row_at (before 1 c) n k m (omega (arith, e))
     ∙ ap Some (before_same c 1 m (suc m) (omega arith))
+
+-- a run that was read at a place
+pub run_there : (rs : List Run) (k : ℕ) (r : Run) → (k < length rs) × ((d : Run) → r ≡ slice_index_or rs k d)
+    → slice_get rs k ≡ Some r
+run_there rs k r read = slice_get-get_or rs k r read.0 ∙ ap Some (sym (read.1 r))
 
 -- where runs begin and end
 pub start_none : (s : ℕ) (rs : List Run) → start_from s rs 0 ≡ s
