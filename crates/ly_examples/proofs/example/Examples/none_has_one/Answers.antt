@@ -12,7 +12,7 @@ loop-index-preserved c =
     let M = c.args.self.now.automaton in
     let indices = c.args.indices.now in
     let n = c.loop-index.index-index in
-    let told = conflict_from M c.in-Some.conflict.now in
+    let told = conflict_from M c.in-Some.conflict in
     let none = subst (IsAnswer M told c.args.bound) c.in-Merged.is c.in_ok-of.ensures in
     λ k i lt at.
     let le : k ≤ n = omega (arith, lt) in
