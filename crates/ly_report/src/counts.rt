@@ -6,7 +6,7 @@ ghost use Rattle.ly_report.specs.Counts.{AreCounts};
 ghost use Rattle.ly_report.specs.Report.{count_of, counts_line};
 
 use crate::line::push_decimal;
-use ly_resolve::{Conflict, ConflictKind, Resolved};
+use ly_resolve::{ConflictKind, Conflicts, Resolved};
 use std::alloc::AllocError;
 
 /// How many conflicts a specification has of each kind.
@@ -30,27 +30,17 @@ impl ConflictCounts {
     }
 
     /// The counts of these conflicts.
-    pub(crate) fn among(conflicts: &[Conflict]) -> ConflictCounts
+    pub(crate) fn among(conflicts: &Conflicts) -> ConflictCounts
         ensures shifts { result.shift_reduce
             ≡ count_of shift_reduce (map (λ c. kind_from c.kind) conflicts.now) }
         ensures reductions { result.reduce_reduce
             ≡ count_of reduce_reduce (map (λ c. kind_from c.kind) conflicts.now) }
     {
         ConflictCounts {
-            shift_reduce: count(conflicts, ConflictKind::ShiftReduce),
-            reduce_reduce: count(conflicts, ConflictKind::ReduceReduce),
+            shift_reduce: conflicts.count(ConflictKind::ShiftReduce),
+            reduce_reduce: conflicts.count(ConflictKind::ReduceReduce),
         }
     }
-}
-
-/// How many conflicts are of a kind.
-fn count(conflicts: &[Conflict], kind: ConflictKind) -> usize
-    ensures { result ≡ count_of (kind_from kind) (map (λ c. kind_from c.kind) conflicts.now) }
-{
-    conflicts
-        .iter()
-        .filter(|conflict| conflict.kind == kind)
-        .count()
 }
 
 /// Appends the line of a report that says how many conflicts there are of each kind.

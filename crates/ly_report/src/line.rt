@@ -9,7 +9,7 @@ ghost use Rattle.ly_report.specs.Report.{rule_text};
 ghost use Rattle.ly_report.specs.Private.Symbols.{IsNamed, IsTellable};
 
 use crate::name::{push_behind_spaces, push_spaced, push_symbol};
-use ly_base::{OutOfMemory, Sym};
+use ly_base::{OutOfMemory, RuleNo, Sym};
 use ly_join::{Spec, Symbol};
 use ly_lr0::Lr0;
 use ly_resolve::{Action, Conflict, ConflictKind};
@@ -95,13 +95,13 @@ fn kind_name(kind: ConflictKind) -> &'static [u8]
 }
 
 /// Appends what is chosen, and which rule isn't.
-fn push_choice(out: &mut Vec<u8>, choice: Action, rule: usize) -> Result<(), AllocError>
-    ensures { OnOk result (out.new.items ≡ out.old.items ++ choice_text (action_from choice) rule) }
+fn push_choice(out: &mut Vec<u8>, choice: Action, rule: RuleNo) -> Result<(), AllocError>
+    ensures { OnOk result (out.new.items ≡ out.old.items ++ choice_text (action_from choice) rule.0) }
 {
     out.extend_from_slice(b": ")?;
     push_action(out, choice)?;
     out.extend_from_slice(b", not rule ")?;
-    push_decimal(out, rule)?;
+    push_decimal(out, rule.0 as usize)?;
     out.push(b'\n')?;
     Ok(())
 }
@@ -114,7 +114,7 @@ fn push_action(out: &mut Vec<u8>, action: Action) -> Result<(), AllocError>
         Action::Shift => out.extend_from_slice(b"shift"),
         Action::Reduce(rule) => {
             out.extend_from_slice(b"rule ")?;
-            push_decimal(out, rule)
+            push_decimal(out, rule.0 as usize)
         }
         Action::Error => out.extend_from_slice(b"error"),
     }

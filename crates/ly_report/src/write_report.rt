@@ -15,7 +15,7 @@ use ly_grammar::Reduced;
 use ly_join::{Grammar, Spec};
 use ly_lr0::Lr0;
 use ly_print::{Sink, write_whole};
-use ly_resolve::{Conflict, Resolved};
+use ly_resolve::{Conflicts, Resolved};
 use std::alloc::{AllocError, Global};
 
 /// Writes the report of a specification: the rules that are removed, the counts of conflicts, and the conflicts by
@@ -102,15 +102,18 @@ fn push_conflicts(
     out: &mut Vec<u8>,
     spec: &Spec,
     lr0: &Lr0<'_>,
-    conflicts: &[Conflict],
+    conflicts: &Conflicts,
 ) -> Result<(), OutOfMemory>
     requires { All (IsTellable spec.now lr0.now) conflicts.now }
     ensures { OnOk result (out.new.items
         ≡ out.old.items ++ conflicts_text spec.now (map (conflict_from lr0.now) conflicts.now)) }
 {
     push_counts(out, &ConflictCounts::among(conflicts))?;
-    for conflict in conflicts {
-        push_conflict(alloc, out, spec, lr0, conflict)?;
+    let mut run = 0;
+    for index in 0..conflicts.len() {
+        if let Some(conflict) = conflicts.get_near(index, &mut run) {
+            push_conflict(alloc, out, spec, lr0, &conflict)?;
+        }
     }
     Ok(())
 }

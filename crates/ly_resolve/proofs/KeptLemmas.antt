@@ -24,7 +24,7 @@ same_action a b = (action.eq-value).it a b
 
 action_same : (a b : code.Action) → same_action a b ≡ true → a ≡ b
 action_same Shift Shift e = refl
-action_same (Reduce p) (Reduce q) e = ap (λ n. Reduce n) (eqb-true p q e)
+action_same (Reduce p) (Reduce q) e = ap (λ n. Reduce (record { 0 = n })) (eqb-true p.0 q.0 e)
 action_same Error Error e = refl
 action_same Shift (Reduce q) e = absurd (cc)
 action_same Shift Error e = absurd (cc)

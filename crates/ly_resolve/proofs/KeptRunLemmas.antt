@@ -1,6 +1,7 @@
 -- Conflicts that are kept as runs.
-use Rattle.std.proofs.Common.{◌≡◌, ◌∙◌, ◌+◌, ◌-◌, ◌<◌, ◌≤◌, ◌++◌, ◌∷◌, [], ℕ, zero, suc, Bool, true, false, List, Some}
-use Rattle.std.proofs.Common.{None, ap, ap₂, append-nil, append_assoc, arith, cond, length, refl, set, slice_index_or, subst, sym, take}
+use Rattle.std.proofs.Common.{◌≡◌, ◌∙◌, ◌+◌, ◌-◌, ◌<◌, ◌≤◌, ◌++◌, ◌∷◌, [], ℕ, zero, suc, Bool, true, false, List}
+use Rattle.std.proofs.Common.{Some, ap, ap₂, append-nil, append_assoc, arith, cond, length, refl, set}
+use Rattle.std.proofs.Common.{slice_index_or, subst, sym, take}
 use Rattle.std.specs.Prelude.{count_by, option_map, slice_get}
 use Rattle.std.proofs.lemmas.List.{length-append, length_push}
 use Rattle.std.proofs.lemmas.List.Sums.{sum_by-append}
@@ -57,6 +58,11 @@ row_at c (suc n) k (suc m) e =
     ∙ row_at (before 1 c) n k m (omega (arith, e))
     ∙ ap Some (before_same c 1 m (suc m) (omega arith))
 
+-- a run that was read at a place
+pub run_there : (rs : List Run) (k : ℕ) (r : Run) → (k < length rs) × ((d : Run) → r ≡ slice_index_or rs k d)
+    → slice_get rs k ≡ Some r
+run_there rs k r read = slice_get-get_or rs k r read.0 ∙ ap Some (sym (read.1 r))
+
 -- where runs begin and end
 pub start_none : (s : ℕ) (rs : List Run) → start_from s rs 0 ≡ s
 start_none s [] = refl
@@ -106,8 +112,13 @@ run_fits s (x ∷ rs) (suc k) r are is = run_fits x.end rs k r are.2 is
 pub items_length : (s : ℕ) (rs : List Run) → AreRuns s rs → length (items_from s rs) + s ≡ end_from s rs
 items_length s [] are = omega arith
 items_length s (r ∷ rs) are =
-    omega (arith, are.0, length-append (row_to r.last (r.end - s)) (items_from r.end rs), row_length r.last (r.end - s),
-    items_length r.end rs are.2)
+    omega (
+      arith,
+      are.0,
+      length-append (row_to r.last (r.end - s)) (items_from r.end rs),
+      row_length r.last (r.end - s),
+      items_length r.end rs are.2,
+    )
 
 -- a conflict by its index, and by its run
 pub item_at : (s : ℕ) (rs : List Run) (i k m : ℕ) → AreRuns s rs → s + m ≡ i → start_from s rs k ≤ i

@@ -2,16 +2,18 @@
 use Rattle.std.proofs.Common.{◌≡◌, ◌≢◌, ◌∙◌, ◌⊎◌, inl, inr, ℕ, ◌+◌, ◌<◌, ◌≤◌, List, [], ◌∷◌, ◌++◌, Bool, Some}
 use Rattle.std.proofs.Common.{Contains, ap, arith, length, refl, slice_get, slice_index_or, subst, sym}
 use Rattle.std.specs.Prelude.{option_and_then}
-use Rattle.std.specs.List.{AllPairs}
+use Rattle.std.specs.List.{AllPairs, filter}
 use Rattle.std.proofs.lemmas.Bool.{cases_eq, cases_order}
 use Rattle.std.proofs.lemmas.List.Elements.{Contains-append_cases, Contains-append_left, Contains-append_right}
+use Rattle.std.proofs.lemmas.List.Kept.{AllPairs-filter}
 use Rattle.std.proofs.lemmas.Option.{get_or_from_slice_get, slice_get_within}
 use Rattle.ly_base.proofs.ListLemmas.{AllPairs-append}
 use Rattle.ly_base.proofs.MemberLemmas.{Contains-first, Contains-none, Contains-one}
 use Rattle.ly_join.proofs.ListLemmas.{member_at, placed}
+use Rattle.ly_join.proofs.NumberingLemmas.{filter_in, in_filter}
 use Rattle.ly_join.specs.Grammar.{Symbol, nonterminal, terminal}
 use Rattle.ly_lr0.specs.Automaton.{IsLess, IsLr0Automaton, Lr0Automaton, Transition, goto_of, prefix_of, state_at}
-use Rattle.ly_lr0.specs.Automaton.{target_of}
+use Rattle.ly_lr0.specs.Automaton.{is_shift, target_of}
 use Rattle.ly_lr0.proofs.StateLemmas.{state_there, target_at, target_some}
 use Rattle.ly_resolve.specs.Actions.{Action, Judge, IsAction, IsRaw, Verdict, error, reduce, shift}
 use Rattle.ly_resolve.specs.Conflicts.{Conflict, CountsAs, Kind, reduce_reduce, shift_reduce}
@@ -45,6 +47,9 @@ module _ (M : Lr0Automaton) (is : IsLr0Automaton M) (s : ℕ) (lt : s < length M
   abbrev pub transitions : List Transition
   transitions = (state_at M s).transitions
 
+  abbrev pub shifts : List Transition
+  shifts = filter is_shift transitions
+
   ordered : AllPairs (λ x y. IsLess x.symbol y.symbol) transitions
   ordered = (is.each s (state_at M s) (state_there M s lt)).ordered
 
@@ -52,26 +57,28 @@ module _ (M : Lr0Automaton) (is : IsLr0Automaton M) (s : ℕ) (lt : s < length M
   by_state X = ap (option_and_then (λ q. target_of q.transitions X)) (state_there M s lt)
 
   -- a transition leads where it says
-  leads : (k t r : ℕ) → slice_get transitions k ≡ Some (over t r) → goto_of M s (terminal t) ≡ Some r
+  leads : (k t r : ℕ) → slice_get shifts k ≡ Some (over t r) → goto_of M s (terminal t) ≡ Some r
   leads k t r at = by_state (terminal t)
-      ∙ target_at transitions ordered (over t r) (member_at transitions k (over t r) at)
+      ∙ target_at transitions ordered (over t r)
+      (in_filter is_shift transitions (over t r) (member_at shifts k (over t r) at)).0
 
   -- and none is over the end
-  no_end : (k t r : ℕ) → slice_get transitions k ≡ Some (over t r) → t ≢ 0
+  no_end : (k t r : ℕ) → slice_get shifts k ≡ Some (over t r) → t ≢ 0
   no_end k t r at z =
       let e = subst (λ u. goto_of M s (terminal u) ≡ Some r) z (leads k t r at) in
       (is.cores.only (terminal 0 ∷ prefix_of M s) r (s, is.numbered.leads s lt, e)).0.0 refl
 
-  less : (k i t u r q : ℕ) → k < i → slice_get transitions k ≡ Some (over t r)
-      → slice_get transitions i ≡ Some (over u q) → t < u
+  less : (k i t u r q : ℕ) → k < i → slice_get shifts k ≡ Some (over t r)
+      → slice_get shifts i ≡ Some (over u q) → t < u
   less k i t u r q lower at there =
       let d = over t r in
-      let both = ordered k i d lower (slice_get_within transitions i (over u q) there) in
-      subst (λ y. IsLess (terminal t) y.symbol) (get_or_from_slice_get transitions i (over u q) d there)
-      (subst (λ x. IsLess x.symbol (slice_index_or transitions i d).symbol)
-      (get_or_from_slice_get transitions k d d at) both)
+      let both = AllPairs-filter (λ x y. IsLess x.symbol y.symbol) is_shift transitions ordered k i d lower
+      (slice_get_within shifts i (over u q) there) in
+      subst (λ y. IsLess (terminal t) y.symbol) (get_or_from_slice_get shifts i (over u q) d there)
+      (subst (λ x. IsLess x.symbol (slice_index_or shifts i d).symbol)
+      (get_or_from_slice_get shifts k d d at) both)
 
-  -- before the first transition
+  -- before the first shift
   pub shifts_none : (IsRaw M.grammar (prefix_of M s) 0 shift → ⊥) → AreShifts M s 0 []
   shifts_none not_end = record {
     ordered = λ i j d l m. absurd (omega (arith, m));
@@ -105,7 +112,7 @@ module _ (M : Lr0Automaton) (is : IsLr0Automaton M) (s : ℕ) (lt : s < length M
   later i t (inr (k, r, low, at)) = inr (k, r, omega (arith, low), at)
 
   -- one over a terminal adds its shift
-  pub shifts_more : (i t r : ℕ) (row : List TerminalAction) → slice_get transitions i ≡ Some (over t r)
+  pub shifts_more : (i t r : ℕ) (row : List TerminalAction) → slice_get shifts i ≡ Some (over t r)
       → AreShifts M s i row → AreShifts M s (i + 1) (row ++ shift_of t ∷ [])
   shifts_more i t r row at before = record {
     ordered = AllPairs-append (λ x y. x.terminal < y.terminal) row (shift_of t ∷ []) before.ordered
@@ -132,7 +139,7 @@ module _ (M : Lr0Automaton) (is : IsLr0Automaton M) (s : ℕ) (lt : s < length M
       back x a (inr (k, q, low, there)) = elim (cases_eq k i) [
         | inl same ↦
             let one : Some (over x.terminal q) ≡ Some (over t r)
-            = sym there ∙ (ap (slice_get transitions) same ∙ at) in
+            = sym there ∙ (ap (slice_get shifts) same ∙ at) in
             let of : Symbol → ℕ → ℕ = λ X d. elim X [ terminal u ↦ u | nonterminal A ↦ d ] in
             let e : over x.terminal q ≡ over t r = cc in
             let is_t : x.terminal ≡ t = ap (λ y. of y.symbol 0) e in
@@ -146,7 +153,7 @@ module _ (M : Lr0Automaton) (is : IsLr0Automaton M) (s : ℕ) (lt : s < length M
 
   -- one over a nonterminal adds none
   pub shifts_past : (i A r : ℕ) (row : List TerminalAction)
-      → slice_get transitions i ≡ Some (record { symbol = nonterminal A; target = r })
+      → slice_get shifts i ≡ Some (record { symbol = nonterminal A; target = r })
       → AreShifts M s i row → AreShifts M s (i + 1) row
   shifts_past i A r row at before = record {
     ordered = before.ordered;
@@ -160,7 +167,7 @@ module _ (M : Lr0Automaton) (is : IsLr0Automaton M) (s : ℕ) (lt : s < length M
       earlier t (inl end) = inl end
       earlier t (inr (k, q, low, there)) = elim (cases_eq k i) [
         | inl same ↦
-            let one = sym there ∙ (ap (slice_get transitions) same ∙ at) in
+            let one = sym there ∙ (ap (slice_get shifts) same ∙ at) in
             let e : over t q ≡ record { symbol = nonterminal A; target = r } = cc in
             let apart : terminal t ≡ nonterminal A = ap (λ y. y.symbol) e in
             absurd (cc)
@@ -185,8 +192,8 @@ module _ (M : Lr0Automaton) (is : IsLr0Automaton M) (s : ℕ) (lt : s < length M
         → IsAction M.grammar judge (prefix_of M s) t shift
     is_done judge t raw = (raw, λ p asked. absurd (no_reduction t p asked))
 
-    -- past the last transition the shifts are all that is done
-    pub shifts_all : (i : ℕ) (row : List TerminalAction) → length transitions ≤ i → AreShifts M s i row
+    -- past the last one the shifts are all that is done
+    pub shifts_all : (i : ℕ) (row : List TerminalAction) → length shifts ≤ i → AreShifts M s i row
         → (judge : Judge) → IsRow M.grammar judge (prefix_of M s) row
     shifts_all i row past before judge = record {
       ordered = before.ordered;
@@ -215,8 +222,8 @@ module _ (M : Lr0Automaton) (is : IsLr0Automaton M) (s : ℕ) (lt : s < length M
           | inr off ↦
               let led = (terminal_shifted M is s t lt off).1 asked in
               let has = target_some transitions (terminal t) led.0 (sym (by_state (terminal t)) ∙ led.1) in
-              let k = placed transitions (over t led.0) has in
-              let within = slice_get_within transitions k.0 (over t led.0) k.1 in
+              let k = placed shifts (over t led.0) (filter_in is_shift transitions (over t led.0) has refl) in
+              let within = slice_get_within shifts k.0 (over t led.0) k.1 in
               inr (k.0, led.0, (omega (arith, within, past)), k.1)
         ]
 

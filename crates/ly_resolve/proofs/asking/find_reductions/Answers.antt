@@ -7,7 +7,7 @@ use Rattle.ly_lr0.specs.Automaton.{state_at}
 use Rattle.ly_lr0.proofs.StateLemmas.{state_there}
 use Rattle.ly_resolve.proofs.RawLemmas.{AreFoundTo, found_more, found_past, reduced_at, reduction_at}
 use Rattle.ly_resolve.proofs.asking.find_reductions.Goals as goal
-use Rattle.ly_resolve.proofs.asking.find_reductions.Goals.{then-contains+in_ok-push, else-contains}
+use Rattle.ly_resolve.proofs.asking.find_reductions.Goals.{then-contains+in-Ok+in_ok-push-in-Ok, else-contains}
 
 pub contains-requires : goal.contains-requires
 contains-requires c =
@@ -31,9 +31,10 @@ loop-place-preserved c =
     let at = slice_get-get_or complete i 0 lt in
     let sorted = (c.requires.lawful.each s (state_at M s) (state_there M s c.requires.state)).rising in
     elim c.if-contains.branch [
-      | then-contains+in_ok-push w ↦ found_more complete P i (slice_index_or complete i 0) at sorted
+      | then-contains+in-Ok+in_ok-push-in-Ok w ↦ found_more complete P i (slice_index_or complete i 0) at sorted
           c.loop-place.found.items c.if-contains.found.items
-          (ap (λ f. f.items) w.found-is ∙ w.in_ok-push.ensures.items
+          (ap (λ f. f.items) w.found-is ∙ w.in_ok-push-in-Ok.ensures.items
+          ∙ ap (λ n. c.loop-place.found.items ++ n ∷ []) w.in-Ok.ensures.1
           ∙ ap (λ z. c.loop-place.found.items ++ slice_index_or z i 0 ∷ []) same)
           (sym c.contains.ensures ∙ w.if-contains.true) c.loop-place.invariant
       | else-contains w ↦ subst (λ f. AreFoundTo complete P (i + 1) f.items) (sym w.found-is)

@@ -1,7 +1,5 @@
 use Rattle.std.proofs.Common.{◌<◌, ◌-◌, arith, length, sym}
-use Rattle.std.proofs.lemmas.Option.{get_or_from_slice_get, slice_get-get_or}
-use Rattle.std.proofs.Common.{◌∙◌, ap, Some}
-use Rattle.ly_resolve.proofs.KeptRunLemmas.{end_last}
+use Rattle.ly_resolve.proofs.KeptRunLemmas.{end_last, run_there}
 use Rattle.ly_resolve.proofs.conflicts.end_of.Goals as goal
 
 pub returns-in-Some : goal.returns-in-Some
@@ -11,4 +9,4 @@ returns-in-Some c =
     let last = c.in-Some.ensures.item.3 in
     let some : 0 < length rs = last.0 in
     sym (end_last 0 rs (length rs - 1) run (omega (arith, some))
-    (slice_get-get_or rs (length rs - 1) run (omega (arith, some)) ∙ ap Some (sym (last.1 run))))
+    (run_there rs (length rs - 1) run (omega (arith, some), last.1)))

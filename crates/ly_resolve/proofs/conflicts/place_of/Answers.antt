@@ -1,6 +1,5 @@
-use Rattle.std.proofs.Common.{◌<◌, ◌+◌, ◌-◌, ◌/◌, ◌≤◌, ◌∙◌, arith, length, slice_index_or, subst, sym}
-use Rattle.std.proofs.lemmas.Option.{get_or_from_slice_get, none-some, slice_get-get_or, slice_get_past}
-use Rattle.ly_resolve.specs.declared.conflicts.Run.{Run}
+use Rattle.std.proofs.Common.{◌<◌, ◌+◌, ◌-◌, ◌/◌, ◌≤◌, ◌∙◌, arith, length, subst, sym}
+use Rattle.std.proofs.lemmas.Option.{none-some, slice_get-get_or, slice_get_past}
 use Rattle.ly_resolve.proofs.KeptRunLemmas.{ends_behind, start_next, start_none}
 use Rattle.ly_resolve.proofs.conflicts.place_of.Goals as goal
 

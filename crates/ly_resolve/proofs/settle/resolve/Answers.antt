@@ -39,7 +39,7 @@ invariant_of-result c =
     let past = c.loop-state-test.false in (
       c.requires.useful,
       all_resolved c.args.spec.now c.args.lr0.now c.loop-state.state
-          (rows_from c.loop-state.rows.places.items c.loop-state.rows.kept.items) c.loop-state.told.conflicts.items
+          (rows_from c.loop-state.rows.places.items c.loop-state.rows.kept.items) c.loop-state.told.conflicts
           c.loop-state.told.conflict_free c.states.ensures.lawful (omega (arith, count, le, past)) inv.count inv.rows
           inv.told,
       inv.inside,
@@ -52,5 +52,5 @@ returns c =
     let le = c.loop-state.auto.state-end in
     let past = c.loop-state-test.false in
     all_resolved c.args.spec.now c.args.lr0.now c.loop-state.state
-    (rows_from c.loop-state.rows.places.items c.loop-state.rows.kept.items) c.loop-state.told.conflicts.items
+    (rows_from c.loop-state.rows.places.items c.loop-state.rows.kept.items) c.loop-state.told.conflicts
     c.loop-state.told.conflict_free c.states.ensures.lawful (omega (arith, count, le, past)) inv.count inv.rows inv.told

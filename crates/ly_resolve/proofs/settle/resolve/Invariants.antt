@@ -14,7 +14,7 @@ invariant-loop-state l = record {
   rows : (k : ℕ) (row : List TerminalAction) → slice_get (rows_from l.rows.places.items l.rows.kept.items) k
       ≡ Some row
       → IsRow l.lr0.grammar (judge_of l.spec) (prefix_of l.lr0 k) row;
-  told : AreTold l.lr0 (judge_of l.spec) l.state 0 (map (conflict_from l.lr0) l.told.conflicts.items)
+  told : AreTold l.lr0 (judge_of l.spec) l.state 0 (map (conflict_from l.lr0) l.told.conflicts)
       l.told.conflict_free;
-  inside : All (IsInside l.lr0) l.told.conflicts.items;
+  inside : All (IsInside l.lr0) l.told.conflicts;
 }

@@ -53,13 +53,13 @@ loop-terminal-preserved c =
                 ∙ map-append terminal_action_from old (entry ∷ [])))
                 (entries_more M is judge s t lt (map terminal_action_from old) a (done_too (IsAskedBy sh rs)
                 (IsRaw M.grammar (prefix_of M s) t) (λ p. judge p t) (asked_same asked) a done) inv.row);
-            told = subst (λ x. AreTold M judge s (t + 1) (map (conflict_from M) x.conflicts.items) x.conflict_free)
+            told = subst (λ x. AreTold M judge s (t + 1) (map (conflict_from M) x.conflicts) x.conflict_free)
                 (sym w.told-is) (subst (λ cs. AreTold M judge s (t + 1) cs w.tell.new.self.conflict_free)
                 (sym (w.in_ok-tell.ensures.told M))
                 (told_more M is judge s t lt sh rs asked a done
-                (map (conflict_from M) c.loop-terminal.told.conflicts.items) c.loop-terminal.told.conflict_free
+                (map (conflict_from M) c.loop-terminal.told.conflicts) c.loop-terminal.told.conflict_free
                 w.tell.new.self.conflict_free inv.told w.in_ok-tell.ensures.free));
-            inside = subst (λ x. All (IsInside M) x.conflicts.items) (sym w.told-is)
+            inside = subst (λ x. All (IsInside M) x.conflicts) (sym w.told-is)
                 (w.in_ok-tell.ensures.inside M lt end inv.inside);
           }
       | in_default w ↦
@@ -68,11 +68,11 @@ loop-terminal-preserved c =
           record {
             row = subst (λ r. AreEntries M judge s (t + 1) (map terminal_action_from r.items)) (sym w.row-is)
                 (entries_nothing M is judge s t lt nothing (map terminal_action_from old) inv.row);
-            told = subst (λ x. AreTold M judge s (t + 1) (map (conflict_from M) x.conflicts.items) x.conflict_free)
+            told = subst (λ x. AreTold M judge s (t + 1) (map (conflict_from M) x.conflicts) x.conflict_free)
                 (sym w.told-is) (told_nothing M is judge s t lt nothing
-                (map (conflict_from M) c.loop-terminal.told.conflicts.items) c.loop-terminal.told.conflict_free
+                (map (conflict_from M) c.loop-terminal.told.conflicts) c.loop-terminal.told.conflict_free
                 inv.told);
-            inside = subst (λ x. All (IsInside M) x.conflicts.items) (sym w.told-is) inv.inside;
+            inside = subst (λ x. All (IsInside M) x.conflicts) (sym w.told-is) inv.inside;
           }
     ]
 
@@ -89,7 +89,7 @@ pub returns-clause-told : goal.returns-clause-told
 returns-clause-told c =
     let M = c.args.sources.now.lr0.now in
     told_row M c.requires.lawful (judge_of c.args.sources.now.spec.now) c.args.state.0 c.loop-terminal.terminal
-    (map (conflict_from M) c.loop-terminal.told.conflicts.items) c.loop-terminal.told.conflict_free
+    (map (conflict_from M) c.loop-terminal.told.conflicts) c.loop-terminal.told.conflict_free
     (subst (λ n. n ≤ c.loop-terminal.terminal)
     (c.terminals-terminal-end.ensures ∙ sym c.grammar.ensures.keeps.terminals ∙ ap (λ g. g.terminals) c.reduced.ensures)
     c.loop-terminal-test.false) c.loop-terminal.invariant.told
@@ -101,4 +101,4 @@ returns-then-is_empty-clause-told c =
     ∙ nil_from_length c.complete.result.now
     (eqb-true (length c.complete.result.now) 0 (sym c.is_empty.ensures ∙ c.if-is_empty.true)) in
     told_shifts M c.requires.lawful c.args.state.0 c.requires.state none (judge_of c.args.sources.now.spec.now)
-    (map (conflict_from M) c.args.told.now.conflicts.items) c.args.told.now.conflict_free c.requires.told
+    (map (conflict_from M) c.args.told.now.conflicts) c.args.told.now.conflict_free c.requires.told

@@ -10,6 +10,6 @@ invariant-loop-terminal l = record {
   row : AreEntries l.sources.lr0.now (judge_of l.sources.spec.now) l.state.0 l.terminal
       (map terminal_action_from l.row.items);
   told : AreTold l.sources.lr0.now (judge_of l.sources.spec.now) l.state.0 l.terminal
-      (map (conflict_from l.sources.lr0.now) l.told.conflicts.items) l.told.conflict_free;
-  inside : All (IsInside l.sources.lr0.now) l.told.conflicts.items;
+      (map (conflict_from l.sources.lr0.now) l.told.conflicts) l.told.conflict_free;
+  inside : All (IsInside l.sources.lr0.now) l.told.conflicts;
 }

@@ -1,9 +1,10 @@
 use Rattle.std.proofs.Common.{◌≡◌, ◌∙◌, ◌∷◌, ◌++◌, ◌+◌, [], Some, ap, arith, length, map, option_map, slice_get}
 use Rattle.std.proofs.Common.{slice_index_or, subst, sym}
+use Rattle.std.specs.List.{filter}
 use Rattle.std.proofs.lemmas.List.{length-map, map-append}
 use Rattle.std.proofs.lemmas.Option.{slice_get-get_or, slice_get-map}
 use Rattle.ly_join.specs.Grammar.{symbol_of}
-use Rattle.ly_lr0.specs.Automaton.{state_at}
+use Rattle.ly_lr0.specs.Automaton.{is_shift, state_at}
 use Rattle.ly_lr0.specs.Transitions.{transition_of}
 use Rattle.ly_resolve.specs.Private.Shifts.{AreShifts}
 use Rattle.ly_resolve.specs.Values.{terminal_action_from}
@@ -33,12 +34,12 @@ loop-transition-preserved c =
     let M = c.args.lr0.now in
     let s = c.args.state.0 in
     let f = map terminal_action_from in
-    let ts = c.transitions-transition-items.result.now in
+    let ts = c.shifts-transition-items.result.now in
     let i = c.loop-transition.transition-index in
     let t = slice_index_or ts i nowhere in
     let old = c.loop-transition.row.items in
-    let at : slice_get (state_at M s).transitions i ≡ Some (transition_of t)
-    = ap (λ xs. slice_get xs i) (sym c.transitions-transition-items.ensures)
+    let at : slice_get (filter is_shift (state_at M s).transitions) i ≡ Some (transition_of t)
+    = ap (λ xs. slice_get xs i) (sym c.shifts-transition-items.ensures)
     ∙ slice_get-map transition_of ts i
     ∙ ap (option_map transition_of) (slice_get-get_or ts i nowhere c.loop-transition-test.true) in
     elim c.match-transition.branch [
@@ -61,8 +62,8 @@ loop-transition-preserved c =
 pub returns : goal.returns
 returns c =
     let M = c.args.lr0.now in
-    let ts = c.transitions-transition-items.result.now in
-    let long = ap length c.transitions-transition-items.ensures in
+    let ts = c.shifts-transition-items.result.now in
+    let long = ap length c.shifts-transition-items.ensures in
     let count = length-map ts transition_of in
     let past = c.loop-transition-test.false in
     shifts_all M c.requires.lawful c.args.state.0 c.requires.state c.requires.none c.loop-transition.transition-index

@@ -1,4 +1,4 @@
-use Rattle.std.proofs.Common.{◌≡◌, ◌<◌, ◌≤◌, ◌+◌, ◌-◌, ◌∙◌, ap, arith, false, refl, slice_index_or, subst, sym, true}
+use Rattle.std.proofs.Common.{◌∙◌, ap, arith, false, refl, subst, sym, true}
 use Rattle.std.specs.Prelude.{count_by}
 use Rattle.std.proofs.lemmas.List.{take_all}
 use Rattle.ly_resolve.specs.Private.Conflicts.{AreRuns, items_from}

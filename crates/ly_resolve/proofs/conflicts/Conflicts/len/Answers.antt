@@ -1,5 +1,5 @@
 use Rattle.std.proofs.Common.{◌∙◌, ap, arith, length, sym}
-use Rattle.ly_resolve.specs.Private.Conflicts.{end_from, items_from}
+use Rattle.ly_resolve.specs.Private.Conflicts.{end_from}
 use Rattle.ly_resolve.proofs.KeptRunLemmas.{items_length}
 use Rattle.ly_resolve.proofs.conflicts.Conflicts.len.Goals as goal
 

@@ -22,39 +22,38 @@ loop-rule-preserved c =
     let a = action_from c.args.choice in
     let k = kind_from c.args.kind in
     let g : Lr0Automaton → _ = λ M. prefix_of M c.args.state.0 in
-    let old = c.loop-rule.conflicts.items in
+    let old = c.loop-rule.conflicts in
     let new : Conflict = record {
       state = c.args.state;
       terminal = m.terminal;
       kind = c.args.kind;
-      rule = slice_index_or rs i 0;
+      rule = record { 0 = slice_index_or rs i 0 };
       choice = c.args.choice;
     } in
     elim c.if-is_counted.branch [
       | then-is_counted+in_ok-push w ↦ record {
         told = λ M.
-            ap (λ z. map (conflict_from M) z.items) w.conflicts-is
-            ∙ ap (map (conflict_from M)) w.in_ok-push.ensures.items
+            ap (map (conflict_from M)) (w.conflicts-is ∙ w.in_ok-push.ensures)
             ∙ map-append (conflict_from M) old (new ∷ [])
             ∙ ap (λ z. z ++ conflict_from M new ∷ []) (c.loop-rule.invariant.told M)
-            ∙ append_assoc (map (conflict_from M) c.args.conflicts.now.items)
+            ∙ append_assoc (map (conflict_from M) c.args.conflicts.now)
             (told (g M) m.terminal.0 m.shift (take i rs) v a k) (conflict_from M new ∷ [])
-            ∙ ap (λ z. map (conflict_from M) c.args.conflicts.now.items ++ z)
+            ∙ ap (λ z. map (conflict_from M) c.args.conflicts.now ++ z)
             (sym (told_rule m.shift rs v i (g M) m.terminal.0 a k lt
             (sym c.is_counted.ensures ∙ w.if-is_counted.true)));
         inside = λ M state terminal all. subst (λ z. All (IsInside M) z)
-            (sym (ap (λ z. z.items) w.conflicts-is ∙ w.in_ok-push.ensures.items))
+            (sym (w.conflicts-is ∙ w.in_ok-push.ensures))
             (All-push (IsInside M) old new (c.loop-rule.invariant.inside M state terminal all)
             (record { state = state; terminal = terminal }));
       }
       | else-is_counted w ↦ record {
         told = λ M.
-            ap (λ z. map (conflict_from M) z.items) w.conflicts-is
+            ap (map (conflict_from M)) w.conflicts-is
             ∙ c.loop-rule.invariant.told M
-            ∙ ap (λ z. map (conflict_from M) c.args.conflicts.now.items ++ z)
+            ∙ ap (λ z. map (conflict_from M) c.args.conflicts.now ++ z)
             (sym (told_past m.shift rs v i (g M) m.terminal.0 a k lt
             (sym c.is_counted.ensures ∙ w.if-is_counted.false)));
-        inside = λ M state terminal all. subst (λ z. All (IsInside M) z.items) (sym w.conflicts-is)
+        inside = λ M state terminal all. subst (λ z. All (IsInside M) z) (sym w.conflicts-is)
             (c.loop-rule.invariant.inside M state terminal all);
       }
     ]
