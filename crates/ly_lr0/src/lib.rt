@@ -5,8 +5,8 @@
 //! to them, which are their access prefixes: breadth first, symbols in the order of their numbers, terminals before
 //! nonterminals (`AreNumbered`).
 //!
-//! A state's transitions over terminals and those over nonterminals are lists of their own (`Lr0::shifts`, `Lr0::gotos`),
-//! and equal lists over terminals of states in turn are one in memory.
+//! A state's transitions over terminals and those over nonterminals are two lists (`Lr0::shifts`, `Lr0::gotos`). Equal
+//! ones over terminals of states that come one behind the other are one in memory.
 //!
 //! Left out: lookaheads, and what a state does on a terminal.
 #![tactic(auto)]
