@@ -45,7 +45,8 @@ module _ (M : Lr0Automaton) (is : IsLr0Automaton M) (k : ℕ) (lt : k < length M
         goto_at M k (state_at M k) (nonterminal A) there
         ∙ ap (target_of (state_at M k).transitions) (sym named)
         ∙ has_target (state_at M k).transitions t (is.each k (state_at M k) there).ordered
-        (in_filter is_goto (state_at M k).transitions t (member_at (filter is_goto (state_at M k).transitions) i t at)).0
+        (in_filter is_goto (state_at M k).transitions t
+        (member_at (filter is_goto (state_at M k).transitions) i t at)).0
 
     -- and where it goes, a transition leads
     pub found_at : (A s : ℕ) → goto_of M k (nonterminal A) ≡ Some s

@@ -25,8 +25,8 @@ entries_are m entries rows width lists grid many wide so = record {
       let small : state < states_of m = omega (arith, row_lt, so.count, many) in
       record {
         sound = λ e has.
-            let lt = All-contains (λ (c : Cell code.TableAction). c.column < width) row.value.items e (so.within state row at)
-            has in
+            let lt = All-contains (λ (c : Cell code.TableAction). c.column < width) row.value.items e
+            (so.within state row at) has in
             let column : e.column < m.terminals = omega (arith, lt, wide) in (
               column,
               ap (λ g. cell g state e.column) grid
@@ -51,7 +51,8 @@ gotos_are m entries rows width lists grid many wide so = record {
       let small : state < states_of m = omega (arith, row_lt, so.count, many) in
       record {
         sound = λ e has.
-            let lt = All-contains (λ (c : Cell StateNo). c.column < width) row.value.items e (so.within state row at) has in
+            let lt = All-contains (λ (c : Cell StateNo). c.column < width) row.value.items e
+            (so.within state row at) has in
             ap (λ g. cell g state e.column) grid
             ∙ cell-grid_of (states_of m) m.nonterminals (gotos_from entries) state e.column small
             (omega (arith, lt, wide))

@@ -1,6 +1,6 @@
 -- Rows as lists, and what a write to one of them changes.
-use Rattle.std.proofs.Common.{◌≡◌, ◌≢◌, ◌∙◌, ◌-◌, ◌<◌, ◌≤◌, ◌∷◌, [], ◌&&◌, ℕ, suc, List, length, map, Option, None, Some}
-use Rattle.std.proofs.Common.{slice_index_or, slice_set}
+use Rattle.std.proofs.Common.{◌≡◌, ◌≢◌, ◌∙◌, ◌-◌, ◌<◌, ◌≤◌, ◌∷◌, [], ◌&&◌, ℕ, suc, List, length, map, Option}
+use Rattle.std.proofs.Common.{None, Some, slice_index_or, slice_set}
 use Rattle.std.proofs.Common.{refl, sym, ap, ap₂, subst, arith, inl, inr, slice_get, set, nat_eq, Bool, All}
 use Rattle.std.specs.Prelude.{option_and_then, option_map, if◌then◌else◌, replicate}
 use Rattle.std.proofs.lemmas.Bool.{and_left, cases_Bool, cases_lt, cond-false, eqb-false, eqb-true}

@@ -1,7 +1,7 @@
 -- Conflicts can be printed: the symbols of their prefixes have names.
 use Rattle.std.proofs.Common.{◌≡◌, ℕ, zero, suc, ◌<◌, List, [], ◌∷◌, All, map, refl, sym, ap, subst, arith}
-use Rattle.std.proofs.Common.{length, get_or}
-use Rattle.std.specs.Prelude.{Contains}
+use Rattle.std.proofs.Common.{◌∙◌, ◌+◌, cond, length, get_or}
+use Rattle.std.specs.Prelude.{Contains, count_by, fold}
 use Rattle.std.proofs.lemmas.List.Elements.{All-cons, All-head, All-nil}
 use Rattle.std.proofs.lemmas.List.{length-map}
 use Rattle.ly_join.specs.Grammar.{Grammar, IsGrammar, Symbol}
@@ -14,9 +14,13 @@ use Rattle.ly_lr0.specs.Automaton.{Lr0Automaton}
 use Rattle.ly_resolve.specs.Actions.{Judge}
 use Rattle.ly_resolve.specs.Conflicts as spec
 use Rattle.ly_resolve.specs.Conflicts.{AreConflicts, Kind}
-use Rattle.ly_resolve.specs.Values.{IsInside, conflict_from, kind_from}
+use Rattle.ly_resolve.specs.Values.{IsInside, conflict_from, kind_from, same_kind}
 use Rattle.ly_resolve.specs.declared.conflict.Conflict.{Conflict}
+use Rattle.ly_resolve.specs.declared.conflict.ConflictKind.{ConflictKind}
+use Rattle.ly_resolve.specs.declared.conflict.ConflictKind.TheVariants.{ReduceReduce, ShiftReduce}
 use Rattle.ly_report.specs.Private.Symbols.{IsNamed, IsTellable}
+use Rattle.ly_report.specs.Report as named
+use Rattle.ly_report.specs.Report.{count_of}
 use Rattle.ly_report.proofs.NameLemmas.{body_named}
 
 module _ (s : Spec) (sizes : HasSizes s) (is : IsGrammar s.grammar) (R : Grammar) (keeps : KeepsUseful s.grammar R)
@@ -64,3 +68,21 @@ pub kinds_same : (M : Lr0Automaton) (conflicts : List Conflict)
     → map (λ c. kind_from c.kind) conflicts ≡ map (λ c. c.kind) (map (conflict_from M) conflicts)
 kinds_same M [] = refl
 kinds_same M (c ∷ cs) = ap (λ l. kind_from c.kind ∷ l) (kinds_same M cs)
+
+-- how many of them are of a kind
+kind_same : (k l : ConflictKind) → same_kind k l ≡ named.same_kind (kind_from k) (kind_from l)
+kind_same ShiftReduce ShiftReduce = refl
+kind_same ShiftReduce ReduceReduce = refl
+kind_same ReduceReduce ShiftReduce = refl
+kind_same ReduceReduce ReduceReduce = refl
+
+pub kinds_counted : (k : ConflictKind) (conflicts : List Conflict)
+    → count_by (λ c. same_kind k c.kind) conflicts ≡ count_of (kind_from k) (map (λ c. kind_from c.kind) conflicts)
+kinds_counted k conflicts = behind 0 conflicts
+  where
+    behind : (n : ℕ) (cs : List Conflict) → fold (λ m c. m + cond (same_kind k c.kind) 1 0) n cs
+        ≡ fold (λ m l. m + cond (named.same_kind (kind_from k) l) 1 0) n (map (λ c. kind_from c.kind) cs)
+    behind n [] = refl
+    behind n (c ∷ cs) = behind (n + cond (same_kind k c.kind) 1 0) cs
+        ∙ ap (λ b. fold (λ m l. m + cond (named.same_kind (kind_from k) l) 1 0) (n + cond b 1 0)
+        (map (λ x. kind_from x.kind) cs)) (kind_same k c.kind)

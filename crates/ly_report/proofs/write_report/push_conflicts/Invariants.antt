@@ -5,6 +5,6 @@ use Rattle.ly_report.specs.Report.{conflict_line}
 use Rattle.ly_report.proofs.write_report.push_conflicts.Given as goal
 
 -- the lines so far were appended
-abbrev pub invariant-loop-conflict : goal.invariant-loop-conflict
-invariant-loop-conflict l = l.out.items ≡ l.initial.out.items
-    ++ flat_map (conflict_line l.spec) (map (conflict_from l.lr0) (take l.conflict-index l.conflicts))
+abbrev pub invariant-loop-index : goal.invariant-loop-index
+invariant-loop-index l = l.out.items ≡ l.initial.out.items
+    ++ flat_map (conflict_line l.spec) (map (conflict_from l.lr0) (take l.index l.conflicts))
