@@ -124,14 +124,11 @@ rows_empty rows sets is i t m =
 -- LOOKBACKS
 
 -- a lookback as contracts see it
-abbrev pub no_lookback : lookback.Lookback
-no_lookback = record { state = record { 0 = 0 }; rule = 0; node = 0 }
 
-pub lookback_seen : (ls : List Lookback) (items : List lookback.Lookback) (i : ℕ) → map lookback_from items ≡ ls
-    → i < length items → slice_get ls i ≡ Some (lookback_from (slice_index_or items i no_lookback))
-lookback_seen ls items i e lt =
-    subst (λ w. slice_get w i ≡ Some (lookback_from (slice_index_or items i no_lookback))) e
-    (shown_at lookback_from no_lookback items i lt)
+pub lookback_seen : (ls : List Lookback) (items : List lookback.Lookback) (i : ℕ) (x : lookback.Lookback)
+    → map lookback_from items ≡ ls → slice_get items i ≡ Some x → slice_get ls i ≡ Some (lookback_from x)
+lookback_seen ls items i x e at = ap (λ w. slice_get w i) (sym e) ∙ slice_get-map lookback_from items i
+    ∙ ap (option_map lookback_from) at
 
 module _ (M : Lr0Automaton) (first : List ℕ) (ls : List Lookback) (i : ℕ) (l : Lookback)
     (at : slice_get ls i ≡ Some l) where

@@ -26,7 +26,9 @@ pub(crate) fn look_back(
     ensures united { OnOk result
         (AreLookedBack lr0.now first.now relations.now.lookbacks sets.old.sets sets.new.sets) }
 {
-    for lookback in relations.lookbacks() {
+    let lookbacks = relations.lookbacks();
+    for index in 0..lookbacks.len() {
+        let lookback = lookbacks.get(index);
         if let Some(place) = place_of(lr0.complete(lookback.state), lookback.rule as usize) {
             let row = first[lookback.state.0 as usize] + place;
             sets.union_row(row, lookback.node as usize)?;

@@ -4,6 +4,7 @@ pub mod GroupLemmas
 pub mod IncludeLemmas
 pub mod LeaveLemmas
 pub mod NodeLemmas
+pub mod PieceLemmas
 pub mod ReachLemmas
 pub mod ReadLemmas
 pub mod RuleLemmas

@@ -1,4 +1,5 @@
 pub mod Gotos
 pub mod Groups
+pub mod Pieces
 pub mod Reads
 pub mod Walks

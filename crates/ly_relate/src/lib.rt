@@ -17,11 +17,13 @@ mod groups;
 mod includes;
 mod pairs;
 mod parted_rules;
+mod pieces;
 mod reads;
 mod relate;
 mod walks;
 
 pub use gotos::Goto;
 pub use pairs::Relations;
+pub use pieces::Pieces;
 pub use relate::relations;
 pub use walks::Lookback;

@@ -2,6 +2,7 @@ ghost use Rattle.std.specs.Prelude.{◌≡◌, map};
 ghost use Rattle.ly_relate.specs.Values.{goto_from, lookback_from};
 
 use crate::gotos::Goto;
+use crate::pieces::Pieces;
 use crate::walks::Lookback;
 use ly_digraph::Graph;
 use std::marker::Model;
@@ -16,7 +17,7 @@ pub struct Relations {
     /// An edge from transition `i` to a node that stands for each transition that it includes.
     pub(crate) includes: Graph,
     /// The nodes that stand for the transitions to which complete rules look back.
-    pub(crate) lookbacks: Vec<Lookback>,
+    pub(crate) lookbacks: Pieces<Lookback>,
 }
 
 impl Model for Relations {
@@ -30,7 +31,7 @@ impl Model for Relations {
       gotos = map goto_from r.gotos.items;
       reads = r.reads;
       includes = r.includes;
-      lookbacks = map lookback_from r.lookbacks.items;
+      lookbacks = map lookback_from r.lookbacks;
     } };
 }
 
@@ -58,7 +59,7 @@ impl Relations {
     }
 
     /// To which transitions complete rules look back, by the nodes of `includes` that stand for them.
-    pub fn lookbacks(&self) -> &[Lookback]
+    pub fn lookbacks(&self) -> &Pieces<Lookback>
         ensures { map lookback_from result.now ≡ self.now.lookbacks }
     {
         &self.lookbacks

@@ -17,6 +17,7 @@ use crate::gotos::Gotos;
 use crate::groups::Groups;
 use crate::includes::Includes;
 use crate::parted_rules::PartedRules;
+use crate::pieces::Pieces;
 use ly_base::{OutOfMemory, StateNo};
 use ly_join::Symbol;
 use std::alloc::Global;
@@ -51,7 +52,7 @@ pub(crate) struct Walks {
     /// Which transitions include which.
     pub(crate) includes: Includes,
     /// The transitions to which complete rules look back.
-    pub(crate) lookbacks: Vec<Lookback>,
+    pub(crate) lookbacks: Pieces<Lookback>,
     /// The states before the symbols of the body that is walked.
     path: Vec<StateNo>,
 }
@@ -62,13 +63,13 @@ impl Walks {
         ensures includes { IfOk result (λ w. AreGathered gotos.now.gotos
             (IsIncluding gotos.now.automaton gotos.now.gotos) w.includes) }
         ensures lookbacks { IfOk result (λ w. AreLookbacks gotos.now.automaton gotos.now.gotos w.includes
-            (map lookback_from w.lookbacks.items)) }
+            (map lookback_from w.lookbacks)) }
     {
         let rules = PartedRules::new(alloc, gotos.lr0())?;
         let groups = Groups::new(alloc, gotos, &rules)?;
         let mut walks = Walks {
             includes: Includes::new(alloc, groups.len())?,
-            lookbacks: Vec::new(alloc),
+            lookbacks: Pieces::new(alloc),
             path: Vec::new(alloc),
         };
         walks.walk_all(gotos, &rules, &groups)?;
@@ -85,11 +86,11 @@ impl Walks {
         requires rules { AreAllParted gotos.now.automaton rules.now }
         requires groups { AreGroups gotos.now (solid_of rules.now) (length gotos.now.gotos) groups.now }
         requires fresh { self.old.includes ≡ record { nodes = groups.now.end; edges = [] } }
-        requires none { self.old.lookbacks.items ≡ [] }
+        requires none { self.old.lookbacks ≡ [] }
         ensures includes { OnOk result (AreGathered gotos.now.gotos
             (IsIncluding gotos.now.automaton gotos.now.gotos) self.new.includes) }
         ensures lookbacks { OnOk result (AreLookbacks gotos.now.automaton gotos.now.gotos self.new.includes
-            (map lookback_from self.new.lookbacks.items)) }
+            (map lookback_from self.new.lookbacks)) }
     {
         for goto in 0..gotos.len() {
             self.walk_from(gotos, rules, groups, goto)?;
@@ -114,7 +115,7 @@ impl Walks {
         ensures includes { OnOk result (AreEdgesBy (EdgeFrom gotos.now rules.now groups.now goto)
             self.old.includes self.new.includes) }
         ensures lookbacks { OnOk result (AreBackBy (BackFrom gotos.now rules.now groups.now goto)
-            (map lookback_from self.old.lookbacks.items) (map lookback_from self.new.lookbacks.items)) }
+            (map lookback_from self.old.lookbacks) (map lookback_from self.new.lookbacks)) }
     {
         let symbol = gotos.get(goto).symbol;
         self.walk_rules(gotos, goto, rules.others(symbol), goto)?;
@@ -143,8 +144,8 @@ impl Walks {
         ensures nodes { OnOk result (self.new.includes.nodes ≡ self.old.includes.nodes) }
         ensures includes { OnOk result (AreEdgesTo self.old.includes self.new.includes node
             (IncludesByOne gotos.now rules.now goto)) }
-        ensures lookbacks { OnOk result (AreBack (map lookback_from self.old.lookbacks.items)
-            (map lookback_from self.new.lookbacks.items) node (LooksBackByOne gotos.now rules.now goto)) }
+        ensures lookbacks { OnOk result (AreBack (map lookback_from self.old.lookbacks)
+            (map lookback_from self.new.lookbacks) node (LooksBackByOne gotos.now rules.now goto)) }
     {
         for &rule in rules {
             self.walk(gotos, goto, rule, node)?;
@@ -167,8 +168,8 @@ impl Walks {
         ensures nodes { OnOk result (self.new.includes.nodes ≡ self.old.includes.nodes) }
         ensures includes { OnOk result (AreEdgesTo self.old.includes self.new.includes node
             (λ i. IsIncludingBy gotos.now.automaton gotos.now.gotos rule i goto)) }
-        ensures lookbacks { OnOk result (AreBack (map lookback_from self.old.lookbacks.items)
-            (map lookback_from self.new.lookbacks.items) node
+        ensures lookbacks { OnOk result (AreBack (map lookback_from self.old.lookbacks)
+            (map lookback_from self.new.lookbacks) node
             (λ s p. (p ≡ rule) × IsLookingBack gotos.now.automaton gotos.now.gotos goto s p)) }
     {
         let body = gotos.lr0().reduced().grammar().rule(rule).body();

@@ -13,42 +13,41 @@ use Rattle.ly_relate.specs.Values.{lookback_from}
 use Rattle.ly_lookahead.specs.Private.Sets.{AreLookedBack}
 use Rattle.ly_lookahead.proofs.LookaheadLemmas.{complete_once, complete_rising, lookback_within, place_within}
 use Rattle.ly_lookahead.proofs.LookaheadLemmas.{rows_apart, rows_count}
-use Rattle.ly_lookahead.proofs.SetLemmas.{lookback_seen, looked_more, looked_past, no_lookback, stays}
+use Rattle.ly_lookahead.proofs.SetLemmas.{lookback_seen, looked_more, looked_past, stays}
 use Rattle.ly_lookahead.proofs.lookback.look_back.Goals as goal
 use Rattle.ly_lookahead.proofs.lookback.look_back.Goals.{in-Some+in_ok-union_row, in_default}
 
--- the lookback of a number is of a state and of a node
+-- a lookback is of a state and of a node
 seen_within : (M : Lr0Automaton) → IsLr0Automaton M → (R : Relations) → AreRelations M R
-    → (items : List lookback.Lookback) (i : ℕ) → map lookback_from items ≡ R.lookbacks → i < length items
-    → ((slice_index_or items i no_lookback).state.0 < length M.states)
-    × ((slice_index_or items i no_lookback).node < R.includes.nodes)
-seen_within M law R are items i shown lt =
-    let l = lookback_from (slice_index_or items i no_lookback) in
-    lookback_within M law R are l (member_at R.lookbacks i l (lookback_seen R.lookbacks items i shown lt))
+    → (items : List lookback.Lookback) (i : ℕ) (x : lookback.Lookback) → map lookback_from items ≡ R.lookbacks
+    → slice_get items i ≡ Some x → (x.state.0 < length M.states) × (x.node < R.includes.nodes)
+seen_within M law R are items i x shown at =
+    let l = lookback_from x in
+    lookback_within M law R are l (member_at R.lookbacks i l (lookback_seen R.lookbacks items i x shown at))
 
 pub complete-requires : goal.complete-requires
 complete-requires c = (seen_within c.args.lr0.now c.requires.lawful c.args.relations.now c.requires.relations
-    c.lookbacks-lookback-items.result.now c.loop-lookback.lookback-index c.lookbacks-lookback-items.ensures
-    c.loop-lookback-test.true).0
+    c.lookbacks-lookbacks.result.now c.loop-index.index c.get-lookback.result c.lookbacks-lookbacks.ensures
+    c.get-lookback.ensures).0
 
 pub place_of-requires : goal.place_of-requires
 place_of-requires c =
-    let items = c.lookbacks-lookback-items.result.now in
-    let i = c.loop-lookback.lookback-index in
+    let items = c.lookbacks-lookbacks.result.now in
+    let i = c.loop-index.index in
     let within = seen_within c.args.lr0.now c.requires.lawful c.args.relations.now c.requires.relations items i
-    c.lookbacks-lookback-items.ensures c.loop-lookback-test.true in
+    c.get-lookback.result c.lookbacks-lookbacks.ensures c.get-lookback.ensures in
     subst (AllPairs (λ p q. p < q)) (sym c.complete.ensures)
-    (complete_rising c.args.lr0.now c.requires.lawful (slice_index_or items i no_lookback).state.0 within.0)
+    (complete_rising c.args.lr0.now c.requires.lawful c.get-lookback.result.state.0 within.0)
 
 pub overflow_add-row : goal.overflow_add-row
 overflow_add-row c =
     let M = c.args.lr0.now in
     let R = c.args.relations.now in
-    let items = c.lookbacks-lookback-items.result.now in
-    let i = c.loop-lookback.lookback-index in
-    let l = lookback_from (slice_index_or items i no_lookback) in
-    let within = seen_within M c.requires.lawful R c.requires.relations items i c.lookbacks-lookback-items.ensures
-    c.loop-lookback-test.true in
+    let items = c.lookbacks-lookbacks.result.now in
+    let i = c.loop-index.index in
+    let l = lookback_from c.get-lookback.result in
+    let within = seen_within M c.requires.lawful R c.requires.relations items i
+    c.get-lookback.result c.lookbacks-lookbacks.ensures c.get-lookback.ensures in
     let place = subst (λ xs. slice_get xs c.in-Some.place ≡ Some l.rule) c.complete.ensures c.in-Some.ensures in
     let lt = place_within M c.requires.lawful R c.requires.relations c.args.first.now c.requires.rows
     l.state c.in-Some.place l.rule within.0 place in
@@ -60,44 +59,45 @@ pub union_row-requires-clause-to : goal.union_row-requires-clause-to
 union_row-requires-clause-to c =
     let M = c.args.lr0.now in
     let R = c.args.relations.now in
-    let items = c.lookbacks-lookback-items.result.now in
-    let i = c.loop-lookback.lookback-index in
-    let l = lookback_from (slice_index_or items i no_lookback) in
-    let within = seen_within M c.requires.lawful R c.requires.relations items i c.lookbacks-lookback-items.ensures
-    c.loop-lookback-test.true in
+    let items = c.lookbacks-lookbacks.result.now in
+    let i = c.loop-index.index in
+    let l = lookback_from c.get-lookback.result in
+    let within = seen_within M c.requires.lawful R c.requires.relations items i
+    c.get-lookback.result c.lookbacks-lookbacks.ensures c.get-lookback.ensures in
     let place = subst (λ xs. slice_get xs c.in-Some.place ≡ Some l.rule) c.complete.ensures c.in-Some.ensures in
     let lt = place_within M c.requires.lawful R c.requires.relations c.args.first.now c.requires.rows
     l.state c.in-Some.place l.rule within.0 place in
     let long = c.requires.long in
-    let kept = c.loop-lookback.invariant.long in
+    let kept = c.loop-index.invariant.long in
     omega (arith, lt, long, kept)
 
 pub union_row-requires-clause-from : goal.union_row-requires-clause-from
 union_row-requires-clause-from c =
     let M = c.args.lr0.now in
     let R = c.args.relations.now in
-    let within = seen_within M c.requires.lawful R c.requires.relations c.lookbacks-lookback-items.result.now
-    c.loop-lookback.lookback-index c.lookbacks-lookback-items.ensures c.loop-lookback-test.true in
+    let within = seen_within M c.requires.lawful R c.requires.relations c.lookbacks-lookbacks.result.now
+    c.loop-index.index c.get-lookback.result c.lookbacks-lookbacks.ensures c.get-lookback.ensures in
     let lt = within.1 in
     let most = rows_count M c.requires.lawful R c.requires.relations c.args.first.now c.requires.rows in
     let long = c.requires.long in
-    let kept = c.loop-lookback.invariant.long in
+    let kept = c.loop-index.invariant.long in
     omega (arith, lt, most, long, kept)
 
-pub loop-lookback-preserved : goal.loop-lookback-preserved
-loop-lookback-preserved c =
-    let items = c.lookbacks-lookback-items.result.now in
-    let i = c.loop-lookback.lookback-index in
+pub loop-index-preserved : goal.loop-index-preserved
+loop-index-preserved c =
+    let items = c.lookbacks-lookbacks.result.now in
+    let i = c.loop-index.index in
     let M = c.args.lr0.now in
     let R = c.args.relations.now in
     let first = c.args.first.now in
-    let l = lookback_from (slice_index_or items i no_lookback) in
-    let at = lookback_seen R.lookbacks items i c.lookbacks-lookback-items.ensures c.loop-lookback-test.true in
+    let l = lookback_from c.get-lookback.result in
+    let at = lookback_seen R.lookbacks items i c.get-lookback.result c.lookbacks-lookbacks.ensures
+    c.get-lookback.ensures in
     let has = member_at R.lookbacks i l at in
     let in_state = (lookback_within M c.requires.lawful R c.requires.relations l has).0 in
     let old = c.args.sets.now.sets in
-    let now = c.loop-lookback.sets.sets in
-    let kept = c.loop-lookback.invariant.long in
+    let now = c.loop-index.sets.sets in
+    let kept = c.loop-index.invariant.long in
     elim c.match-place_of.branch [
       | in-Some+in_ok-union_row w ↦
           let k = w.in-Some.place in
@@ -115,8 +115,8 @@ loop-lookback-preserved c =
                 (stays M first R.lookbacks i l at old now
                 (λ m j other. rows_apart M c.requires.lawful R c.requires.relations first c.requires.rows l m j
                 has other)
-                c.loop-lookback.invariant.united)
-                c.loop-lookback.invariant.united;
+                c.loop-index.invariant.united)
+                c.loop-index.invariant.united;
           }
       | in_default w ↦
           let lacks = subst (λ xs. Contains xs l.rule → ⊥) c.complete.ensures w.in_default.ensures in
@@ -124,17 +124,18 @@ loop-lookback-preserved c =
           record {
             long = ap length is ∙ kept;
             united = subst (λ s. AreLookedBack M first (take (i + 1) R.lookbacks) old s) (sym is)
-                (looked_past M first R.lookbacks i l at old now lacks c.loop-lookback.invariant.united);
+                (looked_past M first R.lookbacks i l at old now lacks c.loop-index.invariant.united);
           }
     ]
 
 pub returns-clause-united : goal.returns-clause-united
 returns-clause-united c =
     let R = c.args.relations.now in
-    let items = c.lookbacks-lookback-items.result.now in
-    let past = c.loop-lookback-test.false in
+    let items = c.lookbacks-lookbacks.result.now in
+    let past = c.loop-index-test.false in
     let count = length-map items lookback_from in
-    let shown = ap length c.lookbacks-lookback-items.ensures in
-    subst (λ xs. AreLookedBack c.args.lr0.now c.args.first.now xs c.args.sets.now.sets c.loop-lookback.sets.sets)
-    (take_all c.loop-lookback.lookback-index R.lookbacks (omega (arith, past, count, shown)))
-    c.loop-lookback.invariant.united
+    let shown = ap length c.lookbacks-lookbacks.ensures in
+    let end = c.len-index-end.ensures in
+    subst (λ xs. AreLookedBack c.args.lr0.now c.args.first.now xs c.args.sets.now.sets c.loop-index.sets.sets)
+    (take_all c.loop-index.index R.lookbacks (omega (arith, past, count, shown, end)))
+    c.loop-index.invariant.united

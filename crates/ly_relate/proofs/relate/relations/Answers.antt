@@ -26,11 +26,11 @@ are_relations M gotos n reads includes lookbacks law same listed r i l =
 pub returns : goal.returns
 returns c =
     are_relations c.args.lr0.now (map goto_from c.into_list.result.items) c.in_ok-gotos.gotos c.in_ok-reads.reads
-    c.into_graph.result (map lookback_from c.in_ok-walks.walks.lookbacks.items)
+    c.into_graph.result (map lookback_from c.in_ok-walks.walks.lookbacks)
     (subst IsNumbering c.gotos.view_is c.gotos.invariant) c.in_ok-gotos.ensures c.into_list.ensures
     c.in_ok-reads.ensures
     (subst (AreGathered c.in_ok-gotos.gotos.gotos
     (IsIncluding c.in_ok-gotos.gotos.automaton c.in_ok-gotos.gotos.gotos)) (sym c.into_graph.ensures)
     c.in_ok-walks.ensures.includes)
     (subst (λ g. AreLookbacks c.in_ok-gotos.gotos.automaton c.in_ok-gotos.gotos.gotos g
-    (map lookback_from c.in_ok-walks.walks.lookbacks.items)) (sym c.into_graph.ensures) c.in_ok-walks.ensures.lookbacks)
+    (map lookback_from c.in_ok-walks.walks.lookbacks)) (sym c.into_graph.ensures) c.in_ok-walks.ensures.lookbacks)

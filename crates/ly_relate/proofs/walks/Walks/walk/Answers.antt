@@ -44,15 +44,15 @@ returns-in_ok-include-clause-lookbacks c =
     = subst (λ o. MatchOption o (IsStopped n.automaton c.get.result.from.0 body) (λ s. IsPassed n.automaton
     c.get.result.from.0 body (length c.body-body.result.now) path s.0)) c.in-Some.is c.in_ok-state.ensures.passed in
     let v : code.Lookback = c.in_ok-lookback.lookback in
-    let before = ap (λ l. map lookback_from l.items) c.in_ok-state.ensures.lookbacks in
+    let before = ap (map lookback_from) c.in_ok-state.ensures.lookbacks in
     back_by n c.get.ensures.lawful c.args.goto c.args.node c.args.rule c.get.result.from.0 body
     (length c.body-body.result.now) path
-    c.in-Some.state.0 (map lookback_from c.args.self.now.lookbacks.items)
-    (map lookback_from c.include.new.self.lookbacks.items) is
+    c.in-Some.state.0 (map lookback_from c.args.self.now.lookbacks)
+    (map lookback_from c.include.new.self.lookbacks) is
     (sym (length-map c.body-body.result.now symbol_of)) passed
-    (ap (λ l. map lookback_from l.items) c.in_ok-include.ensures.lookbacks
-    ∙ ap (map lookback_from) c.in_ok-push.ensures.items
-    ∙ map-append lookback_from c.pass.new.self.lookbacks.items (v ∷ [])
+    (ap (map lookback_from) c.in_ok-include.ensures.lookbacks
+    ∙ ap (map lookback_from) c.in_ok-push.ensures
+    ∙ map-append lookback_from c.pass.new.self.lookbacks (v ∷ [])
     ∙ ap₂ (λ w l. w ++ l ∷ []) before c.in_ok-lookback.ensures)
 
 pub returns-in_default-clause-includes : goal.returns-in_default-clause-includes

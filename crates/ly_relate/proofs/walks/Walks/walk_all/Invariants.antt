@@ -11,6 +11,6 @@ invariant-loop-goto l = record {
   nodes : l.self.includes.nodes ≡ l.groups.end;
   includes : (i o : ℕ) → IsEdge l.self.includes i o
       ↔ ((j : ℕ) × (j < l.goto) × EdgeFrom l.gotos l.rules l.groups j i o);
-  lookbacks : (s p o : ℕ) → Contains (map lookback_from l.self.lookbacks.items)
+  lookbacks : (s p o : ℕ) → Contains (map lookback_from l.self.lookbacks)
       (record { state = s; rule = p; node = o }) ↔ ((j : ℕ) × (j < l.goto) × BackFrom l.gotos l.rules l.groups j s p o);
 }

@@ -76,17 +76,17 @@ returns-in_ok-add-clause-lookbacks c =
     let j = c.args.goto in
     let x = goto_from c.get.result in
     let there = c.get.ensures.there in
-    let old = map lookback_from c.args.self.now.lookbacks.items in
-    let first = map lookback_from c.walk_rules.new.self.lookbacks.items in
+    let old = map lookback_from c.args.self.now.lookbacks in
+    let first = map lookback_from c.walk_rules.new.self.lookbacks in
     let said : ℕ → ℕ → ℕ → Type 0 = BackFrom n r w j in
     elim c.if-leads.branch [
-      | then-leads+in_ok-walk_rules-2 b ↦ subst (λ v. AreBackBy said old (map lookback_from v.lookbacks.items))
+      | then-leads+in_ok-walk_rules-2 b ↦ subst (λ v. AreBackBy said old (map lookback_from v.lookbacks))
           (sym b.self-is)
           (back_both n r w j c.node-node.result x there c.others.result.now b.solid.result.now c.others.ensures
           b.solid.ensures c.node-node.ensures old first
-          (map lookback_from b.walk_rules-then-leads.new.self.lookbacks.items) c.in_ok-walk_rules.ensures.lookbacks
+          (map lookback_from b.walk_rules-then-leads.new.self.lookbacks) c.in_ok-walk_rules.ensures.lookbacks
           b.in_ok-walk_rules-2.ensures.lookbacks (b.if-leads.ensures.0 refl))
-      | else-leads b ↦ subst (λ v. AreBackBy said old (map lookback_from v.lookbacks.items))
+      | else-leads b ↦ subst (λ v. AreBackBy said old (map lookback_from v.lookbacks))
           (sym b.self-is)
           (back_first n r w j x there c.others.result.now c.others.ensures
           (λ l. let off : false ≡ true = b.if-leads.ensures.1 l in cc)
@@ -125,17 +125,17 @@ returns-else-node-goto-clause-lookbacks c =
     let j = c.args.goto in
     let x = goto_from c.get.result in
     let there = c.get.ensures.there in
-    let old = map lookback_from c.args.self.now.lookbacks.items in
-    let first = map lookback_from c.walk_rules.new.self.lookbacks.items in
+    let old = map lookback_from c.args.self.now.lookbacks in
+    let first = map lookback_from c.walk_rules.new.self.lookbacks in
     let said : ℕ → ℕ → ℕ → Type 0 = BackFrom n r w j in
     elim c.if-leads.branch [
-      | then-leads+in_ok-walk_rules-2 b ↦ subst (λ v. AreBackBy said old (map lookback_from v.lookbacks.items))
+      | then-leads+in_ok-walk_rules-2 b ↦ subst (λ v. AreBackBy said old (map lookback_from v.lookbacks))
           (sym b.self-is)
           (back_both n r w j c.node-node.result x there c.others.result.now b.solid.result.now c.others.ensures
           b.solid.ensures c.node-node.ensures old first
-          (map lookback_from b.walk_rules-then-leads.new.self.lookbacks.items) c.in_ok-walk_rules.ensures.lookbacks
+          (map lookback_from b.walk_rules-then-leads.new.self.lookbacks) c.in_ok-walk_rules.ensures.lookbacks
           b.in_ok-walk_rules-2.ensures.lookbacks (b.if-leads.ensures.0 refl))
-      | else-leads b ↦ subst (λ v. AreBackBy said old (map lookback_from v.lookbacks.items))
+      | else-leads b ↦ subst (λ v. AreBackBy said old (map lookback_from v.lookbacks))
           (sym b.self-is)
           (back_first n r w j x there c.others.result.now c.others.ensures
           (λ l. let off : false ≡ true = b.if-leads.ensures.1 l in cc)

@@ -29,8 +29,8 @@ loop-rule-preserved c =
           (IncludesByOne n (take k rules) m) (λ i. IsIncludingBy n.automaton n.gotos rule i m)
           (IncludesByOne n (take (k + 1) rules) m) (includes_rules_more n rules k 0 m c.loop-rule-test.true)
           c.loop-rule.invariant.includes c.in_ok-walk.ensures.includes;
-      lookbacks = back_union (map lookback_from c.args.self.now.lookbacks.items)
-          (map lookback_from c.loop-rule.self.lookbacks.items) (map lookback_from c.walk.new.self.lookbacks.items) o
+      lookbacks = back_union (map lookback_from c.args.self.now.lookbacks)
+          (map lookback_from c.loop-rule.self.lookbacks) (map lookback_from c.walk.new.self.lookbacks) o
           (LooksBackByOne n (take k rules) m) (λ s p. (p ≡ rule) × IsLookingBack n.automaton n.gotos m s p)
           (LooksBackByOne n (take (k + 1) rules) m) (looks_rules_more n rules k 0 m c.loop-rule-test.true)
           c.loop-rule.invariant.lookbacks c.in_ok-walk.ensures.lookbacks;
@@ -46,7 +46,7 @@ returns-clause-includes c =
 pub returns-clause-lookbacks : goal.returns-clause-lookbacks
 returns-clause-lookbacks c =
     let past = c.loop-rule-test.false in
-    subst (λ rules. AreBack (map lookback_from c.args.self.now.lookbacks.items)
-    (map lookback_from c.loop-rule.self.lookbacks.items) c.args.node
+    subst (λ rules. AreBack (map lookback_from c.args.self.now.lookbacks)
+    (map lookback_from c.loop-rule.self.lookbacks) c.args.node
     (LooksBackByOne c.args.gotos.now rules c.args.goto)) (take_all c.loop-rule.rule-index c.args.rules.now past)
     c.loop-rule.invariant.lookbacks

@@ -9,7 +9,7 @@ invariant-loop-rule l = record {
   nodes : l.self.includes.nodes ≡ l.initial.self.includes.nodes;
   includes : AreEdgesTo l.initial.self.includes l.self.includes l.node
       (IncludesByOne l.gotos (take l.rule-index l.rules) l.goto);
-  lookbacks : AreBack (map lookback_from l.initial.self.lookbacks.items)
-      (map lookback_from l.self.lookbacks.items) l.node
+  lookbacks : AreBack (map lookback_from l.initial.self.lookbacks)
+      (map lookback_from l.self.lookbacks) l.node
       (LooksBackByOne l.gotos (take l.rule-index l.rules) l.goto);
 }
