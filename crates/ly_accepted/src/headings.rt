@@ -16,7 +16,10 @@ const NAMED: usize = 12;
 pub(crate) fn say_heading(page: &mut Page, files: &Accepted<'_>, places: &Places, told: &Told<'_>) {
     let conflict = &told.conflict;
     page.say(b"\n");
-    page.say_location_in(files.yacc, places.location_of_rule(conflict.rule.0 as usize));
+    page.say_location_in(
+        files.yacc,
+        places.location_of_rule(conflict.rule.0 as usize),
+    );
     say_place(page, files.spec, told);
     say_before(page, files.spec, &told.terminals);
     say_done(page, conflict);
@@ -102,6 +105,11 @@ fn say_unranked(page: &mut Page, spec: &Spec, conflict: &Conflict, alike: usize)
         page.say_terminal(spec, conflict.terminal);
         page.say(b" has a precedence.");
     } else {
-        say_numbered(page, b"Rule ", conflict.rule.0 as u64, b" has no precedence.");
+        say_numbered(
+            page,
+            b"Rule ",
+            conflict.rule.0 as u64,
+            b" has no precedence.",
+        );
     }
 }

@@ -261,7 +261,8 @@ module _ (M : Lr0Automaton) (is : IsLr0Automaton M) (from : StateNo) (lt : from.
       let put : StateNo → _ → Incoming = λ q y. record { from = q; symbol = y } in
       (it.0, it.1, (ap (λ v. v.target) it.2, ap (λ q. put q it.0.symbol) (sym at) ∙ ap (put x.from) symbol))
 
-  module _ (shifts gotos : List code.Transition) (over_terminals : map transition_of shifts ≡ filter is_shift transitions)
+  module _ (shifts gotos : List code.Transition)
+      (over_terminals : map transition_of shifts ≡ filter is_shift transitions)
       (over_nonterminals : map transition_of gotos ≡ filter is_goto transitions) where
     leaving_are : (s : ℕ) (x : Incoming)
         → (HasSource (IsLeaving from s) shifts x ⊎ HasSource (IsLeaving from s) gotos x)
@@ -286,18 +287,18 @@ module _ (M : Lr0Automaton) (is : IsLr0Automaton M) (from : StateNo) (lt : from.
       exact = λ s x less. (
         λ has. elim ((second.exact s x).0 has) [
           | inl was ↦ elim ((first.exact s x).0 was) [
-              | inl older ↦
-                  let there = (before.exact s x less).0 older in
-                  ((let e = there.0 in omega (arith, e)), there.1)
-              | inr some ↦ here s x ((leaving_are s x).0 (inl some))
-            ]
+            | inl older ↦
+                let there = (before.exact s x less).0 older in
+                ((let e = there.0 in omega (arith, e)), there.1)
+            | inr some ↦ here s x ((leaving_are s x).0 (inl some))
+          ]
           | inr some ↦ here s x ((leaving_are s x).0 (inr some))
         ],
         λ (early, leads). elim (cases_order x.from.0 from.0) [
           | inl same ↦ elim ((leaving_are s x).1 (ap (λ n. record { 0 = n }) same, leads)) [
-              | inl one ↦ (second.exact s x).1 (inl ((first.exact s x).1 (inr one)))
-              | inr one ↦ (second.exact s x).1 (inr one)
-            ]
+            | inl one ↦ (second.exact s x).1 (inl ((first.exact s x).1 (inr one)))
+            | inr one ↦ (second.exact s x).1 (inr one)
+          ]
           | inr (inl less') ↦
               (second.exact s x).1 (inl ((first.exact s x).1 (inl ((before.exact s x less).1 (less', leads)))))
           | inr (inr more') ↦ absurd (omega (arith, early, more'))

@@ -35,7 +35,8 @@ full_at (p ∷ ps) all zero j v x at is =
     let same : p ≡ v = cc in
     let place : 0 * 4096 + j ≡ j = omega arith in
     ap (slice_get (p.items ++ flat_map (λ q. q.items) ps)) place
-    ∙ slice_get-append p.items (flat_map (λ q. q.items) ps) j x (subst (λ q. slice_get q.items j ≡ Some x) (sym same) is)
+    ∙ slice_get-append p.items (flat_map (λ q. q.items) ps) j x
+    (subst (λ q. slice_get q.items j ≡ Some x) (sym same) is)
 full_at {T} (p ∷ ps) all (suc k) j v x at is =
     let one = All-head (λ (q : Vec T). length q.items ≡ 4096) p ps all in
     let rest = full_at ps (All-tail (λ (q : Vec T). length q.items ≡ 4096) p ps all) k j v x at is in

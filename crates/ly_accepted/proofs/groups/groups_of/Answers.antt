@@ -13,9 +13,8 @@ pub unwrap-requires : goal.unwrap-requires
 unwrap-requires c =
     let lt = c.loop-index-test.true in
     let count = c.len-index-end.ensures in
-    subst IsSome
-    (sym (c.get_near.ensures ∙ (some_at c.conflicts-conflicts.result.now c.loop-index.index (omega (arith, lt, count))).1))
-    refl
+    let there = some_at c.conflicts-conflicts.result.now c.loop-index.index (omega (arith, lt, count)) in
+    subst IsSome (sym (c.get_near.ensures ∙ there.1)) refl
 
 pub loop-index-preserved : goal.loop-index-preserved
 loop-index-preserved c =

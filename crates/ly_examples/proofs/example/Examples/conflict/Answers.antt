@@ -7,7 +7,8 @@ use Rattle.ly_examples.proofs.example.Examples.conflict.Goals as goal
 
 pub returns-clause-these : goal.returns-clause-these
 returns-clause-these c =
-    subst (λ (v : Resolved). IfSome c.get.result (λ x. slice_get v.conflicts c.args.index ≡ Some (conflict_from v.automaton x)))
+    subst (λ (v : Resolved). IfSome c.get.result
+    (λ x. slice_get v.conflicts c.args.index ≡ Some (conflict_from v.automaton x)))
     c.self.view_is (found_at c.self.inside.resolved.now c.conflicts.result.now c.args.index c.get.result
     c.conflicts.ensures.these c.get.ensures)
 

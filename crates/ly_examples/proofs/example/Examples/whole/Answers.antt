@@ -12,7 +12,8 @@ rule-requires c =
     let same : c.args.self.now.automaton.grammar ≡ c.reduced.result.now.grammar
     = sym (c.reduced.ensures ∙ ap (λ a. a.grammar) (c.self.invariant.1 ∙ ap (λ v. v.automaton) c.self.view_is)) in
     slice_get_within c.grammar-grammar.result.now.rules c.args.rule.0 (Some x)
-    (rule_within c.grammar-grammar.result.now c.reduced.result.now.grammar c.grammar-grammar.ensures.keeps c.args.rule.0 x
+    (rule_within c.grammar-grammar.result.now c.reduced.result.now.grammar c.grammar-grammar.ensures.keeps
+    c.args.rule.0 x
     (subst (λ G. IsRule G c.args.rule.0 x) same c.requires.1))
 
 pub returns-clause-end : goal.returns-clause-end
@@ -21,8 +22,8 @@ returns-clause-end c =
     let same : c.args.self.now.automaton.grammar ≡ c.reduced.result.now.grammar
     = sym (c.reduced.ensures ∙ ap (λ a. a.grammar) (c.self.invariant.1 ∙ ap (λ v. v.automaton) c.self.view_is)) in
     let is : IsRule c.grammar-grammar.result.now c.args.rule.0 x
-    = rule_within c.grammar-grammar.result.now c.reduced.result.now.grammar c.grammar-grammar.ensures.keeps c.args.rule.0
-    x
+    = rule_within c.grammar-grammar.result.now c.reduced.result.now.grammar c.grammar-grammar.ensures.keeps
+    c.args.rule.0 x
     (subst (λ G. IsRule G c.args.rule.0 x) same c.requires.1) in (
       x,
       c.requires.1,

@@ -1,4 +1,5 @@
-use Rattle.std.proofs.Common.{◌≡◌, ◌∙◌, ◌+◌, ◌-◌, ◌*◌, ◌/◌, ◌%◌, ◌<◌, ◌≤◌, Some, ap, arith, length, slice_get, subst, sym}
+use Rattle.std.proofs.Common.{◌≡◌, ◌∙◌, ◌+◌, ◌-◌, ◌*◌, ◌/◌, ◌%◌, ◌<◌, Some, ap, arith}
+use Rattle.std.proofs.Common.{length, slice_get, subst, sym}
 use Rattle.std.specs.Prelude.{flat_map}
 use Rattle.std.proofs.lemmas.List.{length-append}
 use Rattle.std.proofs.lemmas.Option.{slice_get-get_or}
@@ -11,8 +12,8 @@ pub index-requires-else-place-len : goal.index-requires-else-place-len
 index-requires-else-place-len g c =
     let full = c.self.inside.full.items in
     let last = c.self.inside.last.items in
-    let all : c.args.index < length (elements_of full last) = subst (λ xs. c.args.index < length xs) (sym c.self.view_is)
-    c.requires in
+    let all : c.args.index < length (elements_of full last)
+    = subst (λ xs. c.args.index < length xs) (sym c.self.view_is) c.requires in
     let long = length-append (flat_map (λ p. p.items) full) last in
     let many = length-full full c.self.invariant.0 in
     let a = c.self.inside.full.ok.0 in
@@ -36,7 +37,8 @@ returns-then-place-len g c =
     = slice_get-get_or full (i / 4096) v (omega (arith, a, b, f)) ∙ ap (λ w. Some w) (sym c.index.ensures) in
     let one = All-at (λ q. length q.items ≡ 4096) full (i / 4096) v c.self.invariant.0 there in
     let here : slice_get v.items (i % 4096) ≡ Some x
-    = slice_get-get_or v.items (i % 4096) x (omega (arith, one)) ∙ ap (λ w. Some w) (sym c.index-then-place-len.ensures) in
+    = slice_get-get_or v.items (i % 4096) x (omega (arith, one))
+    ∙ ap (λ w. Some w) (sym c.index-then-place-len.ensures) in
     let place : i ≡ i / 4096 * 4096 + i % 4096 = omega arith in
     subst (λ xs. slice_get xs i ≡ Some x) c.self.view_is
     (ap (slice_get (elements_of full last)) place
