@@ -1,7 +1,6 @@
-use Rattle.std.proofs.Common.{◌≡◌, ◌∙◌, ap, arith, length, refl, subst, sym}
-use Rattle.std.specs.Prelude.{IsSome}
+use Rattle.std.proofs.Common.{◌≡◌, ◌∙◌, ap, arith, length, subst, sym}
 use Rattle.std.proofs.lemmas.List.{length-map}
-use Rattle.ly_base.proofs.ListLemmas.{some_at}
+use Rattle.ly_join.proofs.ListLemmas.{member_at}
 use Rattle.ly_lr0.specs.Automaton.{IsLr0Automaton}
 use Rattle.ly_resolve.specs.Values.{conflict_from}
 use Rattle.ly_accepted.specs.Private.Grouping.{AreGroupsBelow, IsSought}
@@ -9,12 +8,19 @@ use Rattle.ly_accepted.proofs.GroupsLemmas.{all_groups, at_index}
 use Rattle.ly_accepted.proofs.groups.groups_of.Goals as goal
 use Rattle.ly_accepted.proofs.groups.groups_of.Goals.{then-asks_for+in_ok-example, else-asks_for}
 
-pub unwrap-requires : goal.unwrap-requires
-unwrap-requires c =
-    let lt = c.loop-index-test.true in
-    let count = c.len-index-end.ensures in
-    let there = some_at c.conflicts-conflicts.result.now c.loop-index.index (omega (arith, lt, count)) in
-    subst IsSome (sym (c.get_near.ensures ∙ there.1)) refl
+pub example_of-requires-clause-inside : goal.example_of-requires-clause-inside
+example_of-requires-clause-inside c =
+    (at_index c.args.examples.now c.resolved-resolved.result.now.automaton c.conflicts-conflicts.result.now
+    c.loop-index.index c.unwrap-conflict.result (ap (λ v. v.automaton) c.resolved-resolved.ensures)
+    (c.conflicts-conflicts.ensures.these ∙ ap (λ v. v.conflicts) c.resolved-resolved.ensures)
+    c.conflicts-conflicts.ensures.inside (sym c.get_near.ensures ∙ c.unwrap-conflict.ensures)).inside
+
+pub example_of-requires-clause-conflict : goal.example_of-requires-clause-conflict
+example_of-requires-clause-conflict c = member_at c.args.examples.now.conflicts c.loop-index.index _
+    (at_index c.args.examples.now c.resolved-resolved.result.now.automaton c.conflicts-conflicts.result.now
+    c.loop-index.index c.unwrap-conflict.result (ap (λ v. v.automaton) c.resolved-resolved.ensures)
+    (c.conflicts-conflicts.ensures.these ∙ ap (λ v. v.conflicts) c.resolved-resolved.ensures)
+    c.conflicts-conflicts.ensures.inside (sym c.get_near.ensures ∙ c.unwrap-conflict.ensures)).at
 
 pub loop-index-preserved : goal.loop-index-preserved
 loop-index-preserved c =

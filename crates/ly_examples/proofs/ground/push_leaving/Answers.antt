@@ -10,7 +10,7 @@ push_each-requires c = λ t has.
     let long = c.requires.before.count in
     omega (arith, lt, long)
 
-pub push_each-requires-2 : goal.push_each-2-requires
+pub push_each-requires-2 : goal.push_each-requires-2
 push_each-requires-2 c = λ t has.
     let lt = target_within c.args.lr0.now c.requires.lawful c.args.from c.requires.state is_goto c.gotos.result.now
     c.gotos.ensures t has in

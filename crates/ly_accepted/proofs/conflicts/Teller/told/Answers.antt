@@ -8,10 +8,6 @@ use Rattle.ly_accepted.specs.Told.{AreTerminalsOf}
 use Rattle.ly_accepted.proofs.ToldLemmas.{first_at, first_index}
 use Rattle.ly_accepted.proofs.conflicts.Teller.told.Goals as goal
 
-pub conflict-requires : goal.conflict-requires
-conflict-requires c = (first_index c.args.self.now.examples.now c.args.group.now c.requires.group c.index.result.now
-    c.index.ensures).1
-
 pub terminals-requires : goal.terminals-requires
 terminals-requires c = λ i has.
     let one = c.requires.group.alike i (subst (λ xs. Contains xs i) c.deref.ensures.value has) in
