@@ -203,6 +203,7 @@ fn drop_by(cells: &mut Vec<Cell<TableAction>>, rule: RuleNo)
 }
 
 /// Puts an entry, or none, into a column of a row.
+#[inline(always)] // it is asked for each entry of a table
 fn put<E: Copy>(cells: &mut Vec<Cell<E>>, column: u32, entry: Option<E>) -> Result<(), AllocError>
     requires { AreRising cells.old.items }
     ensures kept { AreCellsStill column cells.old.items cells.new.items }
