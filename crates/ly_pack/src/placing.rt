@@ -131,10 +131,11 @@ impl<E: Copy> Placing<E> {
         ensures short { OnOk result ((k : ℕ) → suc k ≡ length self.new.slots.items
             → (k ≡ place) ⊎ (suc k ≡ length self.old.slots.items)) }
     {
+        let used = CombSlot::used(slot)?;
         while self.slots.len() <= place {
             self.slots.push(CombSlot::free(slot.entry))?;
         }
-        self.slots[place] = CombSlot::used(slot)?;
+        self.slots[place] = used;
         self.used.insert(place)
     }
 }
