@@ -49,11 +49,7 @@ fn slots<E: CombEntry>(
 }
 
 /// A slot, free where its row is none.
-fn slot<E: CombEntry>(
-    version: Version,
-    entry: u32,
-    row: u32,
-) -> Result<CombSlot<E>, AllocError>
+fn slot<E: CombEntry>(version: Version, entry: u32, row: u32) -> Result<CombSlot<E>, AllocError>
     ensures { IfOk result (λ s. option_map used_from s
         ≡ slot_meant (width_of version) (E.meant version) entry row) }
 {
