@@ -3,6 +3,7 @@ ghost use Rattle.ly_pack.specs.Combs.{comb_from, slots_from};
 ghost use Rattle.ly_pack.specs.Rows.{IsComb};
 
 use crate::cell::Cell;
+use crate::comb_slot::CombSlot;
 use crate::rows::Rows;
 use ly_base::{OutOfMemory, StateNo};
 use std::alloc::{AllocError, Global};
@@ -27,7 +28,7 @@ pub struct Comb<E> {
     /// Where each row begins.
     bases: Vec<u32>,
     /// The slots, those that no row uses too.
-    slots: Vec<Option<Slot<E>>>,
+    slots: Vec<CombSlot<E>>,
 }
 
 impl<E> Model for Comb<E> {
@@ -44,7 +45,7 @@ impl<E> Model for Comb<E> {
 
 impl<E: Copy> Comb<E> {
     /// The comb of these.
-    pub fn new(width: usize, bases: Vec<u32>, slots: Vec<Option<Slot<E>>>) -> Comb<E>
+    pub fn new(width: usize, bases: Vec<u32>, slots: Vec<CombSlot<E>>) -> Comb<E>
         requires { IsComb (comb_from width bases.items slots.items) }
         ensures { result ≡ comb_from width bases.items slots.items }
     {
@@ -71,7 +72,7 @@ impl<E: Copy> Comb<E> {
     }
 
     /// The slots, those that no row uses too.
-    pub fn slots(&self) -> &[Option<Slot<E>>]
+    pub fn slots(&self) -> &[CombSlot<E>]
         ensures { slots_from result.now ≡ self.now.slots }
     {
         &self.slots
@@ -93,7 +94,7 @@ impl<E: Copy> Rows<E> for Comb<E> {
             return None;
         }
         let base = *self.bases.get(row.0 as usize)?;
-        let slot = (*self.slots[base as usize..].get(column)?)?;
+        let slot = self.slots[base as usize..].get(column)?.get()?;
         if slot.row == row {
             Some(slot.entry)
         } else {
@@ -104,7 +105,7 @@ impl<E: Copy> Rows<E> for Comb<E> {
     fn cells(&self, alloc: Global) -> Result<CowSlice<'_, Rc<Vec<Cell<E>>>>, OutOfMemory> {
         let mut lists = no_cells(alloc, self.bases.len())?;
         for (place, slot) in self.slots.iter().enumerate() {
-            if let Some(slot) = slot {
+            if let Some(slot) = slot.get() {
                 let row = slot.row.0 as usize;
                 let Ok(column) = u32::try_from(place - self.bases[row] as usize) else {
                     return Err(OutOfMemory);

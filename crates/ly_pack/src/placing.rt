@@ -11,6 +11,7 @@ ghost use Rattle.ly_pack.specs.Rows.{comb_entry, dense_entry};
 
 use crate::bit_row::BitRow;
 use crate::comb_rows::{Comb, Slot};
+use crate::comb_slot::CombSlot;
 use crate::dense::Dense;
 use crate::earlier_rows::EarlierRows;
 use crate::order::{columns_of_row, rows_in_order};
@@ -39,7 +40,7 @@ pub fn comb<E: Copy>(alloc: Global, dense: &Dense<E>) -> Result<Comb<E>, OutOfMe
 fn place_rows<E: Copy>(
     alloc: Global,
     dense: &Dense<E>,
-) -> Result<(Vec<u32>, Vec<Option<Slot<E>>>), OutOfMemory>
+) -> Result<(Vec<u32>, Vec<CombSlot<E>>), OutOfMemory>
     requires rows { dense.now.rows < 2 ^ 32 }
     requires width { dense.now.width < 2 ^ 32 }
     ensures { IfOk result (λ placed. AreAllLaid (table_of dense.now) placed.0.items placed.1.items) }
@@ -65,7 +66,7 @@ fn place_rows<E: Copy>(
 #[derive(Drop)]
 struct Placing<E> {
     /// The slots.
-    slots: Vec<Option<Slot<E>>>,
+    slots: Vec<CombSlot<E>>,
     /// Which of them are used.
     used: BitRow,
 }
@@ -130,10 +131,11 @@ impl<E: Copy> Placing<E> {
         ensures short { OnOk result ((k : ℕ) → suc k ≡ length self.new.slots.items
             → (k ≡ place) ⊎ (suc k ≡ length self.old.slots.items)) }
     {
+        let used = CombSlot::used(slot)?;
         while self.slots.len() <= place {
-            self.slots.push(None)?;
+            self.slots.push(CombSlot::free(slot.entry))?;
         }
-        self.slots[place] = Some(slot);
+        self.slots[place] = used;
         self.used.insert(place)
     }
 }

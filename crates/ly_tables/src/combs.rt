@@ -12,7 +12,7 @@ ghost use Rattle.ly_tables.specs.Spelling.{check_of, comb, next_of, number};
 
 use crate::numbers::{Numbering, none, push_numbers, push_wide, reduction, shift};
 use ly_base::{RuleNo, StateNo, Version};
-use ly_pack::{Comb, Slot, TableAction};
+use ly_pack::{Comb, CombSlot, TableAction};
 use std::alloc::AllocError;
 
 /// An entry of rows, which a number of each version stands for.
@@ -111,31 +111,31 @@ impl Numbering<u32> for Itself {
 
     ghost code = { λ v n. n };
 
-    fn number(_version: Version, number: u32) -> u32 {
-        number
+    fn number(_version: Version, number: &u32) -> u32 {
+        *number
     }
 }
 
-impl<E: CombEntry> Numbering<Option<Slot<E>>> for Entries {
+impl<E: CombEntry> Numbering<CombSlot<E>> for Entries {
     ghost has = { λ v s. IsSlotShort (width_of v) (E.code v) (option_map used_from s) };
 
     ghost code = { λ v s. next_of (E.code v) (option_map used_from s) };
 
-    fn number(version: Version, slot: Option<Slot<E>>) -> u32 {
-        match slot {
+    fn number(version: Version, slot: &CombSlot<E>) -> u32 {
+        match slot.get() {
             Some(slot) => slot.entry.number(version),
             None => 0,
         }
     }
 }
 
-impl<E: CombEntry> Numbering<Option<Slot<E>>> for Rows {
+impl<E: CombEntry> Numbering<CombSlot<E>> for Rows {
     ghost has = { λ v s. IsSlotShort (width_of v) (E.code v) (option_map used_from s) };
 
     ghost code = { λ v s. check_of (width_of v) (option_map used_from s) };
 
-    fn number(version: Version, slot: Option<Slot<E>>) -> u32 {
-        match slot {
+    fn number(version: Version, slot: &CombSlot<E>) -> u32 {
+        match slot.get() {
             Some(slot) => slot.row.0,
             None => none(version),
         }
@@ -153,24 +153,24 @@ fn push_bases(out: &mut Vec<u8>, bases: &[u32]) -> Result<(), AllocError>
 fn push_entries<E: CombEntry>(
     out: &mut Vec<u8>,
     version: Version,
-    slots: &[Option<Slot<E>>],
+    slots: &[CombSlot<E>],
 ) -> Result<(), AllocError>
     requires { All (IsSlotShort (width_of version) (E.code version)) (slots_from slots.now) }
     ensures { OnOk result (out.new.items ≡ out.old.items
         ++ flat_map (λ u. number (width_of version) (next_of (E.code version) u)) (slots_from slots.now)) }
 {
-    push_numbers::<Option<Slot<E>>, Entries>(out, version, slots)
+    push_numbers::<CombSlot<E>, Entries>(out, version, slots)
 }
 
 /// The rows of slots.
 fn push_checks<E: CombEntry>(
     out: &mut Vec<u8>,
     version: Version,
-    slots: &[Option<Slot<E>>],
+    slots: &[CombSlot<E>],
 ) -> Result<(), AllocError>
     requires { All (IsSlotShort (width_of version) (E.code version)) (slots_from slots.now) }
     ensures { OnOk result (out.new.items ≡ out.old.items
         ++ flat_map (λ u. number (width_of version) (check_of (width_of version) u)) (slots_from slots.now)) }
 {
-    push_numbers::<Option<Slot<E>>, Rows>(out, version, slots)
+    push_numbers::<CombSlot<E>, Rows>(out, version, slots)
 }

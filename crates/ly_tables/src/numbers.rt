@@ -24,9 +24,9 @@ pub(crate) trait Numbering<T> {
     ghost code: { AnyVersion → T → ℕ };
 
     /// The number of an item in a version.
-    fn number(version: Version, item: T) -> u32
-        requires { has version item }
-        ensures number { result ≡ code version item }
+    fn number(version: Version, item: &T) -> u32
+        requires { has version item.now }
+        ensures number { result ≡ code version item.now }
         ensures fits { Fits (width_of version) result };
 }
 
@@ -128,7 +128,7 @@ pub(crate) fn push_wide(out: &mut Vec<u8>, number: u32) -> Result<(), AllocError
 
 /// Puts the number of each item at the end, a block of them at a time: room that is made for each alone costs more than
 /// its bytes.
-pub(crate) fn push_numbers<T: Copy, N: Numbering<T>>(
+pub(crate) fn push_numbers<T, N: Numbering<T>>(
     out: &mut Vec<u8>,
     version: Version,
     items: &[T],
@@ -147,7 +147,7 @@ pub(crate) fn push_numbers<T: Copy, N: Numbering<T>>(
 }
 
 /// Puts the numbers of a block at the end.
-fn push_block<T: Copy, N: Numbering<T>>(
+fn push_block<T, N: Numbering<T>>(
     out: &mut Vec<u8>,
     version: Version,
     items: &[T],
@@ -164,14 +164,14 @@ fn push_block<T: Copy, N: Numbering<T>>(
 }
 
 /// Writes the numbers of a block over bytes, which have room for exactly these.
-fn write_block<T: Copy, N: Numbering<T>>(bytes: &mut [u8], version: Version, items: &[T])
+fn write_block<T, N: Numbering<T>>(bytes: &mut [u8], version: Version, items: &[T])
     requires room { length bytes.old ≡ byte_len (width_of version) * length items.now }
     requires each { All (N.has version) items.now }
     ensures { bytes.new ≡ flat_map (λ x. number (width_of version) (N.code version x)) items.now }
 {
     let size = number_size(version);
     for (i, item) in items.iter().enumerate() {
-        write_number(&mut bytes[size * i..], version, N::number(version, *item));
+        write_number(&mut bytes[size * i..], version, N::number(version, item));
     }
 }
 

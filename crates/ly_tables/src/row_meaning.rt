@@ -12,7 +12,7 @@ use crate::combs::CombEntry;
 use crate::numbers::none;
 use crate::raw_tables::RawComb;
 use ly_base::{StateNo, Version};
-use ly_pack::{Comb, Slot};
+use ly_pack::{Comb, CombSlot, Slot};
 use std::alloc::{AllocError, Global};
 
 /// Rows of so many columns, laid over one another.
@@ -36,27 +36,27 @@ fn slots<E: CombEntry>(
     version: Version,
     entries: &[u32],
     rows: &[u32],
-) -> Result<Vec<Option<Slot<E>>>, AllocError>
+) -> Result<Vec<CombSlot<E>>, AllocError>
     requires { length rows.now ≡ length entries.now }
     ensures { IfOk result (λ out. slots_from out.items
         ≡ map (λ p. slot_meant (width_of version) (E.meant version) p.0 p.1) (zip entries.now rows.now)) }
 {
     let mut out = Vec::with_capacity(alloc, entries.len())?;
     for number in 0..entries.len() {
-        out.push(slot(version, entries[number], rows[number]))?;
+        out.push(slot(version, entries[number], rows[number])?)?;
     }
     Ok(out)
 }
 
 /// A slot, free where its row is none.
-fn slot<E: CombEntry>(version: Version, entry: u32, row: u32) -> Option<Slot<E>>
-    ensures { option_map used_from result ≡ slot_meant (width_of version) (E.meant version) entry row }
+fn slot<E: CombEntry>(version: Version, entry: u32, row: u32) -> Result<CombSlot<E>, AllocError>
+    ensures { IfOk result (λ s. option_map used_from s
+        ≡ slot_meant (width_of version) (E.meant version) entry row) }
 {
+    let entry = E::of(version, entry);
     if row == none(version) {
-        return None;
+        return Ok(CombSlot::free(entry));
     }
-    Some(Slot {
-        row: StateNo(row),
-        entry: E::of(version, entry),
-    })
+    let row = StateNo(row);
+    CombSlot::used(Slot { row, entry })
 }

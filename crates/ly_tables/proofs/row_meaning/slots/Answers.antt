@@ -17,11 +17,11 @@ loop-number-preserved g c =
     let more = zip_more entries rows k 0 0 c.loop-number-test.true c.requires in
     let slots = c.loop-number.out.items in
     let grown = ap slots_from c.in_ok-push.ensures.items
-    ∙ map-append (option_map used_from) slots (c.slot.result ∷ []) in
+    ∙ map-append (option_map used_from) slots (c.in_ok-slot.field-0 ∷ []) in
     let next : suc k ≡ k + 1 = omega arith in
     let before = c.loop-number.invariant in
-    let here = c.slot.ensures in
-    grown ∙ ap (λ v. v ++ option_map used_from c.slot.result ∷ []) before
+    let here = c.in_ok-slot.ensures in
+    grown ∙ ap (λ v. v ++ option_map used_from c.in_ok-slot.field-0 ∷ []) before
     ∙ ap (λ s. map meant (zip (take k entries) (take k rows)) ++ s ∷ []) here
     ∙ sym (map-append meant (zip (take k entries) (take k rows)) ((get_or entries k 0, get_or rows k 0) ∷ []))
     ∙ ap (map meant) (sym more)

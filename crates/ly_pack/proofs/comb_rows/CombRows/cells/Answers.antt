@@ -25,7 +25,7 @@ index-requires g c =
     let s = c.in-Some.slot in
     let found = slot_place c.self.inside.width c.self.inside.bases.items c.self.inside.slots.items
     c.deref-slot-items.result.now c.args.self.now c.self.view_is c.self.invariant c.deref-slot-items.ensures.value
-    c.loop-place.place c.loop-place-test.true c.slot-item.result c.slot-item.is s c.in-Some.is in
+    c.loop-place.place c.loop-place-test.true c.slot-item.result c.slot-item.is s (sym c.get.ensures ∙ c.in-Some.is) in
     let based = ap (λ (x : Comb g.row.E.Denot). slice_get x.bases s.row.0) c.self.view_is ∙ found.1 in
     omega (arith, slice_get_within c.self.inside.bases.items s.row.0 found.0 based, c.self.inside.bases.ok.0)
 
@@ -34,7 +34,7 @@ overflow_sub-place g c =
     let s = c.in-Some.slot in
     let found = slot_place c.self.inside.width c.self.inside.bases.items c.self.inside.slots.items
     c.deref-slot-items.result.now c.args.self.now c.self.view_is c.self.invariant c.deref-slot-items.ensures.value
-    c.loop-place.place c.loop-place-test.true c.slot-item.result c.slot-item.is s c.in-Some.is in
+    c.loop-place.place c.loop-place-test.true c.slot-item.result c.slot-item.is s (sym c.get.ensures ∙ c.in-Some.is) in
     let based = ap (λ (x : Comb g.row.E.Denot). slice_get x.bases s.row.0) c.self.view_is ∙ found.1 in
     let is : c.index.result.now ≡ found.0 = c.index.ensures
     ∙ get_or_from_slice_get c.self.inside.bases.items s.row.0 found.0 _ based in
@@ -45,7 +45,7 @@ index_mut-requires g c =
     let s = c.in-Some.slot in
     let found = slot_place c.self.inside.width c.self.inside.bases.items c.self.inside.slots.items
     c.deref-slot-items.result.now c.args.self.now c.self.view_is c.self.invariant c.deref-slot-items.ensures.value
-    c.loop-place.place c.loop-place-test.true c.slot-item.result c.slot-item.is s c.in-Some.is in
+    c.loop-place.place c.loop-place-test.true c.slot-item.result c.slot-item.is s (sym c.get.ensures ∙ c.in-Some.is) in
     let lt = slice_get_within c.args.self.now.bases s.row.0 found.0 found.1 in
     omega (arith, lt, c.loop-place.invariant.count, c.loop-place.lists.ok.0)
 
@@ -58,11 +58,11 @@ loop-place-preserved g c =
     let slots = c.self.inside.slots.items in
     let items = c.deref-slot-items.result.now in
     let value = c.deref-slot-items.ensures.value in
-    elim c.match-slot.branch [
+    elim c.match-get.branch [
       | in-Some+in-Ok+in_ok-push w ↦
           let s = w.in-Some.slot in
           let found = slot_place c.self.inside.width bases slots items self c.self.view_is c.self.invariant value place
-          c.loop-place-test.true c.slot-item.result c.slot-item.is s w.in-Some.is in
+          c.loop-place-test.true c.slot-item.result c.slot-item.is s (sym c.get.ensures ∙ w.in-Some.is) in
           let based = ap (λ (x : Comb g.row.E.Denot). slice_get x.bases s.row.0) c.self.view_is ∙ found.1 in
           let is : w.index.result.now ≡ found.0 = w.index.ensures
           ∙ get_or_from_slice_get bases s.row.0 found.0 _ based in
@@ -73,7 +73,7 @@ loop-place-preserved g c =
           (below_push self place lists c.loop-place.invariant s.row.0 found.0 w.in-Ok.column s.entry
           w.index_mut.result.now w.push.new.self
           (slot_used c.self.inside.width bases slots items self c.self.view_is c.self.invariant value place
-          c.loop-place-test.true c.slot-item.result c.slot-item.is s w.in-Some.is) found.1
+          c.loop-place-test.true c.slot-item.result c.slot-item.is s (sym c.get.ensures ∙ w.in-Some.is)) found.1
           (omega (arith, column, is, found.2)) (omega (arith, column, is, found.2, found.3))
           (slice_get_read lists (length lists) s.row.0 w.index_mut.result.now refl small w.index_mut.ensures.value)
           w.in_ok-push.ensures.items)
@@ -81,7 +81,7 @@ loop-place-preserved g c =
           (below_skip self place lists c.loop-place.invariant
           (slot_seen c.self.inside.width bases slots items self c.self.view_is c.self.invariant value place
           c.loop-place-test.true c.slot-item.result c.slot-item.is
-          ∙ ap (λ o. Some (option_map used_from o)) w.in_default.is))
+          ∙ ap (λ o. Some (option_map used_from o)) (sym c.get.ensures ∙ w.in_default.is)))
     ]
 
 pub returns : goal.returns

@@ -24,18 +24,20 @@ returns-in_err-slot g c = c.from_residual-in_err-slot.ensures
     ∙ unused c.self.inside.width c.self.inside.bases.items c.self.inside.slots.items c.args.self.now
     c.self.view_is c.args.row.0 c.args.column c.if-self-column.false c.deref.result.now c.deref.ensures.value
     c.in_ok-base.field-0.now c.in_ok-base.ensures.lookup.3 c.deref-2.result.now c.deref-2.ensures.value
-    c.in_ok-get.field-0.now c.in_ok-get.ensures.lookup.3 c.in_err-slot.was
+    c.in_ok-get.field-0.now c.in_ok-get.ensures.lookup.3 (sym c.get-3.ensures ∙ c.in_err-slot.was)
 
 pub returns-then-eq : goal.returns-then-eq
 returns-then-eq g c = its_own c.self.inside.width c.self.inside.bases.items c.self.inside.slots.items
     c.args.self.now c.self.view_is c.args.row.0 c.args.column c.if-self-column.false c.deref.result.now
     c.deref.ensures.value c.in_ok-base.field-0.now c.in_ok-base.ensures.lookup.3 c.deref-2.result.now
-    c.deref-2.ensures.value c.in_ok-get.field-0.now c.in_ok-get.ensures.lookup.3 c.in_ok-slot.slot c.in_ok-slot.was
+    c.deref-2.ensures.value c.in_ok-get.field-0.now c.in_ok-get.ensures.lookup.3 c.in_ok-slot.slot
+    (sym c.get-3.ensures ∙ c.in_ok-slot.was)
     (sym c.if-eq.ensures)
 
 pub returns-else-eq : goal.returns-else-eq
 returns-else-eq g c = others c.self.inside.width c.self.inside.bases.items c.self.inside.slots.items
     c.args.self.now c.self.view_is c.args.row.0 c.args.column c.if-self-column.false c.deref.result.now
     c.deref.ensures.value c.in_ok-base.field-0.now c.in_ok-base.ensures.lookup.3 c.deref-2.result.now
-    c.deref-2.ensures.value c.in_ok-get.field-0.now c.in_ok-get.ensures.lookup.3 c.in_ok-slot.slot c.in_ok-slot.was
+    c.deref-2.ensures.value c.in_ok-get.field-0.now c.in_ok-get.ensures.lookup.3 c.in_ok-slot.slot
+    (sym c.get-3.ensures ∙ c.in_ok-slot.was)
     (sym c.if-eq.ensures)
