@@ -31,13 +31,11 @@ returns-then-eq g c = its_own c.self.inside.width c.self.inside.bases.items c.se
     c.args.self.now c.self.view_is c.args.row.0 c.args.column c.if-self-column.false c.deref.result.now
     c.deref.ensures.value c.in_ok-base.field-0.now c.in_ok-base.ensures.lookup.3 c.deref-2.result.now
     c.deref-2.ensures.value c.in_ok-get.field-0.now c.in_ok-get.ensures.lookup.3 c.in_ok-slot.slot
-    (sym c.get-3.ensures ∙ c.in_ok-slot.was)
-    (sym c.if-eq.ensures)
+    (sym c.get-3.ensures ∙ c.in_ok-slot.was) (sym c.if-eq.ensures)
 
 pub returns-else-eq : goal.returns-else-eq
 returns-else-eq g c = others c.self.inside.width c.self.inside.bases.items c.self.inside.slots.items
     c.args.self.now c.self.view_is c.args.row.0 c.args.column c.if-self-column.false c.deref.result.now
     c.deref.ensures.value c.in_ok-base.field-0.now c.in_ok-base.ensures.lookup.3 c.deref-2.result.now
     c.deref-2.ensures.value c.in_ok-get.field-0.now c.in_ok-get.ensures.lookup.3 c.in_ok-slot.slot
-    (sym c.get-3.ensures ∙ c.in_ok-slot.was)
-    (sym c.if-eq.ensures)
+    (sym c.get-3.ensures ∙ c.in_ok-slot.was) (sym c.if-eq.ensures)
