@@ -41,7 +41,7 @@ impl<'a> Model for Lr0<'a> {
 }
 
 impl<'a> Lr0<'a> {
-    ghost use Rattle.ly_join.specs.Grammar.{IsRule, GrammarRule};
+    ghost use Rattle.ly_join.specs.Grammar.{IsRule, GrammarRule, Symbol as GrammarSymbol};
     ghost use Rattle.ly_lr0.specs.Automaton.{goto_of, prefix_of, state_at, IsLr0Automaton};
 
     /// The grammar whose automaton it is.
@@ -124,6 +124,18 @@ impl<'a> Lr0<'a> {
         ensures { result.now ≡ (state_at self.now state.0).complete }
     {
         &self.rows[state.0 as usize].complete
+    }
+
+    /// The symbol of all transitions that lead to a state, which is the last one of the strings that lead there (its
+    /// accessing symbol); none of the first state, to which only the empty string leads.
+    pub fn accessing_symbol(&self, state: StateNo) -> Option<Symbol>
+        requires { state.0 < length self.now.states }
+        ensures last { option_map symbol_of result ≡ slice_get (prefix_of self.now state.0) 0 }
+        ensures only { (q : ℕ) (X : GrammarSymbol) → goto_of self.now q X ≡ Some state.0
+            → option_map symbol_of result ≡ Some X }
+    {
+        let before = (state.0 as usize).checked_sub(1)?;
+        Some(self.links[before].symbol)
     }
 
     /// The numbers of a nonterminal's rules.
