@@ -9,15 +9,16 @@ ghost use Rattle.ly_accepted.specs.Told.{IsFoundIn};
 use crate::bodies::{behind_dot, body_of};
 use crate::cores::Cores;
 use crate::growing::Search;
+use crate::leading::states_before;
 use crate::pair::{Pair, beginning};
 use crate::reading::Reading;
-use crate::surroundings::Surroundings;
 use crate::ways::Ways;
 use crate::yields::{Derived, Yields};
 use ly_base::{OutOfMemory, StateNo, Sym};
+use ly_examples::Examples;
 use ly_join::{Grammar, Symbol};
 use ly_lr0::{Item, Lr0};
-use ly_resolve::{Action, Conflict, ConflictKind, Resolved};
+use ly_resolve::{Action, Conflict, ConflictKind};
 use std::alloc::{AllocError, Global};
 
 /// How many pairs of readings of whole texts are looked at for a conflict, at most.
@@ -43,8 +44,8 @@ pub(crate) struct Ambiguity {
 /// What sentences are sought by.
 #[derive(Drop)]
 pub(crate) struct Finder<'a> {
-    /// What is done in each state, and the specification.
-    pub(crate) resolved: &'a Resolved<'a>,
+    /// The conflicts, and what leads backwards to states and waits for nonterminals.
+    pub(crate) examples: &'a Examples<'a>,
     /// The automaton, which knows the rules of each nonterminal.
     pub(crate) lr0: &'a Lr0<'a>,
     /// The items of its states.
@@ -53,8 +54,6 @@ pub(crate) struct Finder<'a> {
     pub(crate) grammar: &'a Grammar,
     /// The shortest yields of nonterminals.
     pub(crate) yields: &'a Yields,
-    /// What stands round nonterminals and states.
-    pub(crate) surroundings: Surroundings,
     /// How many symbols may still be derived.
     steps: usize,
 }
@@ -62,23 +61,20 @@ pub(crate) struct Finder<'a> {
 impl<'a> Finder<'a> {
     /// What sentences of a grammar with conflicts are sought by.
     pub(crate) fn new(
-        alloc: Global,
-        resolved: &'a Resolved<'a>,
+        examples: &'a Examples<'a>,
         cores: &'a Cores<'a>,
         yields: &'a Yields,
-    ) -> Result<Finder<'a>, AllocError>
-        ensures { IfOk result (λ finder. finder.resolved.now ≡ resolved.now) }
+    ) -> Finder<'a>
+        ensures { result.examples.now ≡ examples.now }
     {
-        let lr0 = cores.lr0();
-        Ok(Finder {
-            resolved,
-            lr0,
+        Finder {
+            examples,
+            lr0: cores.lr0(),
             cores,
-            grammar: resolved.spec().grammar(),
+            grammar: examples.resolved().spec().grammar(),
             yields,
-            surroundings: Surroundings::of(alloc, lr0)?,
             steps: STEPS,
-        })
+        }
     }
 
     /// A sentence with two trees, which take the two actions of a conflict. It is sought first behind the ways to both
@@ -89,10 +85,10 @@ impl<'a> Finder<'a> {
         conflict: &Conflict,
         at: Option<(&[Symbol], &Ways)>,
     ) -> Result<Option<Ambiguity>, OutOfMemory>
-        requires { IsInside self.old.resolved.now.automaton conflict.now }
-        ensures found { IfOk result (IsFoundIn self.old.resolved.now
-            (conflict_from self.old.resolved.now.automaton conflict.now)) }
-        ensures stays { self.new.resolved ≡ self.old.resolved }
+        requires { IsInside self.old.examples.now.automaton conflict.now }
+        ensures found { IfOk result (IsFoundIn self.old.examples.now
+            (conflict_from self.old.examples.now.automaton conflict.now)) }
+        ensures stays { self.new.examples ≡ self.old.examples }
     {
         if let Some((string, ways)) = at {
             let mut search = Search::new(alloc, conflict)?;
@@ -115,10 +111,10 @@ impl<'a> Finder<'a> {
         search: &mut Search,
         most: usize,
     ) -> Result<Option<Ambiguity>, OutOfMemory>
-        requires { IsInside self.old.resolved.now.automaton conflict.now }
-        ensures found { IfOk result (IsFoundIn self.old.resolved.now
-            (conflict_from self.old.resolved.now.automaton conflict.now)) }
-        ensures stays { self.new.resolved ≡ self.old.resolved }
+        requires { IsInside self.old.examples.now.automaton conflict.now }
+        ensures found { IfOk result (IsFoundIn self.old.examples.now
+            (conflict_from self.old.examples.now.automaton conflict.now)) }
+        ensures stays { self.new.examples ≡ self.old.examples }
     {
         for _ in 0..most {
             let Some(pair) = search.queue.pop() else {
@@ -213,7 +209,7 @@ impl<'a> Finder<'a> {
             .rev()
         {
             string.push(*symbol)?;
-            states = self.surroundings.before(alloc, &states, *symbol)?;
+            states = states_before(alloc, self.examples, &states, *symbol)?;
         }
         let states = beginning(alloc, self.lr0, &states, longer.rule)?;
         let one = Reading::of(alloc, self.grammar, one)?;
@@ -236,7 +232,7 @@ impl<'a> Finder<'a> {
         alloc: Global,
         symbols: &[Symbol],
     ) -> Result<Derived, AllocError>
-        ensures { self.new.resolved ≡ self.old.resolved }
+        ensures { self.new.examples ≡ self.old.examples }
     {
         let derived = self.yields.derive(alloc, self.grammar, symbols)?;
         let steps = derived.rules.len().saturating_add(derived.tokens.len());

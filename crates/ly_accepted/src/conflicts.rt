@@ -141,7 +141,7 @@ impl Teller<'_> {
         requires { AreGroups self.now.examples.now groups.now }
         ensures { IfOk result (λ told. AreTold self.now.examples.now groups.now told.items) }
     {
-        let mut finder = Finder::new(alloc, self.examples.resolved(), self.cores, self.yields)?;
+        let mut finder = Finder::new(self.examples, self.cores, self.yields);
         let mut all = Vec::new(alloc);
         for group in first_of(groups, TOLD) {
             all.push(self.told(alloc, group, &mut finder)?)?;
@@ -157,9 +157,9 @@ impl Teller<'_> {
         finder: &mut Finder<'_>,
     ) -> Result<Told<'g>, OutOfMemory>
         requires group { IsGroup self.now.examples.now group.now }
-        requires resolved { finder.old.resolved.now ≡ self.now.examples.now }
+        requires same { finder.old.examples.now ≡ self.now.examples.now }
         ensures told { IfOk result (IsTold self.now.examples.now group.now.conflicts.items) }
-        ensures stays { finder.new.resolved ≡ finder.old.resolved }
+        ensures stays { finder.new.examples ≡ finder.old.examples }
     {
         let conflict = self.conflict(group.conflicts[0]);
         Ok(Told {
@@ -202,10 +202,10 @@ impl Teller<'_> {
         requires conflict { Contains self.now.examples.now.conflicts
             (conflict_from self.now.examples.now.automaton conflict.now) }
         requires example { IsSought self.now.examples.now conflict.now group.now.example }
-        requires resolved { finder.old.resolved.now ≡ self.now.examples.now }
+        requires same { finder.old.examples.now ≡ self.now.examples.now }
         ensures shown { IfOk result (IsShown self.now.examples.now group.now.conflicts.items
             (conflict_from self.now.examples.now.automaton conflict.now)) }
-        ensures stays { finder.new.resolved ≡ finder.old.resolved }
+        ensures stays { finder.new.examples ≡ finder.old.examples }
     {
         match &group.example {
             Some(Example::At(string)) => Ok(Shown::At(self.spot(alloc, conflict, string, finder)?)),
@@ -223,11 +223,11 @@ impl Teller<'_> {
         string: &'g [Symbol],
         finder: &mut Finder<'_>,
     ) -> Result<Spot<'g>, OutOfMemory>
-        requires { IsInside finder.old.resolved.now.automaton conflict.now }
+        requires { IsInside finder.old.examples.now.automaton conflict.now }
         ensures string { IfOk result (λ spot. spot.string.now ≡ string.now) }
-        ensures readings { IfOk result (λ spot. AreReadings finder.old.resolved.now
-            (conflict_from finder.old.resolved.now.automaton conflict.now) spot.readings) }
-        ensures stays { finder.new.resolved ≡ finder.old.resolved }
+        ensures readings { IfOk result (λ spot. AreReadings finder.old.examples.now
+            (conflict_from finder.old.examples.now.automaton conflict.now) spot.readings) }
+        ensures stays { finder.new.examples ≡ finder.old.examples }
     {
         let derived = self.yields.derive(alloc, self.spec.grammar(), string)?;
         let is_met = !derived.whole
@@ -249,10 +249,10 @@ impl Teller<'_> {
         string: &[Symbol],
         finder: &mut Finder<'_>,
     ) -> Result<Readings, OutOfMemory>
-        requires { IsInside finder.old.resolved.now.automaton conflict.now }
-        ensures readings { IfOk result (AreReadings finder.old.resolved.now
-            (conflict_from finder.old.resolved.now.automaton conflict.now)) }
-        ensures stays { finder.new.resolved ≡ finder.old.resolved }
+        requires { IsInside finder.old.examples.now.automaton conflict.now }
+        ensures readings { IfOk result (AreReadings finder.old.examples.now
+            (conflict_from finder.old.examples.now.automaton conflict.now)) }
+        ensures stays { finder.new.examples ≡ finder.old.examples }
     {
         if is_between_same(self.spec.grammar(), conflict) {
             return Ok(Readings::Same);

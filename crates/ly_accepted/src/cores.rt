@@ -1,6 +1,6 @@
 //! The items of all states and the strings that lead to them, found in one pass over the states.
 use crate::bodies::behind_dot;
-use crate::drawing::goto_of;
+use crate::leading::{goto_of, symbol_to};
 use indexmap::IndexSet;
 use ly_base::{StateNo, Sym};
 use ly_join::{Grammar, Symbol};
@@ -9,6 +9,9 @@ use std::alloc::{AllocError, Global};
 
 /// How many symbols of each end of a string are known, at most.
 pub(crate) const END: usize = 100;
+
+/// How many items a kernel may have that is kept beside that of the state before.
+const SHORT: usize = 100;
 
 /// How each state is come to, and with which items.
 #[derive(Drop)]
@@ -22,23 +25,14 @@ pub(crate) struct Cores<'a> {
 /// How a state is come to first.
 #[derive(Drop)]
 struct Entry {
-    /// The last step; none to the first state.
-    link: Option<Link>,
+    /// The state before the last step; none before the first state.
+    from: Option<StateNo>,
     /// How many steps there are.
     depth: usize,
     /// The state behind the first of them, as many as are known.
     early: StateNo,
-    /// The items behind the last one.
-    kernel: Vec<Item>,
-}
-
-/// A step to a state.
-#[derive(Clone, Copy)]
-struct Link {
-    /// The state that it leaves.
-    from: StateNo,
-    /// Its symbol.
-    symbol: Symbol,
+    /// The items behind the last one; nothing where there are many, and those of the state before are kept.
+    kernel: Option<Vec<Item>>,
 }
 
 /// The least string that leads to a state; of a long one the ends.
@@ -58,15 +52,17 @@ impl<'a> Cores<'a> {
         let mut entries = Vec::with_capacity(alloc, lr0.states())?;
         for _ in 0..lr0.states() {
             entries.push(Entry {
-                link: None,
+                from: None,
                 depth: 0,
                 early: StateNo(0),
-                kernel: Vec::new(alloc),
+                kernel: Some(Vec::new(alloc)),
             })?;
         }
         let mut cores = Cores { lr0, entries };
-        if let Some(first) = cores.entries.first_mut() {
-            first.kernel.push(Item { rule: 0, dot: 0 })?;
+        if let Some(first) = cores.entries.first_mut()
+            && let Some(kernel) = &mut first.kernel
+        {
+            kernel.push(Item { rule: 0, dot: 0 })?;
         }
         for state in 0..lr0.states() {
             cores.leave(alloc, StateNo(state as u32))?;
@@ -81,10 +77,34 @@ impl<'a> Cores<'a> {
 
     /// The items of a state, in the order in which they were found; none of a number that no state has.
     pub(crate) fn items(&self, alloc: Global, state: StateNo) -> Result<Vec<Item>, AllocError> {
-        match self.entries.get(state.0 as usize) {
-            Some(entry) => closed(alloc, self.lr0, &entry.kernel),
-            None => Ok(Vec::new(alloc)),
+        match self.kernel(state) {
+            Some(kernel) => closed(alloc, self.lr0, kernel),
+            None => closed(alloc, self.lr0, &self.kernel_again(alloc, state)?),
         }
+    }
+
+    /// The kernel of a state, where it is kept.
+    fn kernel(&self, state: StateNo) -> Option<&[Item]> {
+        let kernel = self.entries.get(state.0 as usize)?.kernel.as_ref()?;
+        Some(kernel)
+    }
+
+    /// The kernel of a state, from the items of the state before; nothing where these aren't kept.
+    fn kernel_again(&self, alloc: Global, state: StateNo) -> Result<Vec<Item>, AllocError> {
+        let mut again = Vec::new(alloc);
+        let from = self.entries.get(state.0 as usize).and_then(|entry| entry.from);
+        if let Some(symbol) = symbol_to(self.lr0, state)
+            && let Some(from) = from
+            && let Some(kernel) = self.kernel(from)
+        {
+            let grammar = self.lr0.reduced().grammar();
+            for item in &closed(alloc, self.lr0, kernel)? {
+                if behind_dot(grammar, *item) == Some(symbol) {
+                    again.push(behind(*item))?;
+                }
+            }
+        }
+        Ok(again)
     }
 
     /// The least string that leads to a state.
@@ -118,11 +138,12 @@ impl<'a> Cores<'a> {
         let mut symbols = Vec::new(alloc);
         let mut at = state;
         for _ in 0..most {
-            let Some(link) = self.entries.get(at.0 as usize).and_then(|entry| entry.link) else {
+            let from = self.entries.get(at.0 as usize).and_then(|entry| entry.from);
+            let (Some(symbol), Some(from)) = (symbol_to(self.lr0, at), from) else {
                 break;
             };
-            symbols.push(link.symbol)?;
-            at = link.from;
+            symbols.push(symbol)?;
+            at = from;
         }
         symbols.reverse();
         Ok(symbols)
@@ -135,19 +156,18 @@ impl<'a> Cores<'a> {
             None => return Ok(()),
         };
         let grammar = self.lr0.reduced().grammar();
+        let most = if self.kernel(from).is_some() {
+            SHORT
+        } else {
+            usize::MAX
+        };
         for item in &self.items(alloc, from)? {
             if let Some(symbol) = behind_dot(grammar, *item)
                 && let Some(to) = goto_of(self.lr0, from, symbol)
                 && let Some(entry) = self.entries.get_mut(to.0 as usize)
             {
-                entry.enter(to, Link { from, symbol }, depth, early);
-                entry.add(
-                    from,
-                    Item {
-                        dot: item.dot.saturating_add(1),
-                        ..*item
-                    },
-                )?;
+                entry.enter(to, from, depth, early);
+                entry.add(from, behind(*item), most)?;
             }
         }
         Ok(())
@@ -156,22 +176,36 @@ impl<'a> Cores<'a> {
 
 impl Entry {
     /// Takes a step to the state of a number, the first one, from one that so many steps lead to.
-    fn enter(&mut self, number: StateNo, link: Link, depth: usize, early: StateNo) {
-        if self.link.is_none() {
-            self.link = Some(link);
+    fn enter(&mut self, number: StateNo, from: StateNo, depth: usize, early: StateNo) {
+        if self.from.is_none() {
+            self.from = Some(from);
             self.depth = depth.saturating_add(1);
             self.early = if depth < END { number } else { early };
         }
     }
 
-    /// Adds an item behind a step from a state, if that is the first one.
-    fn add(&mut self, from: StateNo, item: Item) -> Result<(), AllocError> {
-        if let Some(link) = self.link
-            && link.from == from
+    /// Adds an item behind a step from a state, if that is the first one. The kernel isn't kept if it has more items
+    /// than so many.
+    fn add(&mut self, from: StateNo, item: Item, most: usize) -> Result<(), AllocError> {
+        let mut is_long = false;
+        if self.from == Some(from)
+            && let Some(kernel) = &mut self.kernel
         {
-            self.kernel.push(item)?;
+            kernel.push(item)?;
+            is_long = kernel.len() > most;
+        }
+        if is_long {
+            self.kernel = None;
         }
         Ok(())
+    }
+}
+
+/// An item with its dot behind the next symbol.
+fn behind(item: Item) -> Item {
+    Item {
+        dot: item.dot.saturating_add(1),
+        ..item
     }
 }
 

@@ -6,7 +6,7 @@ use crate::bodies::body_of;
 use crate::states::place_of;
 use ly_base::{OutOfMemory, StateNo, Sym};
 use ly_join::{Associativity, Precedence, Spec, Symbol};
-use ly_lookahead::{Lookaheads, lookaheads};
+use ly_lookahead::Lookaheads;
 use ly_lr0::{Item, Lr0};
 use ly_resolve::Resolved;
 use std::alloc::Global;
@@ -24,14 +24,20 @@ pub(crate) struct Decided {
 
 impl Decided {
     /// What the precedences of a specification decide.
-    pub(crate) fn of(alloc: Global, resolved: &Resolved<'_>) -> Result<Decided, OutOfMemory> {
+    pub(crate) fn of(
+        alloc: Global,
+        resolved: &Resolved<'_>,
+        sets: &Lookaheads,
+    ) -> Result<Decided, OutOfMemory>
+        requires { AreLookaheads resolved.now.automaton sets.now }
+    {
         let (lr0, spec) = (resolved.lr0(), resolved.spec());
         let mut decided = Decided {
             terminals: vec![in alloc; false; spec.precedences().len()]?,
             rules: vec![in alloc; false; spec.notes().len()]?,
             levels: vec![in alloc; false; levels_of(spec)]?,
         };
-        decided.mark_all(spec, lr0, &lookaheads(alloc, lr0)?);
+        decided.mark_all(spec, lr0, sets);
         Ok(decided)
     }
 

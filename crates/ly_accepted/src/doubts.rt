@@ -1,4 +1,5 @@
 //! What is doubtful in files that are accepted.
+ghost use Rattle.ly_lookahead.specs.Lookaheads.{AreLookaheads};
 ghost use Rattle.ly_subset.specs.Automaton.{IsBreadthFirst};
 
 use crate::decided::Decided;
@@ -31,7 +32,8 @@ pub(crate) fn doubts_of<'a>(
     places: &'a Places,
     wish: Wish,
 ) -> Result<Vec<Doubt<'a>>, OutOfMemory>
-    requires { IsBreadthFirst files.dfa.now }
+    requires order { IsBreadthFirst files.dfa.now }
+    requires sets { AreLookaheads files.resolved.now.automaton files.lookaheads.now }
 {
     let doubts = if wish.grammar_alone {
         Vec::new(alloc)
@@ -44,6 +46,7 @@ pub(crate) fn doubts_of<'a>(
     } else {
         unreturned_terminals(alloc, files.spec, files.dfa)?
     };
+    let decided = Decided::of(alloc, files.resolved, files.lookaheads)?;
     let mut finder = Finder {
         files,
         places,
@@ -53,7 +56,7 @@ pub(crate) fn doubts_of<'a>(
     finder.find_unused(alloc, &unused)?;
     finder.find_unreturned(&unreturned, &unused)?;
     finder.find_declared_again(alloc)?;
-    finder.find_idle(alloc)?;
+    finder.find_idle(&decided)?;
     let Finder { doubts, .. } = finder;
     Ok(doubts)
 }
@@ -161,8 +164,7 @@ impl<'a> Finder<'a> {
     }
 
     /// Finds which precedences decide nothing: those of terminals, and those that a `%prec` gives.
-    fn find_idle(&mut self, alloc: Global) -> Result<(), OutOfMemory> {
-        let decided = Decided::of(alloc, self.files.resolved)?;
+    fn find_idle(&mut self, decided: &Decided) -> Result<(), OutOfMemory> {
         let (spec, places) = (self.files.spec, self.places);
         let mut found = 0;
         for number in 0..spec.grammar().terminals() {

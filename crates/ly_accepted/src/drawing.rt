@@ -2,6 +2,7 @@
 use crate::bodies::{behind_dot, rest_of};
 use crate::claims::{Claimed, MOST, Opening, Search, item_of, with_item};
 use crate::cores::Cores;
+use crate::leading::goto_of;
 use indexmap::{IndexMap, IndexSet};
 use ly_base::{OutOfMemory, StateNo, Sym};
 use ly_examples::Claim;
@@ -197,15 +198,6 @@ fn states_along(
         states.push(state)?;
     }
     Ok(states)
-}
-
-/// Where a symbol leads from a state; nowhere from a number that no state has.
-pub(crate) fn goto_of(lr0: &Lr0<'_>, state: StateNo, symbol: Symbol) -> Option<StateNo> {
-    if (state.0 as usize) < lr0.states() {
-        lr0.goto(state, symbol)
-    } else {
-        None
-    }
 }
 
 /// Whether a terminal begins what symbols yield, and whether that may be empty.

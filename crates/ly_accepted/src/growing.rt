@@ -61,10 +61,10 @@ impl Finder<'_> {
         search: &mut Search,
         pair: Pair,
     ) -> Result<Option<Ambiguity>, OutOfMemory>
-        requires { IsInside self.old.resolved.now.automaton conflict.now }
-        ensures found { IfOk result (IsFoundIn self.old.resolved.now
-            (conflict_from self.old.resolved.now.automaton conflict.now)) }
-        ensures stays { self.new.resolved ≡ self.old.resolved }
+        requires { IsInside self.old.examples.now.automaton conflict.now }
+        ensures found { IfOk result (IsFoundIn self.old.examples.now
+            (conflict_from self.old.examples.now.automaton conflict.now)) }
+        ensures stays { self.new.examples ≡ self.old.examples }
     {
         let mut pair = pair;
         let course = self.go_on(alloc, &mut pair, search.terminal)?;
@@ -90,7 +90,7 @@ impl Finder<'_> {
 
     /// Goes on with two readings as long as they have the same symbol ahead.
     fn go_on(&mut self, alloc: Global, pair: &mut Pair, terminal: Sym) -> Result<Course, AllocError>
-        ensures { self.new.resolved ≡ self.old.resolved }
+        ensures { self.new.examples ≡ self.old.examples }
     {
         for _ in 0..LONGEST {
             let (Some(symbol), Some(same)) = (pair.one.next(), pair.other.next()) else {
@@ -121,7 +121,7 @@ impl Finder<'_> {
         pair: &mut Pair,
         symbol: Symbol,
     ) -> Result<(), AllocError>
-        ensures { self.new.resolved ≡ self.old.resolved }
+        ensures { self.new.examples ≡ self.old.examples }
     {
         pair.one.ahead.pop();
         pair.other.ahead.pop();
@@ -200,12 +200,15 @@ impl Finder<'_> {
         let Some(left) = pair.reading(which).left(self.grammar) else {
             return Ok(());
         };
-        for around in self.surroundings.waiting(left) {
+        if left.0 > self.grammar.accept().0 {
+            return Ok(());
+        }
+        for around in self.examples.waiting(left) {
             let behind = rest_of(self.grammar, around.rule, around.dot.saturating_add(1));
             if !pair.may_meet(self.lr0, search.terminal, which, behind) {
                 continue;
             }
-            let before = pair.before_within(alloc, self.lr0, &self.surroundings, which, *around)?;
+            let before = pair.before_within(alloc, self.examples, which, *around)?;
             if let Some(before) = before {
                 let next = pair.within(alloc, self.grammar, before, which, *around)?;
                 search.queue.push(self.yields, next)?;

@@ -28,11 +28,12 @@ impl Finder<'_> {
         conflict: &Conflict,
         pair: &Pair,
     ) -> Result<Option<Ambiguity>, OutOfMemory>
-        requires { IsInside self.old.resolved.now.automaton conflict.now }
-        ensures found { IfOk result (IsFoundIn self.old.resolved.now
-            (conflict_from self.old.resolved.now.automaton conflict.now)) }
-        ensures stays { self.new.resolved ≡ self.old.resolved }
+        requires { IsInside self.old.examples.now.automaton conflict.now }
+        ensures found { IfOk result (IsFoundIn self.old.examples.now
+            (conflict_from self.old.examples.now.automaton conflict.now)) }
+        ensures stays { self.new.examples ≡ self.old.examples }
     {
+        let resolved = self.examples.resolved();
         for state in pair.states.iter().take(STATES) {
             if (state.0 as usize) >= self.lr0.states() {
                 continue;
@@ -44,7 +45,7 @@ impl Finder<'_> {
             };
             let one = self.rules_of(alloc, &way, &pair.one)?;
             let other = self.rules_of(alloc, &way, &pair.other)?;
-            let found = conflicting_sentence(alloc, self.resolved, conflict, &one, &other)?;
+            let found = conflicting_sentence(alloc, resolved, conflict, &one, &other)?;
             if let Some(sentence) = found {
                 return Ok(Some(Ambiguity {
                     sentence,
@@ -91,7 +92,7 @@ impl Finder<'_> {
         way: &[Item],
         reading: &Reading,
     ) -> Result<Vec<usize>, AllocError>
-        ensures { self.new.resolved ≡ self.old.resolved }
+        ensures { self.new.examples ≡ self.old.examples }
     {
         let (mut rules, mut outer, mut ahead) = (Vec::new(alloc), Vec::new(alloc), Vec::new(alloc));
         for item in way {

@@ -1,5 +1,6 @@
 //! Whether the parser comes to a conflict by tokens, its other conflicts being settled as they are.
 use crate::bodies::body_of;
+use crate::leading::goto_of;
 use ly_base::{OutOfMemory, StateNo, Sym};
 use ly_join::Symbol;
 use ly_resolve::{Action, Conflict, Resolved};
@@ -31,7 +32,7 @@ pub(crate) fn is_met(
                 }
             }
             Some(Action::Shift) if !left.is_empty() => {
-                let Some(next) = goto_of(resolved, state, Symbol::Terminal(ahead)) else {
+                let Some(next) = goto_of(resolved.lr0(), state, Symbol::Terminal(ahead)) else {
                     return Ok(false);
                 };
                 stack.push(next)?;
@@ -72,19 +73,9 @@ fn reduce_by(
     let Some(below) = stack.last().copied() else {
         return Ok(false);
     };
-    let Some(next) = goto_of(resolved, below, Symbol::Nonterminal(left)) else {
+    let Some(next) = goto_of(resolved.lr0(), below, Symbol::Nonterminal(left)) else {
         return Ok(false);
     };
     stack.push(next)?;
     Ok(true)
-}
-
-/// Where a symbol leads from a state.
-fn goto_of(resolved: &Resolved<'_>, state: StateNo, symbol: Symbol) -> Option<StateNo> {
-    let lr0 = resolved.lr0();
-    if (state.0 as usize) < lr0.states() {
-        lr0.goto(state, symbol)
-    } else {
-        None
-    }
 }

@@ -1,10 +1,11 @@
 //! Two readings of one sentence that isn't whole yet, which take the two actions of a conflict at the same place.
 use crate::bodies::body_of;
 use crate::drawing::begin;
+use crate::leading::states_before;
 use crate::reading::Reading;
-use crate::surroundings::Surroundings;
 use crate::yields::Yields;
 use ly_base::{StateNo, Sym};
+use ly_examples::Examples;
 use ly_join::{Grammar, Symbol};
 use ly_lr0::{Item, Lr0};
 use std::alloc::{AllocError, Global};
@@ -99,11 +100,11 @@ impl Pair {
     pub(crate) fn before_within(
         &self,
         alloc: Global,
-        lr0: &Lr0<'_>,
-        surroundings: &Surroundings,
+        examples: &Examples<'_>,
         which: Which,
         around: Item,
     ) -> Result<Option<Before>, AllocError> {
+        let lr0 = examples.resolved().lr0();
         let mut string = Vec::from_slice(alloc, &self.string)?;
         let mut states = Vec::from_slice(alloc, &self.states)?;
         let passed = self.reading(which).passed;
@@ -114,7 +115,11 @@ impl Pair {
                 Some(_) => {}
                 None => {
                     string.push(*symbol)?;
-                    states = surroundings.before(alloc, &states, *symbol)?;
+                    states = states_before(alloc, examples, &states, *symbol)?;
+                    // bodies are long, and most of those that may stand around it end here
+                    if states.is_empty() {
+                        return Ok(None);
+                    }
                 }
             }
         }

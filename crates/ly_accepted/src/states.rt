@@ -8,7 +8,7 @@ use crate::cut::say_prefix;
 use crate::surveying::{Accepted, say_numbered};
 use ly_base::{OutOfMemory, RuleNo, StateNo, Sym};
 use ly_join::{Spec, Symbol};
-use ly_lookahead::{Lookaheads, lookaheads};
+use ly_lookahead::Lookaheads;
 use ly_lr0::{Item, Lr0};
 use ly_pack::{Dense, Machine, TableAction};
 use ly_page::Page;
@@ -39,12 +39,14 @@ pub(crate) fn say_states(
     page: &mut Page,
     files: &Accepted<'_>,
     tables: &Tables,
-) -> Result<(), OutOfMemory> {
+) -> Result<(), OutOfMemory>
+    requires { AreLookaheads files.now.resolved.now.automaton files.now.lookaheads.now }
+{
     let lr0 = files.resolved.lr0();
     let teller = Teller {
         spec: files.spec,
         resolved: files.resolved,
-        lookaheads: &lookaheads(alloc, lr0)?,
+        lookaheads: files.lookaheads,
         tables,
         cores: &Cores::of(alloc, lr0)?,
     };

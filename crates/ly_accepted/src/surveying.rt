@@ -1,5 +1,6 @@
 ghost use Rattle.std.specs.Prelude.{◌≡◌, IfOk, take};
 ghost use Rattle.ly_accepted.specs.Findings.{AreFoundIn, IsInForm};
+ghost use Rattle.ly_lookahead.specs.Lookaheads.{AreLookaheads};
 ghost use Rattle.ly_subset.specs.Automaton.{IsBreadthFirst};
 
 use crate::conflicts::say_conflicts;
@@ -15,6 +16,7 @@ use crate::states::{Tables, say_states};
 use ly_base::OutOfMemory;
 use ly_join::Spec;
 use ly_lexread::LexFile;
+use ly_lookahead::Lookaheads;
 use ly_page::{Named, Page};
 use ly_report::ConflictCounts;
 use ly_resolve::Resolved;
@@ -72,6 +74,8 @@ pub struct Accepted<'a> {
     pub dfa: &'a Dfa,
     /// What the parser does in each state, and the conflicts.
     pub resolved: &'a Resolved<'a>,
+    /// The lookaheads of the rules that are complete in its states.
+    pub lookaheads: &'a Lookaheads,
     /// The lines among the rules of the lex file that begin with a blank and aren't empty.
     pub indented: &'a [u64],
 }
@@ -86,7 +90,8 @@ pub fn survey(
     tables: &Tables,
     wish: Wish,
 ) -> Result<Explanation, OutOfMemory>
-    requires { IsBreadthFirst files.dfa.now }
+    requires order { IsBreadthFirst files.dfa.now }
+    requires sets { AreLookaheads files.resolved.now.automaton files.lookaheads.now }
     ensures found { IfOk result (AreFoundIn files.entry.resolved.now.spec) }
     ensures form { IfOk result (λ e. IsInForm wish.json e.findings e.text.items) }
 {
@@ -105,7 +110,8 @@ pub fn survey(
 
 /// What is doubtful, where the conflicts are, and which rule has which number; and whether anything is doubtful.
 fn said_of(alloc: Global, files: &Accepted<'_>, wish: Wish) -> Result<(Vec<u8>, bool), OutOfMemory>
-    requires { IsBreadthFirst files.now.dfa.now }
+    requires order { IsBreadthFirst files.now.dfa.now }
+    requires sets { AreLookaheads files.now.resolved.now.automaton files.now.lookaheads.now }
 {
     let places = Places::of(alloc, files.yacc.bytes)?;
     let doubts = doubts_of(alloc, *files, &places, wish)?;
@@ -148,7 +154,9 @@ fn states_if(
     files: &Accepted<'_>,
     tables: &Tables,
     wish: Wish,
-) -> Result<Option<Vec<u8>>, OutOfMemory> {
+) -> Result<Option<Vec<u8>>, OutOfMemory>
+    requires { AreLookaheads files.now.resolved.now.automaton files.now.lookaheads.now }
+{
     if !wish.states {
         return Ok(None);
     }

@@ -5,21 +5,23 @@ ghost use Rattle.ly_base.specs.declared.version.Version.TheVariants.{V2};
 ghost use Rattle.ly_emit.specs.Tables.{AreShapesWithin};
 ghost use Rattle.ly_generate.specs.Accepted.{HasSteadyTables, IsRefusedFor, IsUnfitFor};
 ghost use Rattle.ly_grammar.specs.Reduction.{KeepsUseful};
+ghost use Rattle.ly_lookahead.specs.Lookaheads.{AreLookaheads};
 ghost use Rattle.ly_lr0.specs.Automaton as parser;
 ghost use Rattle.ly_subset.specs.Automaton.{IsBreadthFirst};
 ghost use Rattle.ly_explain.specs.Explained.{IsExplained, IsFitFor, no_rules};
 
 use ly_accepted::{Accepted, Explanation, Tables, Wish, survey, text_in_form};
 use ly_base::{Limits, OutOfMemory, Version};
-use ly_generate::{GenFault, Specification, parser_tables, read_specification, settle};
+use ly_generate::{GenFault, Specification, parser_tables, read_specification};
 use ly_grammar::reduce;
 use ly_join::Spec;
 use ly_lexread::LexFile;
+use ly_lookahead::{Lookaheads, lookaheads};
 use ly_lr0::{Lr0, automaton};
 use ly_minim::minimise;
 use ly_page::{Named, Page};
 use ly_refused::{indented_lines, say_faults, say_json_faults};
-use ly_resolve::Resolved;
+use ly_resolve::{Resolved, resolve};
 use ly_subset::Dfa;
 use std::alloc::Global;
 
@@ -181,11 +183,13 @@ fn of_automaton(
     ensures steady { IfOk result (λ _. HasSteadyTables read.entry.spec.now lr0.now.grammar) }
     ensures unfit { IfErr result (λ fault. (limits : Sizes) → IsUnfitFor limits read.entry.spec.now fault) }
 {
-    let resolved = settle(alloc, read.spec, lr0)?;
+    let lookaheads = lookaheads(alloc, lr0)?;
+    let resolved = resolve(alloc, read.spec, lr0, &lookaheads)?;
     let tables = parser_tables(alloc, &resolved)?;
-    let told = told(alloc, read, &resolved, &tables, wish);
+    let told = told(alloc, read, &resolved, &lookaheads, &tables, wish);
     drop(tables);
     drop(resolved);
+    drop(lookaheads);
     Ok(told?)
 }
 
@@ -194,11 +198,13 @@ fn told(
     alloc: Global,
     read: Read<'_>,
     resolved: &Resolved<'_>,
+    lookaheads: &Lookaheads,
     tables: &Tables,
     wish: Wish,
 ) -> Result<Explanation, OutOfMemory>
     requires order { IsBreadthFirst read.dfa.now }
     requires same { resolved.now.spec ≡ read.spec.now }
+    requires sets { AreLookaheads resolved.now.automaton lookaheads.now }
     ensures found { IfOk result (AreFoundIn read.entry.spec.now) }
     ensures form { IfOk result (λ e. IsInForm wish.json e.findings e.text.items) }
 {
@@ -210,6 +216,7 @@ fn told(
         spec: read.spec,
         dfa: read.dfa,
         resolved,
+        lookaheads,
         indented: &indented,
     };
     survey(alloc, files, tables, wish)

@@ -20,7 +20,7 @@ loop-group-preserved c =
     (slice_get-get_or items n c.group-item.result c.loop-group-test.true ∙ ap Some (sym c.group-item.is))
     c.in_ok-told.ensures.told c.in_ok-push.ensures.items c.loop-group.invariant.count c.loop-group.invariant.each in
     record {
-      resolved = ap (λ g. g.now) c.in_ok-told.ensures.stays ∙ c.loop-group.invariant.resolved;
+      same = ap (λ g. g.now) c.in_ok-told.ensures.stays ∙ c.loop-group.invariant.same;
       count = more.0;
       each = more.1;
     }

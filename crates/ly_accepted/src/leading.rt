@@ -1,0 +1,41 @@
+//! Where symbols lead from states, and from where they lead to them; of a number that no state has, nowhere.
+use ly_base::StateNo;
+use ly_examples::Examples;
+use ly_join::Symbol;
+use ly_lr0::Lr0;
+use std::alloc::{AllocError, Global};
+
+/// Where a symbol leads from a state.
+pub(crate) fn goto_of(lr0: &Lr0<'_>, state: StateNo, symbol: Symbol) -> Option<StateNo> {
+    if (state.0 as usize) < lr0.states() {
+        lr0.goto(state, symbol)
+    } else {
+        None
+    }
+}
+
+/// The last symbol of the strings that lead to a state; none of the first state.
+pub(crate) fn symbol_to(lr0: &Lr0<'_>, state: StateNo) -> Option<Symbol> {
+    if (state.0 as usize) < lr0.states() {
+        lr0.accessing_symbol(state)
+    } else {
+        None
+    }
+}
+
+/// The states from which a symbol leads to one of these.
+pub(crate) fn states_before(
+    alloc: Global,
+    examples: &Examples<'_>,
+    states: &[StateNo],
+    symbol: Symbol,
+) -> Result<Vec<StateNo>, AllocError> {
+    let lr0 = examples.resolved().lr0();
+    let mut before = Vec::new(alloc);
+    for state in states {
+        if symbol_to(lr0, *state) == Some(symbol) {
+            before.extend_from_slice(examples.sources(*state))?;
+        }
+    }
+    Ok(before)
+}
