@@ -204,12 +204,11 @@ impl Finder<'_> {
             return Ok(());
         }
         for around in self.examples.waiting(left) {
-            let behind = rest_of(self.grammar, around.rule, around.dot.saturating_add(1));
-            if !pair.may_meet(self.lr0, search.terminal, which, behind) {
+            let Some(before) = pair.before_within(alloc, self.examples, which, *around)? else {
                 continue;
-            }
-            let before = pair.before_within(alloc, self.examples, which, *around)?;
-            if let Some(before) = before {
+            };
+            let behind = rest_of(self.grammar, around.rule, around.dot.saturating_add(1));
+            if pair.may_meet(self.lr0, search.terminal, which, behind) {
                 let next = pair.within(alloc, self.grammar, before, which, *around)?;
                 search.queue.push(self.yields, next)?;
             }

@@ -1,7 +1,7 @@
 //! Two readings of one sentence that isn't whole yet, which take the two actions of a conflict at the same place.
 use crate::bodies::body_of;
 use crate::drawing::begin;
-use crate::leading::states_before;
+use crate::leading::{states_before, symbol_to};
 use crate::reading::Reading;
 use crate::yields::Yields;
 use ly_base::{StateNo, Sym};
@@ -105,31 +105,46 @@ impl Pair {
         around: Item,
     ) -> Result<Option<Before>, AllocError> {
         let lr0 = examples.resolved().lr0();
-        let mut string = Vec::from_slice(alloc, &self.string)?;
-        let mut states = Vec::from_slice(alloc, &self.states)?;
-        let passed = self.reading(which).passed;
         let body = body_of(lr0.reduced().grammar(), around.rule);
-        for (place, symbol) in body.iter().take(around.dot).rev().enumerate() {
-            match string.get(passed.saturating_add(place)) {
-                Some(known) if known != symbol => return Ok(None),
-                Some(_) => {}
-                None => {
-                    string.push(*symbol)?;
-                    states = states_before(alloc, examples, &states, *symbol)?;
-                    // bodies are long, and most of those that may stand around it end here
-                    if states.is_empty() {
-                        return Ok(None);
-                    }
-                }
+        let front = body.get(..around.dot).unwrap_or_default();
+        let known = self.string.get(self.reading(which).passed..).unwrap_or_default();
+        for (symbol, same) in front.iter().rev().zip(known.iter()) {
+            if symbol != same {
+                return Ok(None);
             }
         }
-        if passed.saturating_add(around.dot) >= string.len() {
-            states = beginning(alloc, lr0, &states, around.rule)?;
-        }
-        if states.is_empty() {
+        let new = front.len().saturating_sub(known.len());
+        let new = front.get(..new).unwrap_or_default();
+        if !self.goes_back_over(lr0, new.last()) {
             return Ok(None);
         }
-        Ok(Some(Before { string, states }))
+        let mut before = Before {
+            string: Vec::from_slice(alloc, &self.string)?,
+            states: Vec::from_slice(alloc, &self.states)?,
+        };
+        for symbol in new.iter().rev() {
+            before.string.push(*symbol)?;
+            before.states = states_before(alloc, examples, &before.states, *symbol)?;
+            if before.states.is_empty() {
+                return Ok(None);
+            }
+        }
+        if front.len() >= known.len() {
+            before.states = beginning(alloc, lr0, &before.states, around.rule)?;
+        }
+        if before.states.is_empty() {
+            return Ok(None);
+        }
+        Ok(Some(before))
+    }
+
+    /// Whether one of the states is come to by a symbol, if there is one. It is asked of each rule that may stand around
+    /// a reading, and mostly answers no.
+    fn goes_back_over(&self, lr0: &Lr0<'_>, symbol: Option<&Symbol>) -> bool {
+        match symbol {
+            Some(symbol) => self.states.iter().any(|state| symbol_to(lr0, *state) == Some(*symbol)),
+            None => true,
+        }
     }
 
     /// The pair in which readings have the rule of an item around them, behind what stands before the place.
