@@ -2,6 +2,7 @@ pub mod AmbiguousLemmas
 pub mod AtLemmas
 pub mod BackLemmas
 pub mod BothLemmas
+pub mod ClaimLemmas
 pub mod ConflictLemmas
 pub mod ExampleLemmas
 pub mod FirstByteLemmas
@@ -20,5 +21,4 @@ pub mod SentenceLemmas
 pub mod StepLemmas
 pub mod UnderwayLemmas
 pub mod UnmarkedLemmas
-pub mod UseLemmas
 pub mod WinLemmas

@@ -10,5 +10,5 @@ pub mod Opening
 pub mod Parses
 pub mod Reductions
 pub mod Searches
+pub mod Steps
 pub mod Unmarked
-pub mod Uses

@@ -1,8 +1,13 @@
-ghost use Rattle.std.specs.Prelude.{◌≡◌, ℕ, Contains, IfOk, IfSome, Some, length, map, reverse, slice_get, true};
-ghost use Rattle.ly_join.specs.Grammar.{IsRule, GrammarRule, symbol_of};
+ghost use Rattle.std.specs.Prelude.{◌≡◌, ◌↔◌, ◌<◌, ◌≤◌, ℕ, List, Contains, IfOk, IfSome, Some, length, map, reverse};
+ghost use Rattle.std.specs.Prelude.{slice_get, true};
+ghost use Rattle.ly_base.specs.declared.numbers.StateNo as state_numbers;
+ghost use Rattle.ly_join.specs.Grammar.{IsRule, GrammarRule, nonterminal, symbol_of, Symbol as GrammarSymbol};
+ghost use Rattle.ly_lr0.specs.Automaton.{goto_of};
+ghost use Rattle.ly_lr0.specs.declared.item.Item as items;
 ghost use Rattle.ly_resolve.specs.Actions.{reduce};
 ghost use Rattle.ly_resolve.specs.Resolved.{AreResolved};
 ghost use Rattle.ly_resolve.specs.Values.{action_from, conflict_from, IsInside, kind_from};
+ghost use Rattle.ly_examples.specs.Demands.{IsAhead};
 ghost use Rattle.ly_examples.specs.Examples.{HasNoExample, IsAnswer, IsPlaceOf, rival};
 ghost use Rattle.ly_examples.specs.Openings.{Opens};
 ghost use Rattle.ly_examples.specs.Private.Kept.{IsKeptDemand};
@@ -13,7 +18,7 @@ use crate::claim::{Claim, Demand};
 use crate::ground::{Ground, ground_of};
 use crate::halt::Halt;
 use crate::search::{Sought, shortest};
-use ly_base::{OutOfMemory, RuleNo};
+use ly_base::{OutOfMemory, RuleNo, StateNo, Sym};
 use ly_join::{Spec, Symbol};
 use ly_lr0::Item;
 use ly_resolve::{Action, Conflict, ConflictKind, Resolved};
@@ -78,6 +83,24 @@ impl<'a> Examples<'a> {
         ensures among { IfSome result (λ c. Contains self.now.conflicts (conflict_from self.now.automaton c)) }
     {
         self.resolved.conflicts().get(index)
+    }
+
+    /// The states from which transitions lead to a state.
+    pub fn sources(&self, state: StateNo) -> &[StateNo]
+        requires { state.0 < length self.now.automaton.states }
+        ensures { (q : state_numbers.StateNo) → Contains result.now q
+            ↔ ((X : GrammarSymbol) × (goto_of self.now.automaton q.0 X ≡ Some state.0)) }
+    {
+        self.ground.sources.of(state.0 as usize)
+    }
+
+    /// The items that wait for a nonterminal, which they have behind the dot, of the rules that are kept.
+    pub fn waiting(&self, left: Sym) -> &[Item]
+        requires { left.0 ≤ self.now.automaton.grammar.accept }
+        ensures { (i : items.Item) → Contains result.now i
+            ↔ ((rest : List GrammarSymbol) × IsAhead self.now.automaton.grammar i (nonterminal left.0) rest) }
+    {
+        self.ground.waiting.of(left.0 as usize)
     }
 
     /// Whether it is found, over so many demands each, that none of the conflicts of these indices has an example.

@@ -1,28 +1,27 @@
-//! What an automaton is looked at for, backwards.
+//! What leads backwards through an automaton: whence its states are come to, and what waits for its nonterminals.
 ghost use Rattle.std.specs.Prelude.{◌≡◌, ◌<◌, ◌+◌, length, map, All, Contains, IfOk, OnOk};
 ghost use Rattle.ly_join.specs.Grammar.{symbol_of};
 ghost use Rattle.ly_grammar.specs.Private.Search.{HasNumberBelow};
 ghost use Rattle.ly_lr0.specs.Automaton.{IsLr0Automaton};
 ghost use Rattle.ly_lr0.specs.declared.transition.Transition as code;
-ghost use Rattle.ly_examples.specs.Private.Grounds.{AreIncoming, AreUses};
-ghost use Rattle.ly_examples.specs.Private.Lists.{AreIncomingOf, AreLeavingAdded, AreUsesAdded, IsGround};
+ghost use Rattle.ly_examples.specs.Private.Grounds.{AreSources, AreWaiting};
+ghost use Rattle.ly_examples.specs.Private.Lists.{AreSourcesAdded, AreSourcesOf, AreWaitingAdded, IsGround};
 
-use crate::incoming::Incoming;
 use crate::lists::Lists;
 use ly_base::{OutOfMemory, StateNo};
 use ly_join::Symbol;
 use ly_lr0::{Item, Lr0, Transition};
 use std::alloc::Global;
 
-/// An automaton, with what leads to its states and where its nonterminals stand.
+/// An automaton, with what leads to its states and what waits for its nonterminals.
 #[derive(Drop)]
 pub(crate) struct Ground<'a> {
     /// The automaton.
     pub(crate) lr0: &'a Lr0<'a>,
-    /// For each state the transitions that lead to it.
-    pub(crate) incoming: Lists<Incoming>,
-    /// For each nonterminal the items that have it behind the dot.
-    pub(crate) uses: Lists<Item>,
+    /// For each state those from which transitions lead to it.
+    pub(crate) sources: Lists<StateNo>,
+    /// For each nonterminal the items that wait for it: they have it behind the dot.
+    pub(crate) waiting: Lists<Item>,
     /// For each state how long its prefix is.
     pub(crate) lengths: Vec<usize>,
 }
@@ -33,88 +32,82 @@ pub(crate) fn ground_of<'a>(alloc: Global, lr0: &'a Lr0<'a>) -> Result<Ground<'a
     ensures ground { IfOk result IsGround }
 {
     let lengths = lengths_of(alloc, lr0)?;
-    let uses = uses_of(alloc, lr0)?;
-    let incoming = incoming_of(alloc, lr0)?;
+    let waiting = waiting_of(alloc, lr0)?;
+    let sources = sources_of(alloc, lr0)?;
     Ok(Ground {
         lr0,
-        incoming,
-        uses,
+        sources,
+        waiting,
         lengths,
     })
 }
 
-/// For each state the transitions that lead to it.
-fn incoming_of(alloc: Global, lr0: &Lr0<'_>) -> Result<Lists<Incoming>, OutOfMemory>
-    ensures incoming { IfOk result (AreIncoming lr0.now) }
+/// For each state those from which transitions lead to it, in their order.
+fn sources_of(alloc: Global, lr0: &Lr0<'_>) -> Result<Lists<StateNo>, OutOfMemory>
+    ensures sources { IfOk result (AreSources lr0.now) }
     ensures lawful { IsLr0Automaton lr0.now }
 {
-    let mut incoming = Lists::new(alloc, lr0.states())?;
+    let mut sources = Lists::new(alloc, lr0.states())?;
     for state in 0..lr0.states() {
-        push_leaving(&mut incoming, lr0, StateNo(state as u32))?;
+        push_source(&mut sources, lr0, StateNo(state as u32))?;
     }
-    Ok(incoming)
+    Ok(sources)
 }
 
-/// Adds the transitions that leave a state.
-fn push_leaving(
-    incoming: &mut Lists<Incoming>,
+/// Adds a state to the sources of those to which its transitions lead.
+fn push_source(
+    sources: &mut Lists<StateNo>,
     lr0: &Lr0<'_>,
-    from: StateNo,
+    source: StateNo,
 ) -> Result<(), OutOfMemory>
     requires lawful { IsLr0Automaton lr0.now }
-    requires state { from.0 < length lr0.now.states }
-    requires before { AreIncomingOf lr0.now incoming.old from.0 }
-    ensures { OnOk result (AreIncomingOf lr0.now incoming.new (from.0 + 1)) }
+    requires state { source.0 < length lr0.now.states }
+    requires before { AreSourcesOf lr0.now sources.old source.0 }
+    ensures { OnOk result (AreSourcesOf lr0.now sources.new (source.0 + 1)) }
 {
-    push_each(incoming, from, lr0.shifts(from))?;
-    push_each(incoming, from, lr0.gotos(from))?;
+    push_to_each(sources, source, lr0.shifts(source))?;
+    push_to_each(sources, source, lr0.gotos(source))?;
     Ok(())
 }
 
-/// Adds transitions that leave a state.
-fn push_each(
-    incoming: &mut Lists<Incoming>,
-    from: StateNo,
+/// Adds a state to the sources of those to which transitions lead.
+fn push_to_each(
+    sources: &mut Lists<StateNo>,
+    source: StateNo,
     transitions: &[Transition],
 ) -> Result<(), OutOfMemory>
-    requires { (t : code.Transition) → Contains transitions.now t → t.target.0 < length incoming.old }
-    ensures { OnOk result (AreLeavingAdded incoming.old incoming.new from transitions.now) }
+    requires { (t : code.Transition) → Contains transitions.now t → t.target.0 < length sources.old }
+    ensures { OnOk result (AreSourcesAdded sources.old sources.new source transitions.now) }
 {
     for transition in transitions {
-        incoming.push(
-            transition.target.0 as usize,
-            Incoming {
-                from,
-                symbol: transition.symbol,
-            },
-        )?;
+        sources.push(transition.target.0 as usize, source)?;
     }
     Ok(())
 }
 
-/// For each nonterminal the items that have it behind the dot, of the rules that are kept.
-fn uses_of(alloc: Global, lr0: &Lr0<'_>) -> Result<Lists<Item>, OutOfMemory>
-    ensures { IfOk result (AreUses lr0.now.grammar) }
+/// For each nonterminal the items that wait for it, of the rules that are kept.
+fn waiting_of(alloc: Global, lr0: &Lr0<'_>) -> Result<Lists<Item>, OutOfMemory>
+    ensures { IfOk result (AreWaiting lr0.now.grammar) }
 {
     let reduced = lr0.reduced();
     let grammar = reduced.grammar();
-    let mut uses = Lists::new(alloc, grammar.accept().0 as usize + 1)?;
+    let mut waiting = Lists::new(alloc, grammar.accept().0 as usize + 1)?;
     for rule in 0..grammar.rules().len() {
         if reduced.is_kept(rule) {
-            push_uses(&mut uses, grammar.rule(rule).body(), rule)?;
+            push_waiting(&mut waiting, grammar.rule(rule).body(), rule)?;
         }
     }
-    Ok(uses)
+    Ok(waiting)
 }
 
-/// Adds the items of a rule that have a nonterminal behind the dot.
-fn push_uses(uses: &mut Lists<Item>, body: &[Symbol], rule: usize) -> Result<(), OutOfMemory>
-    requires { All (HasNumberBelow (length uses.old)) (map symbol_of body.now) }
-    ensures { OnOk result (AreUsesAdded uses.old uses.new (map symbol_of body.now) rule (length body.now)) }
+/// Adds the items of a rule that wait for a nonterminal.
+fn push_waiting(waiting: &mut Lists<Item>, body: &[Symbol], rule: usize) -> Result<(), OutOfMemory>
+    requires { All (HasNumberBelow (length waiting.old)) (map symbol_of body.now) }
+    ensures { OnOk result (AreWaitingAdded waiting.old waiting.new (map symbol_of body.now) rule (length body.now)) }
 {
     for dot in 0..body.len() {
         if let Symbol::Nonterminal(symbol) = body[dot] {
-            uses.push(symbol.0 as usize, Item { rule, dot })?;
+            waiting.push(symbol.0 as usize, Item { rule, dot })?;
         }
     }
     Ok(())

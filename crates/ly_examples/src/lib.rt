@@ -31,7 +31,6 @@ mod first_bytes;
 mod found;
 mod ground;
 mod halt;
-mod incoming;
 mod laws;
 mod lists;
 mod marks;

@@ -5,7 +5,7 @@ ghost use Rattle.ly_examples.specs.Demands.{ClimbsTo, IsBefore, IsBegun, IsClimb
 ghost use Rattle.ly_examples.specs.Private.Kept.{IsKeptClaim, IsKeptDemand, IsKeptItem};
 ghost use Rattle.ly_examples.specs.Private.Lists.{IsGround};
 ghost use Rattle.ly_examples.specs.Private.Met.{item_at};
-ghost use Rattle.ly_examples.specs.Private.Uses.{HasAhead, IsPopBy, IsUseBy};
+ghost use Rattle.ly_examples.specs.Private.Steps.{HasAhead, ArePopped, IsClaimOn};
 ghost use Rattle.ly_examples.specs.declared.claim.Claim as claim_values;
 ghost use Rattle.ly_examples.specs.declared.claim.Claim.TheVariants.{With as TheTerminal};
 ghost use Rattle.ly_examples.specs.declared.claim.Demand as demands;
@@ -14,7 +14,6 @@ ghost use Rattle.ly_examples.specs.declared.steps.Pop as pops;
 
 use crate::claim::{Claim, Demand};
 use crate::ground::Ground;
-use crate::incoming::Incoming;
 use crate::rest::{are_nullable, begins};
 use ly_base::{StateNo, Sym};
 use ly_grammar::Reduced;
@@ -79,7 +78,7 @@ fn claims_above(
     match claim {
         Claim::Settled => {}
         Claim::With(item) if item.dot == 0 => {
-            push_uses(ground, terminal, item.rule, &mut claims)?;
+            push_claims(ground, terminal, item.rule, &mut claims)?;
         }
         Claim::InCore(item) if item.dot == 0 && is_begun(ground, state, item.rule) => {
             claims.push(Claim::Settled)?;
@@ -91,7 +90,7 @@ fn claims_above(
 
 /// Adds the claims by which a rule with nothing before its dot is valid with a terminal: of each item that waits for
 /// its left side, where the terminal begins what stands behind that, or is handed up.
-fn push_uses(
+fn push_claims(
     ground: &Ground<'_>,
     terminal: Sym,
     rule: usize,
@@ -105,14 +104,14 @@ fn push_uses(
 {
     let reduced = ground.lr0.reduced();
     let left = reduced.grammar().rule(rule).left();
-    for item in ground.uses.of(left.0 as usize) {
-        push_use(reduced, terminal, *item, claims)?;
+    for item in ground.waiting.of(left.0 as usize) {
+        push_claims_on(reduced, terminal, *item, claims)?;
     }
     Ok(())
 }
 
 /// Adds the claims on an item by which the symbol behind its dot is followed by a terminal.
-fn push_use(
+fn push_claims_on(
     reduced: &Reduced<'_>,
     terminal: Sym,
     item: Item,
@@ -121,7 +120,7 @@ fn push_use(
     requires terminal { terminal.0 < reduced.now.grammar.terminals }
     requires ahead { HasAhead reduced.now.grammar item }
     ensures { OnOk result ((c : claim_values.Claim) → Contains claims.new.items c ↔ (Contains claims.old.items c
-        ⊎ IsUseBy reduced.now.grammar terminal.0 item c)) }
+        ⊎ IsClaimOn reduced.now.grammar terminal.0 item c)) }
 {
     let body = reduced.grammar().rule(item.rule).body();
     let rest = behind(body, item.dot);
@@ -164,29 +163,37 @@ pub(crate) fn pops(
         ↔ IsPop ground.now.lr0.now (symbol_of p.symbol) demand p.demand) }
 {
     let mut found = Vec::new(alloc);
-    for incoming in ground.incoming.of(demand.state.0 as usize) {
-        if let Some(pop) = pop_by(ground, demand, *incoming) {
-            found.push(pop)?;
-        }
+    let Some(symbol) = ground.lr0.accessing_symbol(demand.state) else {
+        return Ok(found);
+    };
+    let Some(popped) = both_popped(ground, demand, symbol) else {
+        return Ok(found);
+    };
+    for source in ground.sources.of(demand.state.0 as usize) {
+        found.push(Pop {
+            symbol,
+            demand: Demand {
+                state: *source,
+                ..popped
+            },
+        })?;
     }
     Ok(found)
 }
 
-/// The demand on strings without their last symbol by which one is met, by way of a transition to its state.
-fn pop_by(ground: &Ground<'_>, demand: Demand, incoming: Incoming) -> Option<Pop>
+/// A demand with the claims on strings without their last symbol by which both of its own are true.
+fn both_popped(ground: &Ground<'_>, demand: Demand, symbol: Symbol) -> Option<Demand>
     requires first { IsKeptClaim ground.now.lr0.now.grammar demand.first }
     requires second { IsKeptClaim ground.now.lr0.now.grammar demand.second }
-    ensures { (p : pops.Pop) → IsPopBy ground.now.lr0.now.grammar demand incoming p ↔ (result ≡ Some p) }
+    ensures { (d : demands.Demand) → ArePopped ground.now.lr0.now.grammar (symbol_of symbol) demand d
+        ↔ (result ≡ Some d) }
 {
-    let first = popped(ground, demand.first, incoming.symbol)?;
-    let second = popped(ground, demand.second, incoming.symbol)?;
-    Some(Pop {
-        symbol: incoming.symbol,
-        demand: Demand {
-            state: incoming.from,
-            first,
-            second,
-        },
+    let first = popped(ground, demand.first, symbol)?;
+    let second = popped(ground, demand.second, symbol)?;
+    Some(Demand {
+        first,
+        second,
+        ..demand
     })
 }
 

@@ -1,11 +1,9 @@
--- Claims by which a rule with nothing before its dot is valid with a terminal, item by item.
+-- Claims and demands by which others are true, one by one.
 use Rattle.std.specs.Prelude.{◌≡◌, ℕ, List, Contains}
-use Rattle.ly_join.specs.Grammar.{Grammar, Symbol, symbol_of}
+use Rattle.ly_join.specs.Grammar.{Grammar, Symbol}
 use Rattle.ly_grammar.specs.Derivations.{BeginsYield, IsNullable}
 use Rattle.ly_lr0.specs.Automaton.{Lr0Automaton}
 use Rattle.ly_examples.specs.Demands.{ClimbsTo, IsAhead, PopsTo}
-use Rattle.ly_examples.specs.declared.incoming.Incoming.{Incoming}
-use Rattle.ly_examples.specs.declared.steps.Pop.{Pop}
 use Rattle.ly_examples.specs.declared.claim.Demand.{Demand}
 use Rattle.ly_lr0.specs.declared.item.Item.{Item}
 use Rattle.ly_examples.specs.declared.claim.Claim.{Claim}
@@ -16,10 +14,10 @@ abbrev pub HasAhead : Grammar → Item → Type 0
 HasAhead G i = (X : Symbol) × (rest : List Symbol) × IsAhead G i X rest
 
 -- the claim is on the item: what stands behind the symbol ahead of its dot begins with the terminal, or is nullable
-abbrev pub IsUseBy : Grammar → ℕ → Item → Claim → Type 0
-IsUseBy G t i Settled = ⊥
-IsUseBy G t i (InCore j) = (i ≡ j) × (X : Symbol) × (rest : List Symbol) × IsAhead G j X rest × BeginsYield G rest t
-IsUseBy G t i (With j) = (i ≡ j) × (X : Symbol) × (rest : List Symbol) × IsAhead G j X rest × IsNullable G rest
+abbrev pub IsClaimOn : Grammar → ℕ → Item → Claim → Type 0
+IsClaimOn G t i Settled = ⊥
+IsClaimOn G t i (InCore j) = (i ≡ j) × (X : Symbol) × (rest : List Symbol) × IsAhead G j X rest × BeginsYield G rest t
+IsClaimOn G t i (With j) = (i ≡ j) × (X : Symbol) × (rest : List Symbol) × IsAhead G j X rest × IsNullable G rest
 
 -- one of the list is related to it
 abbrev pub HasSource : {X Y : Type 0} → (X → Y → Type 0) → List X → Y → Type 0
@@ -36,7 +34,6 @@ IsWithSecond d c e = (e.state ≡ d.state) × (e.second ≡ c) × (e.first ≡ d
 abbrev pub IsClimbOfFirst : Lr0Automaton → ℕ → Demand → Demand → Type 0
 IsClimbOfFirst M t d e = (e.state ≡ d.state) × ClimbsTo M t d.state.0 d.first e.first × (e.second ≡ d.second)
 
--- the demand is popped to by way of the transition
-abbrev pub IsPopBy : Grammar → Demand → Incoming → Pop → Type 0
-IsPopBy G d x p = (p.symbol ≡ x.symbol) × (p.demand.state ≡ x.from)
-    × PopsTo G (symbol_of x.symbol) d.first p.demand.first × PopsTo G (symbol_of x.symbol) d.second p.demand.second
+-- both claims of the demand pop to those of the other one, which has the same state
+abbrev pub ArePopped : Grammar → Symbol → Demand → Demand → Type 0
+ArePopped G X d e = (e.state ≡ d.state) × PopsTo G X d.first e.first × PopsTo G X d.second e.second
