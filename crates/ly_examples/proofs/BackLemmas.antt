@@ -18,7 +18,7 @@ use Rattle.ly_lr0.specs.declared.item.Item.{Item}
 use Rattle.ly_examples.specs.declared.claim.Claim.{Claim}
 use Rattle.ly_examples.specs.declared.claim.Claim.TheVariants.{InCore, Settled, With}
 use Rattle.ly_examples.specs.Private.Met.{item_at}
-use Rattle.ly_examples.specs.Private.Uses.{HasSource}
+use Rattle.ly_examples.specs.Private.Steps.{IsRelated}
 
 -- the rule of a number in the whole grammar is the one that is kept
 pub kept_is : (H R G : Grammar) (p : ℕ) (s r : GrammarRule) → KeepsUseful H R → R ≡ G → IsRule H p s → IsRule G p r
@@ -186,12 +186,12 @@ pub none_at_all : {Y : Type 0} (P : Y → Type 0) (o : Option Y) → ((y : Y) �
 none_at_all P o one is y p = let e = (one y).0 p in cc
 
 module _ {X Y : Type 0} (R : X → Y → Type 0) (xs : List X) where
-  pub no_source : (y : Y) → HasSource R (take 0 xs) y → ⊥
-  no_source y (x, among, related) = Contains-none x among
+  pub none_related : (y : Y) → IsRelated R (take 0 xs) y → ⊥
+  none_related y (x, among, related) = Contains-none x among
 
-  pub more_sources : (k : ℕ) (x : X) → k < length xs → (y : Y)
-      → HasSource R (take (k + 1) xs) y ↔ (HasSource R (take k xs) y ⊎ R (slice_index_or xs k x) y)
-  more_sources k x lt y = (
+  pub more_related : (k : ℕ) (x : X) → k < length xs → (y : Y)
+      → IsRelated R (take (k + 1) xs) y ↔ (IsRelated R (take k xs) y ⊎ R (slice_index_or xs k x) y)
+  more_related k x lt y = (
     λ (z, among, related).
         elim ((pushed_one (take k xs) (take (k + 1) xs) (slice_index_or xs k x) (take_more xs k x lt) z).0 among) [
           | inl was ↦ inl (z, was, related)
@@ -212,52 +212,52 @@ module _ {X Y : Type 0} (R : X → Y → Type 0) (xs : List X) where
     ],
   )
 
-  pub all_sources : (k : ℕ) → length xs ≤ k → (y : Y) → HasSource R (take k xs) y ↔ HasSource R xs y
-  all_sources k past y =
+  pub all_related : (k : ℕ) → length xs ≤ k → (y : Y) → IsRelated R (take k xs) y ↔ IsRelated R xs y
+  all_related k past y =
       let e = take_all k xs past in
-      ((λ has. subst (λ w. HasSource R w y) e has), (λ has. subst (λ w. HasSource R w y) (sym e) has))
+      ((λ has. subst (λ w. IsRelated R w y) e has), (λ has. subst (λ w. IsRelated R w y) (sym e) has))
 
-  pub nothing_yet : (found : List Y) → found ≡ [] → (y : Y) → Contains found y ↔ HasSource R (take 0 xs) y
+  pub nothing_yet : (found : List Y) → found ≡ [] → (y : Y) → Contains found y ↔ IsRelated R (take 0 xs) y
   nothing_yet found empty y = (
     λ has. Contains-none y (subst (λ w. Contains w y) empty has),
-    λ has. absurd (no_source y has),
+    λ has. absurd (none_related y has),
   )
 
-  pub sources_skip : (k : ℕ) (x : X) → k < length xs → ((y : Y) → R (slice_index_or xs k x) y → ⊥) → (found : List Y)
-      → ((y : Y) → Contains found y ↔ HasSource R (take k xs) y) → (y : Y)
-      → Contains found y ↔ HasSource R (take (k + 1) xs) y
-  sources_skip k x lt never found are y = (
-    λ has. (more_sources k x lt y).1 (inl ((are y).0 has)),
-    λ has. elim ((more_sources k x lt y).0 has) [ inl was ↦ (are y).1 was | inr is ↦ absurd (never y is) ],
+  pub related_skip : (k : ℕ) (x : X) → k < length xs → ((y : Y) → R (slice_index_or xs k x) y → ⊥) → (found : List Y)
+      → ((y : Y) → Contains found y ↔ IsRelated R (take k xs) y) → (y : Y)
+      → Contains found y ↔ IsRelated R (take (k + 1) xs) y
+  related_skip k x lt never found are y = (
+    λ has. (more_related k x lt y).1 (inl ((are y).0 has)),
+    λ has. elim ((more_related k x lt y).0 has) [ inl was ↦ (are y).1 was | inr is ↦ absurd (never y is) ],
   )
 
-  pub sources_on : (k : ℕ) (x : X) → k < length xs → (z : Y) → ((y : Y) → R (slice_index_or xs k x) y ↔ (z ≡ y))
-      → (found new : List Y) → new ≡ found ++ z ∷ [] → ((y : Y) → Contains found y ↔ HasSource R (take k xs) y)
-      → (y : Y) → Contains new y ↔ HasSource R (take (k + 1) xs) y
-  sources_on k x lt z one found new e are y = (
-    λ has. (more_sources k x lt y).1 (elim ((pushed_one found new z e y).0 has) [
+  pub related_on : (k : ℕ) (x : X) → k < length xs → (z : Y) → ((y : Y) → R (slice_index_or xs k x) y ↔ (z ≡ y))
+      → (found new : List Y) → new ≡ found ++ z ∷ [] → ((y : Y) → Contains found y ↔ IsRelated R (take k xs) y)
+      → (y : Y) → Contains new y ↔ IsRelated R (take (k + 1) xs) y
+  related_on k x lt z one found new e are y = (
+    λ has. (more_related k x lt y).1 (elim ((pushed_one found new z e y).0 has) [
       | inl was ↦ inl ((are y).0 was)
       | inr is ↦ inr ((one y).1 is)
     ]),
-    λ has. (pushed_one found new z e y).1 (elim ((more_sources k x lt y).0 has) [
+    λ has. (pushed_one found new z e y).1 (elim ((more_related k x lt y).0 has) [
       | inl was ↦ inl ((are y).1 was)
       | inr is ↦ inr ((one y).0 is)
     ]),
   )
 
   -- the same, beside what was there before
-  pub sources_beside : (P : Y → Type 0) (k : ℕ) (x : X) → k < length xs → (found new : List Y)
+  pub related_beside : (P : Y → Type 0) (k : ℕ) (x : X) → k < length xs → (found new : List Y)
       → ((y : Y) → Contains new y ↔ (Contains found y ⊎ R (slice_index_or xs k x) y))
-      → ((y : Y) → Contains found y ↔ (P y ⊎ HasSource R (take k xs) y)) → (y : Y)
-      → Contains new y ↔ (P y ⊎ HasSource R (take (k + 1) xs) y)
-  sources_beside P k x lt found new one are y = (
+      → ((y : Y) → Contains found y ↔ (P y ⊎ IsRelated R (take k xs) y)) → (y : Y)
+      → Contains new y ↔ (P y ⊎ IsRelated R (take (k + 1) xs) y)
+  related_beside P k x lt found new one are y = (
     λ has. elim ((one y).0 has) [
-      | inl was ↦ elim ((are y).0 was) [ inl p ↦ inl p | inr some ↦ inr ((more_sources k x lt y).1 (inl some)) ]
-      | inr is ↦ inr ((more_sources k x lt y).1 (inr is))
+      | inl was ↦ elim ((are y).0 was) [ inl p ↦ inl p | inr some ↦ inr ((more_related k x lt y).1 (inl some)) ]
+      | inr is ↦ inr ((more_related k x lt y).1 (inr is))
     ],
     λ has. (one y).1 (elim has [
       | inl p ↦ inl ((are y).1 (inl p))
-      | inr some ↦ elim ((more_sources k x lt y).0 some) [
+      | inr some ↦ elim ((more_related k x lt y).0 some) [
         | inl was ↦ inl ((are y).1 (inr was))
         | inr is ↦ inr is
       ]

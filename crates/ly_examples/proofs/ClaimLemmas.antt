@@ -1,6 +1,6 @@
 -- Claims by which a rule with nothing before its dot is valid, and demands that are popped to, one by one.
 use Rattle.std.proofs.Common.{◌≡◌, ◌∙◌, ◌⊎◌, ◌↔◌, inl, inr, ℕ, zero, suc, ◌+◌, ◌<◌, ◌≤◌, List, [], ◌∷◌, ◌++◌}
-use Rattle.std.proofs.Common.{Bool, true, false, Option, Some, None, refl, sym, ap, subst, arith}
+use Rattle.std.proofs.Common.{Bool, true, false, Option, Some, None, option_map, refl, sym, ap, subst, arith}
 use Rattle.std.proofs.Common.{length, map, drop, slice_index_or, All, Contains}
 use Rattle.std.proofs.lemmas.List.{drop-map, get_or-drop, length-drop, length-map}
 use Rattle.std.proofs.lemmas.Option.{slice_get_within}
@@ -14,18 +14,18 @@ use Rattle.ly_grammar.specs.Derivations.{AreTrees, BeginsYield, IsNullable, IsRe
 use Rattle.ly_grammar.proofs.ReduceLemmas.{occurs_body}
 use Rattle.ly_grammar.proofs.SearchLemmas.{rule_is_one}
 use Rattle.ly_lr0.specs.Automaton.{Lr0Automaton, goto_of}
+use Rattle.ly_lr0.proofs.GroupLemmas.{symbol_one}
 use Rattle.ly_relate.specs.Private.Walks.{HasNumberTo}
 use Rattle.ly_relate.proofs.WalkLemmas.{slice_at_drop}
 use Rattle.ly_examples.specs.Demands.{ClimbsTo, IsAhead, IsBegun, IsClimb, IsPop, PopsTo}
 use Rattle.ly_lr0.specs.declared.item.Item.{Item}
-use Rattle.ly_examples.specs.declared.incoming.Incoming.{Incoming}
 use Rattle.ly_examples.specs.declared.steps.Pop.{Pop}
 use Rattle.ly_examples.specs.declared.claim.Claim.{Claim}
 use Rattle.ly_examples.specs.declared.claim.Claim.TheVariants.{InCore, Settled, With}
 use Rattle.ly_examples.specs.declared.claim.Demand.{Demand}
-use Rattle.ly_examples.specs.Private.Grounds.{AreUses}
+use Rattle.ly_examples.specs.Private.Grounds.{AreWaiting}
 use Rattle.ly_examples.specs.Private.Met.{item_at}
-use Rattle.ly_examples.specs.Private.Uses.{HasSource, IsClimbOfFirst, IsPopBy, IsUseBy, IsWithFirst, IsWithSecond}
+use Rattle.ly_examples.specs.Private.Steps.{ArePopped, IsClaimOn, IsClimbOfFirst, IsRelated, IsWithFirst, IsWithSecond}
 use Rattle.ly_examples.proofs.BackLemmas.{at_ahead, pushed_one}
 use Rattle.ly_examples.proofs.RestLemmas.{trees_from}
 
@@ -90,16 +90,16 @@ module _ (G : Grammar) (i : Item) (X : Symbol) (rest : List Symbol) (a : IsAhead
         ∙ ap (drop (i.dot + 1)) (is ∙ ap (λ r. r.body) same) ∙ sym rest_of
 
   -- the claims on the item
-  pub use_is : (t : ℕ) (c : Claim) → IsUseBy G t i c
+  pub claim_is : (t : ℕ) (c : Claim) → IsClaimOn G t i c
       ↔ ((BeginsYield G rest t × (InCore i ≡ c)) ⊎ (IsNullable G rest × (With i ≡ c)))
-  use_is t Settled = (
+  claim_is t Settled = (
     (λ by_item. absurd by_item),
     (λ either. elim either [
       | inl begins ↦ let e = begins.1 in absurd (cc)
       | inr null ↦ let e = null.1 in absurd (cc)
     ]),
   )
-  use_is t (InCore j) = (
+  claim_is t (InCore j) = (
     λ (same, Y, w, b, begins).
         let at = at_ahead G j Y w a.rule (subst (λ k. IsRule G k.rule a.rule) same a.is_rule) b in
         let e : w ≡ rest = at.1 ∙ ap (λ k. drop (k.dot + 1) a.rule.body) (sym same) ∙ sym rest_of in
@@ -112,7 +112,7 @@ module _ (G : Grammar) (i : Item) (X : Symbol) (rest : List Symbol) (a : IsAhead
       | inr null ↦ let e = null.1 in absurd (cc)
     ],
   )
-  use_is t (With j) = (
+  claim_is t (With j) = (
     λ (same, Y, w, b, null).
         let at = at_ahead G j Y w a.rule (subst (λ k. IsRule G k.rule a.rule) same a.is_rule) b in
         let e : w ≡ rest = at.1 ∙ ap (λ k. drop (k.dot + 1) a.rule.body) (sym same) ∙ sym rest_of in
@@ -144,13 +144,13 @@ module _ (G : Grammar) (i : Item) (X : Symbol) (rest : List Symbol) (a : IsAhead
     ],
   )
 
-  pub pushed_uses : (t : ℕ) (b n : Bool) (old mid new : List Claim) → (b ≡ true) ↔ BeginsYield G rest t
+  pub pushed_claims : (t : ℕ) (b n : Bool) (old mid new : List Claim) → (b ≡ true) ↔ BeginsYield G rest t
       → (n ≡ true) ↔ IsNullable G rest → IsPushedIf b (InCore i) old mid → IsPushedIf n (With i) mid new
-      → (c : Claim) → Contains new c ↔ (Contains old c ⊎ IsUseBy G t i c)
-  pushed_uses t b n old mid new begins nullable first second c =
+      → (c : Claim) → Contains new c ↔ (Contains old c ⊎ IsClaimOn G t i c)
+  pushed_claims t b n old mid new begins nullable first second c =
       let one = pushed_if (BeginsYield G rest t) b (InCore i) old mid begins first c in
       let two = pushed_if (IsNullable G rest) n (With i) mid new nullable second c in
-      let by_item = use_is t c in (
+      let by_item = claim_is t c in (
         λ has. elim (two.0 has) [
           | inl was ↦ elim (one.0 was) [ inl before ↦ inl before | inr core ↦ inr (by_item.1 (inl core)) ]
           | inr null ↦ inr (by_item.1 (inr null))
@@ -165,11 +165,11 @@ module _ (G : Grammar) (i : Item) (X : Symbol) (rest : List Symbol) (a : IsAhead
       )
 
 -- the claims on the items that wait for the left side of a rule are those that it climbs to
-pub uses_climb : (M : Lr0Automaton) (t q : ℕ) (r : GrammarRule) (is : List Item) → IsRule M.grammar q r
+pub claims_climb : (M : Lr0Automaton) (t q : ℕ) (r : GrammarRule) (is : List Item) → IsRule M.grammar q r
     → ((i : Item) → Contains is i ↔ ((rest : List Symbol) × IsAhead M.grammar i (nonterminal r.left) rest))
-    → (c : Claim) → HasSource (IsUseBy M.grammar t) is c ↔ ClimbsTo M t 0 (With (item_at q 0)) c
-uses_climb M t q r is rule exact Settled = ((λ (i, among, by_item). absurd by_item), (λ climbs. absurd climbs))
-uses_climb M t q r is rule exact (InCore j) = (
+    → (c : Claim) → IsRelated (IsClaimOn M.grammar t) is c ↔ ClimbsTo M t 0 (With (item_at q 0)) c
+claims_climb M t q r is rule exact Settled = ((λ (i, among, by_item). absurd by_item), (λ climbs. absurd climbs))
+claims_climb M t q r is rule exact (InCore j) = (
   λ (i, among, (same, Y, w, b, begins)).
       let there = (exact j).0 (subst (Contains is) same among) in
       let at = at_ahead M.grammar j Y w there.1.rule there.1.is_rule b in
@@ -180,7 +180,7 @@ uses_climb M t q r is rule exact (InCore j) = (
       let ahead' = subst (λ x. IsAhead M.grammar j (nonterminal x.left) rest) same ahead in
       (j, (exact j).1 (rest, ahead'), (refl, nonterminal r.left, rest, ahead', begins)),
 )
-uses_climb M t q r is rule exact (With j) = (
+claims_climb M t q r is rule exact (With j) = (
   λ (i, among, (same, Y, w, b, null)).
       let there = (exact j).0 (subst (Contains is) same among) in
       let at = at_ahead M.grammar j Y w there.1.rule there.1.is_rule b in
@@ -193,10 +193,10 @@ uses_climb M t q r is rule exact (With j) = (
 )
 
 -- the items that wait for the left side of a rule, as they are looked up
-pub uses_exact : (G : Grammar) (lists : List (List Item)) (q n : ℕ) (r : GrammarRule) (xs : List Item) → IsAugmented G
-    → AreUses G lists → IsRule G q r → n ≡ r.left → xs ≡ slice_index_or lists n [] → (i : Item)
+pub waiting_exact : (G : Grammar) (lists : List (List Item)) (q n : ℕ) (r : GrammarRule) (xs : List Item) → IsAugmented G
+    → AreWaiting G lists → IsRule G q r → n ≡ r.left → xs ≡ slice_index_or lists n [] → (i : Item)
     → Contains xs i ↔ ((rest : List Symbol) × IsAhead G i (nonterminal r.left) rest)
-uses_exact G lists q n r xs augmented are rule left e i =
+waiting_exact G lists q n r xs augmented are rule left e i =
     subst (λ w. Contains w i ↔ ((rest : List Symbol) × IsAhead G i (nonterminal r.left) rest))
     (sym (e ∙ ap (λ m. slice_index_or lists m []) left)) (are.exact r.left i (within q rule))
   where
@@ -266,7 +266,7 @@ with_second d c e = (
 
 module _ (M : Lr0Automaton) (t : ℕ) (d : Demand) (cs : List Claim) where
   pub firsts_are : ((c : Claim) → Contains cs c ↔ ClimbsTo M t d.state.0 d.first c) → (e : Demand)
-      → HasSource (IsWithFirst d) cs e ↔ IsClimbOfFirst M t d e
+      → IsRelated (IsWithFirst d) cs e ↔ IsClimbOfFirst M t d e
   firsts_are exact e = (
     λ (c, among, (state, first, second)).
         (state, subst (ClimbsTo M t d.state.0 d.first) (sym first) ((exact c).0 among), second),
@@ -274,7 +274,7 @@ module _ (M : Lr0Automaton) (t : ℕ) (d : Demand) (cs : List Claim) where
   )
 
   pub climbs_are : ((c : Claim) → Contains cs c ↔ ClimbsTo M t d.state.0 d.second c) → (e : Demand)
-      → (IsClimbOfFirst M t d e ⊎ HasSource (IsWithSecond d) cs e) ↔ IsClimb M t d e
+      → (IsClimbOfFirst M t d e ⊎ IsRelated (IsWithSecond d) cs e) ↔ IsClimb M t d e
   climbs_are exact e = (
     λ either. elim either [
       | inl (state, climbs, second) ↦ (state, inl (climbs, second))
@@ -289,53 +289,76 @@ module _ (M : Lr0Automaton) (t : ℕ) (d : Demand) (cs : List Claim) where
 
 -- POPS
 
-abbrev pub pop_of : Incoming → Claim → Claim → Pop
-pop_of x a b = record { symbol = x.symbol; demand = record { state = x.from; first = a; second = b } }
-
-module _ (G : Grammar) (d : Demand) (x : Incoming) (first second : Option Claim)
-    (one : (c : Claim) → PopsTo G (symbol_of x.symbol) d.first c ↔ (first ≡ Some c))
-    (two : (c : Claim) → PopsTo G (symbol_of x.symbol) d.second c ↔ (second ≡ Some c)) where
-  -- the demand by way of a transition
-  pub popped_by : (a b : Claim) → first ≡ Some a → second ≡ Some b → (p : Pop) → IsPopBy G d x p
-      ↔ (Some (pop_of x a b) ≡ Some p)
-  popped_by a b is_a is_b p = (
-    λ (symbol, from, pops, pops').
-        let same : a ≡ p.demand.first = (let e = (one p.demand.first).0 pops in cc) in
-        let same' : b ≡ p.demand.second = (let e = (two p.demand.second).0 pops' in cc) in
-        let at : code.Symbol → StateNo → Claim → Claim → Pop
-        = λ s q u v. record { symbol = s; demand = record { state = q; first = u; second = v } } in
-        ap (λ y. Some y) (ap (λ s. at s x.from a b) (sym symbol) ∙ ap (λ q. at p.symbol q a b) (sym from)
-        ∙ ap (λ u. at p.symbol p.demand.state u b) same ∙ ap (at p.symbol p.demand.state p.demand.first) same'),
-    λ e.
-        let same : pop_of x a b ≡ p = cc in
-        subst (IsPopBy G d x) same (refl, refl, (one a).1 is_a, (two b).1 is_b),
+module _ (G : Grammar) (X : Symbol) (d : Demand) (first second : Option Claim)
+    (one : (c : Claim) → PopsTo G X d.first c ↔ (first ≡ Some c))
+    (two : (c : Claim) → PopsTo G X d.second c ↔ (second ≡ Some c)) where
+  -- the demand with the claims that its own pop to
+  pub both_popped : (a b : Claim) → first ≡ Some a → second ≡ Some b → (e : Demand) → ArePopped G X d e
+      ↔ (Some (record d { first = a; second = b }) ≡ Some e)
+  both_popped a b is_a is_b e = (
+    λ (state, pops, pops').
+        let same : a ≡ e.first = (let f = (one e.first).0 pops in cc) in
+        let same' : b ≡ e.second = (let f = (two e.second).0 pops' in cc) in
+        let at : StateNo → Claim → Claim → Demand = λ s u v. record { state = s; first = u; second = v } in
+        ap (λ y. Some y) (ap (λ s. at s a b) (sym state) ∙ ap (λ u. at e.state u b) same
+        ∙ ap (at e.state e.first) same'),
+    λ f.
+        let same : record d { first = a; second = b } ≡ e = cc in
+        subst (ArePopped G X d) same (refl, (one a).1 is_a, (two b).1 is_b),
   )
 
-  pub no_first : first ≡ None → (p : Pop) → IsPopBy G d x p ↔ (None ≡ Some p)
-  no_first nothing p = (
-    λ (symbol, from, pops, pops'). let e = (one p.demand.first).0 pops in absurd (cc),
-    λ e. absurd (cc),
+  pub no_first : first ≡ None → (e : Demand) → ArePopped G X d e ↔ (None ≡ Some e)
+  no_first nothing e = (
+    λ (state, pops, pops'). let f = (one e.first).0 pops in absurd (cc),
+    λ f. absurd (cc),
   )
 
-  pub no_second : second ≡ None → (p : Pop) → IsPopBy G d x p ↔ (None ≡ Some p)
-  no_second nothing p = (
-    λ (symbol, from, pops, pops'). let e = (two p.demand.second).0 pops' in absurd (cc),
-    λ e. absurd (cc),
+  pub no_second : second ≡ None → (e : Demand) → ArePopped G X d e ↔ (None ≡ Some e)
+  no_second nothing e = (
+    λ (state, pops, pops'). let f = (two e.second).0 pops' in absurd (cc),
+    λ f. absurd (cc),
   )
 
--- those by way of all transitions to the state are the demands that are popped to
-pub pops_are : (M : Lr0Automaton) (d : Demand) (xs : List Incoming)
-    → ((x : Incoming) → Contains xs x ↔ (goto_of M x.from.0 (symbol_of x.symbol) ≡ Some d.state.0))
-    → (p : Pop) → HasSource (IsPopBy M.grammar d) xs p ↔ IsPop M (symbol_of p.symbol) d p.demand
-pops_are M d xs exact p = (
-  λ (x, among, (symbol, from, first, second)).
-      let goes = (exact x).0 among in (
-        subst (λ q. goto_of M q.0 (symbol_of p.symbol) ≡ Some d.state.0) (sym from)
-            (subst (λ Y. goto_of M x.from.0 (symbol_of Y) ≡ Some d.state.0) (sym symbol) goes),
-        subst (λ Y. PopsTo M.grammar (symbol_of Y) d.first p.demand.first) (sym symbol) first,
-        subst (λ Y. PopsTo M.grammar (symbol_of Y) d.second p.demand.second) (sym symbol) second,
-      ),
-  λ (goes, first, second).
-      let x : Incoming = record { from = p.demand.state; symbol = p.symbol } in
-      (x, (exact x).1 goes, (refl, refl, first, second)),
-)
+-- to the demand with another state, over the symbol
+abbrev pub pop_from : code.Symbol → Demand → StateNo → Pop
+pop_from X e q = record { symbol = X; demand = record e { state = q } }
+
+-- All transitions to the state of a demand are over one symbol, so it pops over that alone, from each source of its state.
+module _ (M : Lr0Automaton) (d : Demand) (symbol : Option code.Symbol)
+    (only : (q : ℕ) (X : Symbol) → goto_of M q X ≡ Some d.state.0 → option_map symbol_of symbol ≡ Some X) where
+  module _ (X : code.Symbol) (there : symbol ≡ Some X) where
+    leads_over : (q : ℕ) (Y : Symbol) → goto_of M q Y ≡ Some d.state.0 → symbol_of X ≡ Y
+    leads_over q Y goes =
+        let over : Some (symbol_of X) ≡ Some Y = ap (option_map symbol_of) (sym there) ∙ only q Y goes in
+        cc
+
+    popped_over : (p : Pop) → IsPop M (symbol_of p.symbol) d p.demand
+        → (X ≡ p.symbol) × ArePopped M.grammar (symbol_of X) d (record p.demand { state = d.state })
+    popped_over p (goes, first, second) =
+        let same = symbol_one X p.symbol (leads_over p.demand.state.0 (symbol_of p.symbol) goes) in (
+          same,
+          subst (λ Y. ArePopped M.grammar (symbol_of Y) d (record p.demand { state = d.state })) (sym same)
+              (refl, first, second),
+        )
+
+    pub pops_never : ((e : Demand) → ArePopped M.grammar (symbol_of X) d e → ⊥) → (p : Pop)
+        → IsPop M (symbol_of p.symbol) d p.demand → ⊥
+    pops_never never p pops = never (record p.demand { state = d.state }) (popped_over p pops).1
+
+    pub pops_are : (e : Demand) → ((f : Demand) → ArePopped M.grammar (symbol_of X) d f ↔ (e ≡ f))
+        → (qs : List StateNo) → ((q : StateNo) → Contains qs q ↔ ((Y : Symbol) × (goto_of M q.0 Y ≡ Some d.state.0)))
+        → (p : Pop) → IsRelated (λ q r. pop_from X e q ≡ r) qs p ↔ IsPop M (symbol_of p.symbol) d p.demand
+    pops_are e one qs exact p = (
+      λ (q, among, is).
+          let (Y, goes) = (exact q).0 among in
+          let popped = (one e).1 refl in
+          subst (λ r. IsPop M (symbol_of r.symbol) d r.demand) is
+          (subst (λ Z. goto_of M q.0 Z ≡ Some d.state.0) (sym (leads_over q.0 Y goes)) goes, popped.1, popped.2),
+      λ pops.
+          let over = popped_over p pops in
+          let same = (one (record p.demand { state = d.state })).0 over.1 in
+          let q = p.demand.state in
+          let is : pop_from X e q ≡ p
+          = ap (λ f. pop_from X f q) same ∙ ap (λ Y. pop_from Y p.demand q) over.0 in
+          (q, (exact q).1 (symbol_of p.symbol, pops.0), is),
+    )

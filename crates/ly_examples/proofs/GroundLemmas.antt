@@ -16,19 +16,17 @@ use Rattle.ly_lr0.specs.Automaton.{Lr0Automaton, IsLr0Automaton, IsState, Transi
 use Rattle.ly_lr0.specs.Automaton.{is_terminal, state_at, target_of}
 use Rattle.ly_lr0.specs.Transitions.{transition_of}
 use Rattle.ly_lr0.specs.declared.transition.Transition as code
-use Rattle.ly_lr0.proofs.GroupLemmas.{symbol_one}
 use Rattle.ly_lr0.proofs.StateLemmas.{state_there, target_some}
 use Rattle.ly_relate.specs.Private.Walks.{HasNumberTo}
 use Rattle.ly_relate.proofs.GotoLemmas.{has_target}
 use Rattle.ly_resolve.proofs.MeetingLemmas.{filter_in, in_filter}
 use Rattle.ly_lr0.specs.declared.item.Item.{Item}
-use Rattle.ly_examples.specs.declared.incoming.Incoming.{Incoming}
-use Rattle.ly_examples.specs.Private.Grounds.{AreIncoming, AreUses}
-use Rattle.ly_examples.specs.Private.Lists.{AreIncomingOf, AreLeavingAdded, AreUsesAdded, AreUsesOf, IsLeaving}
+use Rattle.ly_examples.specs.Private.Grounds.{AreSources, AreWaiting}
+use Rattle.ly_examples.specs.Private.Lists.{AreSourcesAdded, AreSourcesOf, AreWaitingAdded, AreWaitingOf, IsSourceBy}
 use Rattle.ly_examples.specs.Private.Met.{item_at}
-use Rattle.ly_examples.specs.Private.Uses.{HasSource}
-use Rattle.ly_examples.proofs.BackLemmas.{ahead_at, at_ahead, no_source, pushed_one, sources_beside}
-use Rattle.ly_examples.proofs.UseLemmas.{body_within}
+use Rattle.ly_examples.specs.Private.Steps.{IsRelated}
+use Rattle.ly_examples.proofs.BackLemmas.{ahead_at, at_ahead, none_related, pushed_one, related_beside}
+use Rattle.ly_examples.proofs.ClaimLemmas.{body_within}
 
 -- one more in one of some lists
 pub pushed_into : {Y : Type 0} (old new : List (List Y)) (n : ℕ) (v : Y) → n < length old
@@ -60,8 +58,8 @@ pushed_into {Y} old new n v lt e s y = by (same_or_not s n) where
 
 -- ITEMS
 
-pub uses_none : (lists : List (List Item)) (body : List Symbol) (rule : ℕ) → AreUsesAdded lists lists body rule 0
-uses_none lists body rule = record {
+pub waiting_none : (lists : List (List Item)) (body : List Symbol) (rule : ℕ) → AreWaitingAdded lists lists body rule 0
+waiting_none lists body rule = record {
   count = refl;
   exact = λ A i. (
     λ has. inl has,
@@ -70,13 +68,13 @@ uses_none lists body rule = record {
 }
 
 module _ (old mid : List (List Item)) (body : List Symbol) (rule n : ℕ) (X : Symbol)
-    (at : slice_get body n ≡ Some X) (are : AreUsesAdded old mid body rule n) where
+    (at : slice_get body n ≡ Some X) (are : AreWaitingAdded old mid body rule n) where
   -- one more symbol of a body
-  pub uses_step : (new : List (List Item)) → length new ≡ length mid
+  pub waiting_step : (new : List (List Item)) → length new ≡ length mid
       → ((A : ℕ) (i : Item) → Contains (slice_index_or new A []) i
       ↔ (Contains (slice_index_or mid A []) i ⊎ ((X ≡ nonterminal A) × (item_at rule n ≡ i))))
-      → AreUsesAdded old new body rule (n + 1)
-  uses_step new long one = record {
+      → AreWaitingAdded old new body rule (n + 1)
+  waiting_step new long one = record {
     count = long ∙ are.count;
     exact = λ A i. (
       λ has. elim ((one A i).0 has) [
@@ -109,15 +107,15 @@ module _ (old mid : List (List Item)) (body : List Symbol) (rule n : ℕ) (X : S
     );
   }
 
-  pub uses_skip : (k : ℕ) → X ≡ terminal k → AreUsesAdded old mid body rule (n + 1)
-  uses_skip k e = uses_step mid refl (λ A i. (
+  pub waiting_skip : (k : ℕ) → X ≡ terminal k → AreWaitingAdded old mid body rule (n + 1)
+  waiting_skip k e = waiting_step mid refl (λ A i. (
     λ has. inl has,
     λ either. elim either [ inl was ↦ was | inr here ↦ (let f = here.0 in absurd (cc)) ],
   ))
 
-  pub uses_push : (new : List (List Item)) (A : ℕ) → X ≡ nonterminal A → A < length mid
-      → new ≡ slice_set mid A (slice_index_or mid A [] ++ item_at rule n ∷ []) → AreUsesAdded old new body rule (n + 1)
-  uses_push new A e lt is = uses_step new (ap length is ∙ length-set mid A _) (λ B i.
+  pub waiting_push : (new : List (List Item)) (A : ℕ) → X ≡ nonterminal A → A < length mid
+      → new ≡ slice_set mid A (slice_index_or mid A [] ++ item_at rule n ∷ []) → AreWaitingAdded old new body rule (n + 1)
+  waiting_push new A e lt is = waiting_step new (ap length is ∙ length-set mid A _) (λ B i.
       let one = pushed_into mid new A (item_at rule n) lt is B i in (
         λ has. elim (one.0 has) [
           | inl was ↦ inl was
@@ -139,9 +137,9 @@ body_below G augmented p r is = λ k d lt.
     below (terminal k) within = tt
     below (nonterminal A) within = omega (arith, within)
 
-module _ (G : Grammar) (rule : ℕ) (old : List (List Item)) (are : AreUsesOf G old rule) where
+module _ (G : Grammar) (rule : ℕ) (old : List (List Item)) (are : AreWaitingOf G old rule) where
   pub rule_added : (r : GrammarRule) (new : List (List Item)) → IsRule G rule r
-      → AreUsesAdded old new r.body rule (length r.body) → AreUsesOf G new (rule + 1)
+      → AreWaitingAdded old new r.body rule (length r.body) → AreWaitingOf G new (rule + 1)
   rule_added r new is added = record {
     count = added.count ∙ are.count;
     exact = λ A i le. (
@@ -165,7 +163,7 @@ module _ (G : Grammar) (rule : ℕ) (old : List (List Item)) (are : AreUsesOf G 
     );
   }
 
-  pub rule_removed : ((r : GrammarRule) × IsRule G rule r → ⊥) → AreUsesOf G old (rule + 1)
+  pub rule_removed : ((r : GrammarRule) × IsRule G rule r → ⊥) → AreWaitingOf G old (rule + 1)
   rule_removed none = record {
     count = are.count;
     exact = λ A i le. (
@@ -180,9 +178,9 @@ module _ (G : Grammar) (rule : ℕ) (old : List (List Item)) (are : AreUsesOf G 
     );
   }
 
-pub uses_all : (G : Grammar) (lists : List (List Item)) (n : ℕ) → length G.rules ≤ n → AreUsesOf G lists n
-    → AreUses G lists
-uses_all G lists n past are = record {
+pub waiting_all : (G : Grammar) (lists : List (List Item)) (n : ℕ) → length G.rules ≤ n → AreWaitingOf G lists n
+    → AreWaiting G lists
+waiting_all G lists n past are = record {
   count = are.count;
   exact = λ A i le. (
     λ has. let there = (are.exact A i le).0 has in (there.1, there.2),
@@ -192,29 +190,28 @@ uses_all G lists n past are = record {
   );
 }
 
--- TRANSITIONS
+-- SOURCES
 
-pub leaving_none : (lists : List (List Incoming)) (from : StateNo) (ts : List code.Transition)
-    → AreLeavingAdded lists lists from (take 0 ts)
-leaving_none lists from ts = record {
+pub sources_none : (lists : List (List StateNo)) (from : StateNo) (ts : List code.Transition)
+    → AreSourcesAdded lists lists from (take 0 ts)
+sources_none lists from ts = record {
   count = refl;
-  exact = λ s x. (
+  exact = λ s q. (
     λ has. inl has,
-    λ either. elim either [ inl was ↦ was | inr none ↦ absurd (no_source (IsLeaving from s) ts x none) ],
+    λ either. elim either [ inl was ↦ was | inr none ↦ absurd (none_related (IsSourceBy from s) ts q none) ],
   );
 }
 
-pub leaving_more : (old mid new : List (List Incoming)) (from : StateNo) (ts : List code.Transition) (k : ℕ)
+pub sources_more : (old mid new : List (List StateNo)) (from : StateNo) (ts : List code.Transition) (k : ℕ)
     (t : code.Transition) → k < length ts → (slice_index_or ts k t).target.0 < length mid
     → new ≡ slice_set mid (slice_index_or ts k t).target.0 (slice_index_or mid (slice_index_or ts k t).target.0 []
-    ++ record { from = from; symbol = (slice_index_or ts k t).symbol } ∷ [])
-    → AreLeavingAdded old mid from (take k ts) → AreLeavingAdded old new from (take (k + 1) ts)
-leaving_more old mid new from ts k t lt within e are = record {
+    ++ from ∷ [])
+    → AreSourcesAdded old mid from (take k ts) → AreSourcesAdded old new from (take (k + 1) ts)
+sources_more old mid new from ts k t lt within e are = record {
   count = ap length e ∙ length-set mid (slice_index_or ts k t).target.0 _ ∙ are.count;
-  exact = λ s. sources_beside (IsLeaving from s) ts (λ y. Contains (slice_index_or old s []) y) k t lt
+  exact = λ s. related_beside (IsSourceBy from s) ts (λ y. Contains (slice_index_or old s []) y) k t lt
       (slice_index_or mid s []) (slice_index_or new s [])
-      (pushed_into mid new (slice_index_or ts k t).target.0
-      (record { from = from; symbol = (slice_index_or ts k t).symbol }) within e s) (are.exact s);
+      (pushed_into mid new (slice_index_or ts k t).target.0 from within e s) (are.exact s);
 }
 
 module _ (M : Lr0Automaton) (is : IsLr0Automaton M) (from : StateNo) (lt : from.0 < length M.states) where
@@ -240,82 +237,75 @@ module _ (M : Lr0Automaton) (is : IsLr0Automaton M) (from : StateNo) (lt : from.
 
   -- by one of those that pass a test the state goes where it leads
   source_leads : (p : Transition → Bool) (ts : List code.Transition) → map transition_of ts ≡ filter p transitions
-      → (s : ℕ) (x : Incoming) → HasSource (IsLeaving from s) ts x
-      → (x.from ≡ from) × (goto_of M x.from.0 (symbol_of x.symbol) ≡ Some s)
-  source_leads p ts shown s x (t, among, (target, e)) =
+      → (s : ℕ) (q : StateNo) → IsRelated (IsSourceBy from s) ts q
+      → (from ≡ q) × (X : Symbol) × (goto_of M from.0 X ≡ Some s)
+  source_leads p ts shown s q (t, among, (target, e)) =
       let there = has_target transitions (transition_of t) these.ordered (passed_there p ts shown t among) in
-      subst (λ y. (y.from ≡ from) × (goto_of M y.from.0 (symbol_of y.symbol) ≡ Some s)) e
-      (refl, goes (symbol_of t.symbol) ∙ there ∙ ap (λ n. Some n) target)
+      (e, symbol_of t.symbol, goes (symbol_of t.symbol) ∙ there ∙ ap (λ n. Some n) target)
 
   -- where the state goes by a symbol, one of those over the symbol's kind leads
   leading_source : (p : Transition → Bool) (ts : List code.Transition) → map transition_of ts ≡ filter p transitions
-      → (s : ℕ) (x : Incoming) → x.from ≡ from → goto_of M x.from.0 (symbol_of x.symbol) ≡ Some s
-      → p (record { symbol = symbol_of x.symbol; target = s }) ≡ true → HasSource (IsLeaving from s) ts x
-  leading_source p ts shown s x at leads passes =
-      let there : target_of transitions (symbol_of x.symbol) ≡ Some s
-      = sym (goes (symbol_of x.symbol)) ∙ ap (λ q. goto_of M q.0 (symbol_of x.symbol)) (sym at) ∙ leads in
-      let u : Transition = record { symbol = symbol_of x.symbol; target = s } in
-      let among = in_filter p transitions u (target_some transitions (symbol_of x.symbol) s there) passes in
+      → (s : ℕ) (X : Symbol) → goto_of M from.0 X ≡ Some s → p (record { symbol = X; target = s }) ≡ true
+      → IsRelated (IsSourceBy from s) ts from
+  leading_source p ts shown s X leads passes =
+      let u : Transition = record { symbol = X; target = s } in
+      let among = in_filter p transitions u (target_some transitions X s (sym (goes X) ∙ leads)) passes in
       let it = in_mapped transition_of ts u (subst (λ w. Contains w u) (sym shown) among) in
-      let symbol = symbol_one it.0.symbol x.symbol (ap (λ v. v.symbol) it.2) in
-      let put : StateNo → _ → Incoming = λ q y. record { from = q; symbol = y } in
-      (it.0, it.1, (ap (λ v. v.target) it.2, ap (λ q. put q it.0.symbol) (sym at) ∙ ap (put x.from) symbol))
+      (it.0, it.1, (ap (λ v. v.target) it.2, refl))
 
   module _ (shifts gotos : List code.Transition)
       (over_terminals : map transition_of shifts ≡ filter is_shift transitions)
       (over_nonterminals : map transition_of gotos ≡ filter is_goto transitions) where
-    leaving_are : (s : ℕ) (x : Incoming)
-        → (HasSource (IsLeaving from s) shifts x ⊎ HasSource (IsLeaving from s) gotos x)
-        ↔ ((x.from ≡ from) × (goto_of M x.from.0 (symbol_of x.symbol) ≡ Some s))
-    leaving_are s x = (
-      λ either. elim either [
-        | inl one ↦ source_leads is_shift shifts over_terminals s x one
-        | inr one ↦ source_leads is_goto gotos over_nonterminals s x one
-      ],
-      λ (at, leads). kind (is_terminal (symbol_of x.symbol)) refl at leads,
-    ) where
-      kind : (b : Bool) → is_terminal (symbol_of x.symbol) ≡ b → x.from ≡ from
-          → goto_of M x.from.0 (symbol_of x.symbol) ≡ Some s
-          → HasSource (IsLeaving from s) shifts x ⊎ HasSource (IsLeaving from s) gotos x
-      kind true e at leads = inl (leading_source is_shift shifts over_terminals s x at leads e)
-      kind false e at leads = inr (leading_source is_goto gotos over_nonterminals s x at leads (ap not e))
+    -- the state was added to the sources of those to which it leads
+    source_added : (s : ℕ) (X : Symbol) → goto_of M from.0 X ≡ Some s
+        → IsRelated (IsSourceBy from s) shifts from ⊎ IsRelated (IsSourceBy from s) gotos from
+    source_added s X leads = kind (is_terminal X) refl where
+      kind : (b : Bool) → is_terminal X ≡ b
+          → IsRelated (IsSourceBy from s) shifts from ⊎ IsRelated (IsSourceBy from s) gotos from
+      kind true e = inl (leading_source is_shift shifts over_terminals s X leads e)
+      kind false e = inr (leading_source is_goto gotos over_nonterminals s X leads (ap not e))
 
-    pub leaving_done : (old mid new : List (List Incoming)) → AreIncomingOf M old from.0
-        → AreLeavingAdded old mid from shifts → AreLeavingAdded mid new from gotos → AreIncomingOf M new (from.0 + 1)
-    leaving_done old mid new before first second = record {
+    pub source_done : (old mid new : List (List StateNo)) → AreSourcesOf M old from.0
+        → AreSourcesAdded old mid from shifts → AreSourcesAdded mid new from gotos → AreSourcesOf M new (from.0 + 1)
+    source_done old mid new before first second = record {
       count = second.count ∙ first.count ∙ before.count;
-      exact = λ s x less. (
-        λ has. elim ((second.exact s x).0 has) [
-          | inl was ↦ elim ((first.exact s x).0 was) [
+      exact = λ s q less. (
+        λ has. elim ((second.exact s q).0 has) [
+          | inl was ↦ elim ((first.exact s q).0 was) [
             | inl older ↦
-                let there = (before.exact s x less).0 older in
-                ((let e = there.0 in omega (arith, e)), there.1)
-            | inr some ↦ here s x ((leaving_are s x).0 (inl some))
+                let there = (before.exact s q less).0 older in
+                ((let e = there.0 in omega (arith, e)), there.1, there.2)
+            | inr some ↦ here s q (source_leads is_shift shifts over_terminals s q some)
           ]
-          | inr some ↦ here s x ((leaving_are s x).0 (inr some))
+          | inr some ↦ here s q (source_leads is_goto gotos over_nonterminals s q some)
         ],
-        λ (early, leads). elim (cases_order x.from.0 from.0) [
-          | inl same ↦ elim ((leaving_are s x).1 (ap (λ n. record { 0 = n }) same, leads)) [
-            | inl one ↦ (second.exact s x).1 (inl ((first.exact s x).1 (inr one)))
-            | inr one ↦ (second.exact s x).1 (inr one)
-          ]
+        λ (early, X, leads). elim (cases_order q.0 from.0) [
+          | inl same ↦
+              let it : from ≡ q = ap (λ n. record { 0 = n }) (sym same) in
+              subst (Contains (slice_index_or new s [])) it
+              (elim (source_added s X (ap (λ n. goto_of M n X) (sym same) ∙ leads)) [
+                | inl one ↦ (second.exact s from).1 (inl ((first.exact s from).1 (inr one)))
+                | inr one ↦ (second.exact s from).1 (inr one)
+              ])
           | inr (inl less') ↦
-              (second.exact s x).1 (inl ((first.exact s x).1 (inl ((before.exact s x less).1 (less', leads)))))
+              (second.exact s q).1 (inl ((first.exact s q).1 (inl ((before.exact s q less).1 (less', X, leads)))))
           | inr (inr more') ↦ absurd (omega (arith, early, more'))
         ],
       );
     } where
-      here : (s : ℕ) (x : Incoming) → (x.from ≡ from) × (goto_of M x.from.0 (symbol_of x.symbol) ≡ Some s)
-          → (x.from.0 < from.0 + 1) × (goto_of M x.from.0 (symbol_of x.symbol) ≡ Some s)
-      here s x there = let e : x.from.0 ≡ from.0 = ap (λ q. q.0) there.0 in (omega (arith, e), there.1)
+      here : (s : ℕ) (q : StateNo) → (from ≡ q) × (X : Symbol) × (goto_of M from.0 X ≡ Some s)
+          → (q.0 < from.0 + 1) × (X : Symbol) × (goto_of M q.0 X ≡ Some s)
+      here s q (e, X, leads) =
+          let same : from.0 ≡ q.0 = ap (λ v. v.0) e in
+          ((omega (arith, same)), X, subst (λ n. goto_of M n X ≡ Some s) same leads)
 
-pub incoming_all : (M : Lr0Automaton) (lists : List (List Incoming)) (n : ℕ) → length M.states ≤ n
-    → AreIncomingOf M lists n → AreIncoming M lists
-incoming_all M lists n past are = record {
+pub sources_all : (M : Lr0Automaton) (lists : List (List StateNo)) (n : ℕ) → length M.states ≤ n
+    → AreSourcesOf M lists n → AreSources M lists
+sources_all M lists n past are = record {
   count = are.count;
-  exact = λ s x less. (
-    λ has. ((are.exact s x less).0 has).1,
-    λ leads. (are.exact s x less).1 (early x.from.0 (symbol_of x.symbol) s leads, leads),
+  exact = λ s q less. (
+    λ has. let there = (are.exact s q less).0 has in (there.1, there.2),
+    λ (X, leads). (are.exact s q less).1 (early q.0 X s leads, X, leads),
   );
 } where
   early : (r : ℕ) (X : Symbol) (s : ℕ) → goto_of M r X ≡ Some s → r < n

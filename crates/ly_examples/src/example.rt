@@ -94,7 +94,7 @@ impl<'a> Examples<'a> {
         self.ground.sources.of(state.0 as usize)
     }
 
-    /// The items that wait for a nonterminal, which they have behind the dot, of the rules that are kept.
+    /// The items that wait for a nonterminal: they have it behind the dot, and their rules are kept.
     pub fn waiting(&self, left: Sym) -> &[Item]
         requires { left.0 ≤ self.now.automaton.grammar.accept }
         ensures { (i : items.Item) → Contains result.now i

@@ -8,7 +8,8 @@
 //! a rule with nothing before its dot is valid because of an item that waits for its left side, and there the terminal
 //! begins what stands behind, or is handed up. Where no example is, only merging made the conflict.
 //! `Examples::of_rule` and `Examples::of_choice` seek one for each action by itself, and `Examples::none_has_one` asks
-//! many conflicts at once.
+//! many conflicts at once. What leads back is looked up: the states from which transitions lead to one, and the items
+//! that wait for a nonterminal (`Examples::sources`, `Examples::waiting`).
 //!
 //! `unmatched_rules` lists the rules of the lex file that never match (`NeverMatches`): they win at no place of any
 //! text (`MatchedWin`). `unreduced_rules` lists the useful rules of the grammar by which nothing is reduced

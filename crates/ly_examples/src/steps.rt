@@ -5,7 +5,7 @@ ghost use Rattle.ly_examples.specs.Demands.{ClimbsTo, IsBefore, IsBegun, IsClimb
 ghost use Rattle.ly_examples.specs.Private.Kept.{IsKeptClaim, IsKeptDemand, IsKeptItem};
 ghost use Rattle.ly_examples.specs.Private.Lists.{IsGround};
 ghost use Rattle.ly_examples.specs.Private.Met.{item_at};
-ghost use Rattle.ly_examples.specs.Private.Steps.{HasAhead, ArePopped, IsClaimOn};
+ghost use Rattle.ly_examples.specs.Private.Steps.{ArePopped, HasAhead, IsClaimOn};
 ghost use Rattle.ly_examples.specs.declared.claim.Claim as claim_values;
 ghost use Rattle.ly_examples.specs.declared.claim.Claim.TheVariants.{With as TheTerminal};
 ghost use Rattle.ly_examples.specs.declared.claim.Demand as demands;

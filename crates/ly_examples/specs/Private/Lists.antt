@@ -6,7 +6,7 @@ use Rattle.ly_join.specs.Grammar.{Grammar, Symbol, nonterminal}
 use Rattle.ly_lr0.specs.Automaton.{Lr0Automaton, IsLr0Automaton, goto_of}
 use Rattle.ly_lr0.specs.declared.transition.Transition.{Transition}
 use Rattle.ly_examples.specs.Demands.{IsAhead}
-use Rattle.ly_examples.specs.Private.Steps.{HasSource}
+use Rattle.ly_examples.specs.Private.Steps.{IsRelated}
 use Rattle.ly_lr0.specs.declared.item.Item.{Item}
 use Rattle.ly_examples.specs.declared.ground.Ground.{Ground}
 use Rattle.ly_examples.specs.Private.Grounds.{AreSources, AreWaiting}
@@ -39,7 +39,7 @@ IsSourceBy from s t q = (t.target.0 ≡ s) × (from ≡ q)
 pub record AreSourcesAdded (old new : List (List StateNo)) (from : StateNo) (ts : List Transition) : Type 0 where
   pub count : length new ≡ length old
   pub exact : (s : ℕ) (q : StateNo) → Contains (slice_index_or new s []) q
-      ↔ (Contains (slice_index_or old s []) q ⊎ HasSource (IsSourceBy from s) ts q)
+      ↔ (Contains (slice_index_or old s []) q ⊎ IsRelated (IsSourceBy from s) ts q)
 
 -- the items of the first n rules that wait for a nonterminal
 pub record AreWaitingOf (G : Grammar) (lists : List (List Item)) (n : ℕ) : Type 0 where

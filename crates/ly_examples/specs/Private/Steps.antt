@@ -20,8 +20,8 @@ IsClaimOn G t i (InCore j) = (i ≡ j) × (X : Symbol) × (rest : List Symbol) �
 IsClaimOn G t i (With j) = (i ≡ j) × (X : Symbol) × (rest : List Symbol) × IsAhead G j X rest × IsNullable G rest
 
 -- one of the list is related to it
-abbrev pub HasSource : {X Y : Type 0} → (X → Y → Type 0) → List X → Y → Type 0
-HasSource {X} R xs y = (x : X) × Contains xs x × R x y
+abbrev pub IsRelated : {X Y : Type 0} → (X → Y → Type 0) → List X → Y → Type 0
+IsRelated {X} R xs y = (x : X) × Contains xs x × R x y
 
 -- the demand with another claim for the rule of the conflict, and for what stands against it
 abbrev pub IsWithFirst : Demand → Claim → Demand → Type 0

@@ -1,8 +1,8 @@
 use Rattle.std.proofs.Common.{arith}
-use Rattle.ly_examples.proofs.GroundLemmas.{incoming_all}
-use Rattle.ly_examples.proofs.ground.incoming_of.Goals as goal
+use Rattle.ly_examples.proofs.GroundLemmas.{sources_all}
+use Rattle.ly_examples.proofs.ground.sources_of.Goals as goal
 
-pub returns-clause-incoming : goal.returns-clause-incoming
-returns-clause-incoming c =
+pub returns-clause-sources : goal.returns-clause-sources
+returns-clause-sources c =
     let count = c.states-state-end.ensures.count in
-    incoming_all c.args.lr0.now c.loop-state.incoming c.loop-state.state (omega (arith, count)) c.loop-state.invariant
+    sources_all c.args.lr0.now c.loop-state.sources c.loop-state.state (omega (arith, count)) c.loop-state.invariant

@@ -1,6 +1,6 @@
-use Rattle.ly_examples.specs.Private.Lists.{AreIncomingOf}
-use Rattle.ly_examples.proofs.ground.incoming_of.Given as goal
+use Rattle.ly_examples.specs.Private.Lists.{AreSourcesOf}
+use Rattle.ly_examples.proofs.ground.sources_of.Given as goal
 
--- what leaves the states so far
+-- the sources among the states so far
 abbrev pub invariant-loop-state : goal.invariant-loop-state
-invariant-loop-state l = AreIncomingOf l.lr0 l.incoming l.state
+invariant-loop-state l = AreSourcesOf l.lr0 l.sources l.state

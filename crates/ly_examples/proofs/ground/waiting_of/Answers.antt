@@ -3,14 +3,14 @@ use Rattle.std.proofs.lemmas.Bool.{iff_false}
 use Rattle.std.proofs.lemmas.List.{length-map}
 use Rattle.ly_join.specs.Grammar.{IsAugmented, IsRule, symbol_of}
 use Rattle.ly_grammar.specs.Private.Search.{HasNumberBelow}
-use Rattle.ly_examples.specs.Private.Lists.{AreUsesAdded, AreUsesOf}
+use Rattle.ly_examples.specs.Private.Lists.{AreWaitingAdded, AreWaitingOf}
 use Rattle.ly_examples.proofs.BackLemmas.{kept_is}
-use Rattle.ly_examples.proofs.GroundLemmas.{body_below, rule_added, rule_removed, uses_all}
-use Rattle.ly_examples.proofs.ground.uses_of.Goals as goal
-use Rattle.ly_examples.proofs.ground.uses_of.Goals.{then-is_kept+in_ok-push_uses, else-is_kept}
+use Rattle.ly_examples.proofs.GroundLemmas.{body_below, rule_added, rule_removed, waiting_all}
+use Rattle.ly_examples.proofs.ground.waiting_of.Goals as goal
+use Rattle.ly_examples.proofs.ground.waiting_of.Goals.{then-is_kept+in_ok-push_waiting, else-is_kept}
 
-pub push_uses-requires : goal.push_uses-requires
-push_uses-requires c =
+pub push_waiting-requires : goal.push_waiting-requires
+push_waiting-requires c =
     let G = c.args.lr0.now.grammar in
     let rule = c.loop-rule.rule in
     let k = c.is_kept.ensures.0 c.if-is_kept.true in
@@ -26,9 +26,9 @@ pub loop-rule-preserved : goal.loop-rule-preserved
 loop-rule-preserved c =
     let G = c.args.lr0.now.grammar in
     let rule = c.loop-rule.rule in
-    let old = c.loop-rule.uses in
+    let old = c.loop-rule.waiting in
     elim c.if-is_kept.branch [
-      | then-is_kept+in_ok-push_uses w ↦
+      | then-is_kept+in_ok-push_waiting w ↦
           let k = c.is_kept.ensures.0 w.if-is_kept.true in
           let kept = subst (λ A. IsRule A rule k.0) c.reduced-reduced.ensures k.1 in
           let same = kept_is c.grammar-grammar.result.now c.reduced-reduced.result.now.grammar G rule
@@ -36,12 +36,12 @@ loop-rule-preserved c =
           let shown : map symbol_of w.body.result.now ≡ k.0.body = w.body.ensures ∙ ap (λ r. r.body) same in
           let long : length w.body.result.now ≡ length k.0.body
           = sym (length-map w.body.result.now symbol_of) ∙ ap length shown in
-          let new = w.push_uses.new.uses in
-          rule_added G rule old c.loop-rule.invariant k.0 c.if-is_kept.uses kept
-          (subst (λ u. AreUsesAdded old u k.0.body rule (length k.0.body)) (sym w.uses-is)
-          (subst (λ n. AreUsesAdded old new k.0.body rule n) long
-          (subst (λ b. AreUsesAdded old new b rule (length w.body.result.now)) shown w.in_ok-push_uses.ensures)))
-      | else-is_kept w ↦ subst (λ u. AreUsesOf G u (rule + 1)) (sym w.uses-is)
+          let new = w.push_waiting.new.waiting in
+          rule_added G rule old c.loop-rule.invariant k.0 c.if-is_kept.waiting kept
+          (subst (λ u. AreWaitingAdded old u k.0.body rule (length k.0.body)) (sym w.waiting-is)
+          (subst (λ n. AreWaitingAdded old new k.0.body rule n) long
+          (subst (λ b. AreWaitingAdded old new b rule (length w.body.result.now)) shown w.in_ok-push_waiting.ensures)))
+      | else-is_kept w ↦ subst (λ u. AreWaitingOf G u (rule + 1)) (sym w.waiting-is)
           (rule_removed G rule old c.loop-rule.invariant (λ (r, is).
           iff_false c.is_kept.ensures w.if-is_kept.false
           (r, subst (λ A. IsRule A rule r) (sym c.reduced-reduced.ensures) is)))
@@ -53,7 +53,7 @@ returns c =
     let same = ap (λ A. length A.rules) c.reduced-reduced.ensures in
     let these : length c.rules-rule-end.result.now ≡ length c.grammar-grammar.result.now.rules
     = sym (length-map c.rules-rule-end.result.now (λ r. Some r)) ∙ ap length c.rules-rule-end.ensures.these in
-    uses_all c.args.lr0.now.grammar c.loop-rule.uses c.loop-rule.rule (omega (arith, numbers, same, these))
+    waiting_all c.args.lr0.now.grammar c.loop-rule.waiting c.loop-rule.rule (omega (arith, numbers, same, these))
     c.loop-rule.invariant
 
 pub rule-requires : goal.rule-requires

@@ -5,9 +5,9 @@ use Rattle.ly_examples.specs.declared.claim.Claim.{Claim}
 use Rattle.ly_examples.specs.declared.claim.Claim.TheVariants.{InCore, Settled, With}
 use Rattle.ly_examples.specs.Private.Met.{item_at}
 use Rattle.ly_examples.proofs.BackLemmas.{only_none, only_one, only_those}
-use Rattle.ly_examples.proofs.UseLemmas.{climb_anywhere, climb_core, climb_far, climb_not_begun, climb_settled}
+use Rattle.ly_examples.proofs.ClaimLemmas.{climb_anywhere, climb_core, climb_far, climb_not_begun, climb_settled}
 use Rattle.ly_examples.proofs.steps.claims_above.Goals as goal
-use Rattle.ly_examples.proofs.steps.claims_above.Goals.{in-Settled, in-With+in_ok-push_uses-in-With}
+use Rattle.ly_examples.proofs.steps.claims_above.Goals.{in-Settled, in-With+in_ok-push_claims-in-With}
 use Rattle.ly_examples.proofs.steps.claims_above.Goals.{in-With+else-item-eq0, in-InCore+in_ok-push-in-InCore}
 use Rattle.ly_examples.proofs.steps.claims_above.Goals.{in-InCore+then-item-eq0-2+else-is_begun}
 use Rattle.ly_examples.proofs.steps.claims_above.Goals.{in-InCore+else-item-eq0-2}
@@ -23,13 +23,13 @@ returns c =
     elim c.match-claim.branch [
       | in-Settled w ↦ subst (λ x. (e : Claim) → Contains new e ↔ ClimbsTo M t s x e) (sym w.in-Settled.is)
           (only_none (ClimbsTo M t s Settled) old new empty (ap (λ v. v.items) w.claims-is) (climb_settled M t s))
-      | in-With+in_ok-push_uses-in-With w ↦
+      | in-With+in_ok-push_claims-in-With w ↦
           let i = w.in-With.item in
           subst (λ x. (e : Claim) → Contains new e ↔ ClimbsTo M t s x e) (sym w.in-With.is)
           (only_those (ClimbsTo M t s (With i)) old new empty (ClimbsTo M t 0 (With (item_at i.rule 0)))
           (subst (λ v. (e : Claim) → Contains v.items e
           ↔ (Contains old e ⊎ ClimbsTo M t 0 (With (item_at i.rule 0)) e)) (sym w.claims-is)
-          w.in_ok-push_uses-in-With.ensures)
+          w.in_ok-push_claims-in-With.ensures)
           (climb_anywhere M t s i w.if-item-eq0.true))
       | in-With+else-item-eq0 w ↦
           let i = w.in-With.item in

@@ -3,9 +3,9 @@ use Rattle.ly_base.specs.Trees.{Trees}
 use Rattle.ly_grammar.specs.Derivations.{AreTrees, BeginsYield, IsNullable}
 use Rattle.ly_relate.specs.Private.Walks.{HasNumberTo}
 use Rattle.ly_examples.proofs.BackLemmas.{kept_is}
-use Rattle.ly_examples.proofs.UseLemmas.{pushed_uses, rest_room, rest_shown, rest_trees, rest_within}
-use Rattle.ly_examples.proofs.steps.push_use.Goals as goal
-use Rattle.ly_examples.proofs.steps.push_use.Goals.{then-begins+in_ok-push, else-begins}
+use Rattle.ly_examples.proofs.ClaimLemmas.{pushed_claims, rest_room, rest_shown, rest_trees, rest_within}
+use Rattle.ly_examples.proofs.steps.push_claims_on.Goals as goal
+use Rattle.ly_examples.proofs.steps.push_claims_on.Goals.{then-begins+in_ok-push, else-begins}
 
 pub behind-rest-requires : goal.behind-rest-requires
 behind-rest-requires c =
@@ -54,7 +54,7 @@ returns-in_ok-push-2 c =
     c.rule.ensures.there a.is_rule in
     let is = rest_shown G c.args.item X rest a c.body-body.result.now c.rule.result.now c.body-body.ensures same
     c.behind-rest.result.now c.behind-rest.ensures in
-    pushed_uses G c.args.item X rest a c.args.terminal.0 c.begins.result c.are_nullable.result c.args.claims.now.items
+    pushed_claims G c.args.item X rest a c.args.terminal.0 c.begins.result c.are_nullable.result c.args.claims.now.items
     c.if-begins.claims.items c.push-then-are_nullable.new.self.items
     (subst (λ w. (c.begins.result ≡ true) ↔ BeginsYield G w c.args.terminal.0) is c.begins.ensures)
     (subst (λ w. (c.are_nullable.result ≡ true) ↔ IsNullable G w) is c.are_nullable.ensures)
@@ -72,7 +72,7 @@ returns-else-are_nullable c =
     c.rule.ensures.there a.is_rule in
     let is = rest_shown G c.args.item X rest a c.body-body.result.now c.rule.result.now c.body-body.ensures same
     c.behind-rest.result.now c.behind-rest.ensures in
-    pushed_uses G c.args.item X rest a c.args.terminal.0 c.begins.result c.are_nullable.result c.args.claims.now.items
+    pushed_claims G c.args.item X rest a c.args.terminal.0 c.begins.result c.are_nullable.result c.args.claims.now.items
     c.if-begins.claims.items c.if-begins.claims.items
     (subst (λ w. (c.begins.result ≡ true) ↔ BeginsYield G w c.args.terminal.0) is c.begins.ensures)
     (subst (λ w. (c.are_nullable.result ≡ true) ↔ IsNullable G w) is c.are_nullable.ensures)
