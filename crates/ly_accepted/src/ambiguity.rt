@@ -27,8 +27,9 @@ const MOST_WHOLE: usize = 2_000;
 /// How many pairs of other readings are looked at for a conflict, at most.
 const MOST: usize = 6_000;
 
-/// How many symbols are derived for all sentences together, at most.
-const STEPS: usize = 20_000_000;
+/// How many steps are made for all sentences together, at most: what is looked at or copied, of which a pair takes some
+/// more, and so does a derived symbol.
+const STEPS: usize = 1_000_000_000;
 
 /// A sentence with two trees.
 #[derive(Drop)]
@@ -54,7 +55,7 @@ pub(crate) struct Finder<'a> {
     pub(crate) grammar: &'a Grammar,
     /// The shortest yields of nonterminals.
     pub(crate) yields: &'a Yields,
-    /// How many symbols may still be derived.
+    /// How many steps may still be made.
     steps: usize,
 }
 
@@ -91,40 +92,39 @@ impl<'a> Finder<'a> {
         ensures stays { self.new.examples ≡ self.old.examples }
     {
         if let Some((string, ways)) = at {
-            let mut search = Search::new(alloc, conflict)?;
+            let mut search = Search::new(alloc, conflict, self.steps)?;
             self.begin_whole(alloc, &mut search, conflict, string, ways)?;
             let found = self.search(alloc, conflict, &mut search, MOST_WHOLE)?;
+            self.steps = search.steps;
             if found.is_some() {
                 return Ok(found);
             }
         }
-        let mut search = Search::new(alloc, conflict)?;
+        let mut search = Search::new(alloc, conflict, self.steps)?;
         self.begin(alloc, &mut search, conflict)?;
-        self.search(alloc, conflict, &mut search, MOST)
+        let found = self.search(alloc, conflict, &mut search, MOST)?;
+        self.steps = search.steps;
+        Ok(found)
     }
 
     /// Goes on with a search for a sentence of a conflict, over so many pairs at most.
     fn search(
-        &mut self,
+        &self,
         alloc: Global,
         conflict: &Conflict,
         search: &mut Search,
         most: usize,
     ) -> Result<Option<Ambiguity>, OutOfMemory>
-        requires { IsInside self.old.examples.now.automaton conflict.now }
-        ensures found { IfOk result (IsFoundIn self.old.examples.now
-            (conflict_from self.old.examples.now.automaton conflict.now)) }
-        ensures stays { self.new.examples ≡ self.old.examples }
+        requires { IsInside self.now.examples.now.automaton conflict.now }
+        ensures { IfOk result (IsFoundIn self.now.examples.now
+            (conflict_from self.now.examples.now.automaton conflict.now)) }
     {
         for _ in 0..most {
-            let Some(pair) = search.queue.pop() else {
+            let Some(pair) = search.next() else {
                 break;
             };
             if let Some(found) = self.look_at(alloc, conflict, search, pair)? {
                 return Ok(Some(found));
-            }
-            if self.steps == 0 {
-                break;
             }
         }
         Ok(None)
@@ -153,7 +153,7 @@ impl<'a> Finder<'a> {
             read: 0,
             taken: 0,
         };
-        Ok(search.queue.push(self.yields, pair)?)
+        Ok(search.push(self.yields, pair)?)
     }
 
     /// Adds the pairs with which a search begins.
@@ -223,20 +223,6 @@ impl<'a> Finder<'a> {
             read: 0,
             taken: 0,
         };
-        search.queue.push(self.yields, pair)
-    }
-
-    /// The trees of symbols that have the fewest tokens.
-    pub(crate) fn yielded(
-        &mut self,
-        alloc: Global,
-        symbols: &[Symbol],
-    ) -> Result<Derived, AllocError>
-        ensures { self.new.examples ≡ self.old.examples }
-    {
-        let derived = self.yields.derive(alloc, self.grammar, symbols)?;
-        let steps = derived.rules.len().saturating_add(derived.tokens.len());
-        self.steps = self.steps.saturating_sub(steps);
-        Ok(derived)
+        search.push(self.yields, pair)
     }
 }

@@ -1,5 +1,5 @@
 //! How two readings go on: behind the place of the conflict by what is ahead, and outwards by rules around them.
-ghost use Rattle.std.specs.Prelude.{◌≡◌, IfOk};
+ghost use Rattle.std.specs.Prelude.{IfOk};
 ghost use Rattle.ly_resolve.specs.Values.{conflict_from, IsInside};
 ghost use Rattle.ly_accepted.specs.Told.{IsFoundIn};
 
@@ -8,6 +8,7 @@ use crate::bodies::{body_of, rest_of};
 use crate::pair::{Pair, Which};
 use crate::queue::Queue;
 use crate::reading::LONGEST;
+use crate::yields::{Derived, Yields};
 use indexmap::IndexSet;
 use ly_base::{OutOfMemory, Sym};
 use ly_join::Symbol;
@@ -25,29 +26,67 @@ enum Course {
     Parted,
 }
 
+/// How many steps a pair takes beside what it holds.
+const PAIR: usize = 50;
+
+/// How many steps a derived symbol takes.
+const DERIVED: usize = 50;
+
 /// A search for a sentence.
 #[derive(Drop)]
 pub(crate) struct Search {
     /// The pairs that are to be looked at.
-    pub(crate) queue: Queue,
+    queue: Queue,
     /// What tells those apart that were looked at.
-    pub(crate) seen: IndexSet<Vec<u32>>,
+    seen: IndexSet<Vec<u32>>,
     /// The terminal of the conflict.
-    pub(crate) terminal: Sym,
+    terminal: Sym,
+    /// How many steps may still be made: what is looked at or copied.
+    pub(crate) steps: usize,
 }
 
 impl Search {
-    /// A search for a sentence of a conflict, which has no pairs yet.
-    pub(crate) fn new(alloc: Global, conflict: &Conflict) -> Result<Search, OutOfMemory> {
+    /// A search for a sentence of a conflict over so many steps, which has no pairs yet.
+    pub(crate) fn new(
+        alloc: Global,
+        conflict: &Conflict,
+        steps: usize,
+    ) -> Result<Search, OutOfMemory> {
         Ok(Search {
             queue: Queue::new(alloc)?,
             seen: IndexSet::new(alloc),
             terminal: conflict.terminal,
+            steps,
         })
     }
 
+    /// Makes so many steps.
+    pub(crate) fn take_steps(&mut self, count: usize) {
+        self.steps = self.steps.saturating_sub(count);
+    }
+
+    /// The pair that is looked at next, if there is one and steps may still be made.
+    pub(crate) fn next(&mut self) -> Option<Pair> {
+        if self.steps == 0 {
+            return None;
+        }
+        self.queue.pop()
+    }
+
+    /// Adds a pair.
+    pub(crate) fn push(&mut self, yields: &Yields, pair: Pair) -> Result<(), AllocError> {
+        self.take_steps(pair.size().saturating_add(PAIR));
+        self.queue.push(yields, pair)
+    }
+
+    /// Whether no pair is added any more.
+    fn is_closed(&self) -> bool {
+        self.steps == 0 || self.queue.is_full()
+    }
+
     /// Whether no pair with this key was looked at. It is noted.
-    pub(crate) fn is_new(&mut self, key: Vec<u32>) -> Result<bool, OutOfMemory> {
+    fn is_new(&mut self, key: Vec<u32>) -> Result<bool, OutOfMemory> {
+        self.take_steps(key.len());
         Ok(self.seen.insert(key)?)
     }
 }
@@ -55,19 +94,18 @@ impl Search {
 impl Finder<'_> {
     /// Looks at a pair for a conflict: answers the sentence that it has come to, or adds those that it becomes.
     pub(crate) fn look_at(
-        &mut self,
+        &self,
         alloc: Global,
         conflict: &Conflict,
         search: &mut Search,
         pair: Pair,
     ) -> Result<Option<Ambiguity>, OutOfMemory>
-        requires { IsInside self.old.examples.now.automaton conflict.now }
-        ensures found { IfOk result (IsFoundIn self.old.examples.now
-            (conflict_from self.old.examples.now.automaton conflict.now)) }
-        ensures stays { self.new.examples ≡ self.old.examples }
+        requires { IsInside self.now.examples.now.automaton conflict.now }
+        ensures { IfOk result (IsFoundIn self.now.examples.now
+            (conflict_from self.now.examples.now.automaton conflict.now)) }
     {
         let mut pair = pair;
-        let course = self.go_on(alloc, &mut pair, search.terminal)?;
+        let course = self.go_on(alloc, &mut pair, search)?;
         if !search.is_new(pair.key(alloc, self.grammar)?)? {
             return Ok(None);
         }
@@ -77,7 +115,7 @@ impl Finder<'_> {
             Course::Ended => {
                 let ended = !pair.pending || search.terminal.0 == 0 && pair.is_whole(self.grammar);
                 if ended && pair.is_joined(self.grammar) {
-                    let found = self.joined(alloc, conflict, &pair)?;
+                    let found = self.joined(alloc, conflict, search, &pair)?;
                     if found.is_some() {
                         return Ok(found);
                     }
@@ -89,16 +127,19 @@ impl Finder<'_> {
     }
 
     /// Goes on with two readings as long as they have the same symbol ahead.
-    fn go_on(&mut self, alloc: Global, pair: &mut Pair, terminal: Sym) -> Result<Course, AllocError>
-        ensures { self.new.examples ≡ self.old.examples }
-    {
+    fn go_on(
+        &self,
+        alloc: Global,
+        pair: &mut Pair,
+        search: &mut Search,
+    ) -> Result<Course, AllocError> {
         for _ in 0..LONGEST {
             let (Some(symbol), Some(same)) = (pair.one.next(), pair.other.next()) else {
                 return Ok(Course::Ended);
             };
             match (symbol, same) {
                 (Symbol::Terminal(read), Symbol::Terminal(other)) => {
-                    if read != other || pair.pending && read != terminal {
+                    if read != other || pair.pending && read != search.terminal {
                         return Ok(Course::Parted);
                     }
                     pair.pending = false;
@@ -109,23 +150,22 @@ impl Finder<'_> {
                     }
                 }
             }
-            self.pass_both(alloc, pair, symbol)?;
+            self.pass_both(alloc, pair, search, symbol)?;
         }
         Ok(Course::Parted)
     }
 
     /// Goes on with two readings behind the symbol that both have ahead.
     fn pass_both(
-        &mut self,
+        &self,
         alloc: Global,
         pair: &mut Pair,
+        search: &mut Search,
         symbol: Symbol,
-    ) -> Result<(), AllocError>
-        ensures { self.new.examples ≡ self.old.examples }
-    {
+    ) -> Result<(), AllocError> {
         pair.one.ahead.pop();
         pair.other.ahead.pop();
-        let passed = self.yielded(alloc, &[symbol])?;
+        let passed = self.yielded(alloc, search, &[symbol])?;
         pair.read = pair.read.saturating_add(passed.tokens.len() as u64);
         pair.one.rules.extend_from_slice(&passed.rules)?;
         pair.other.rules.extend_from_slice(&passed.rules)
@@ -160,6 +200,10 @@ impl Finder<'_> {
             return Ok(());
         }
         for rule in self.lr0.rules_of(left) {
+            search.take_steps(1);
+            if search.is_closed() {
+                break;
+            }
             if pair.may_meet(
                 self.lr0,
                 search.terminal,
@@ -167,7 +211,7 @@ impl Finder<'_> {
                 body_of(self.grammar, *rule),
             ) {
                 let next = pair.with_rule(alloc, self.grammar, which, *rule)?;
-                search.queue.push(self.yields, next)?;
+                search.push(self.yields, next)?;
             }
         }
         Ok(())
@@ -204,15 +248,33 @@ impl Finder<'_> {
             return Ok(());
         }
         for around in self.examples.waiting(left) {
-            let Some(before) = pair.before_within(alloc, self.examples, which, *around)? else {
+            search.take_steps(1);
+            if search.is_closed() {
+                break;
+            }
+            let before = pair.before_within(alloc, self.examples, search, which, *around)?;
+            let Some(before) = before else {
                 continue;
             };
             let behind = rest_of(self.grammar, around.rule, around.dot.saturating_add(1));
             if pair.may_meet(self.lr0, search.terminal, which, behind) {
                 let next = pair.within(alloc, self.grammar, before, which, *around)?;
-                search.queue.push(self.yields, next)?;
+                search.push(self.yields, next)?;
             }
         }
         Ok(())
+    }
+
+    /// The trees of symbols that have the fewest tokens.
+    pub(crate) fn yielded(
+        &self,
+        alloc: Global,
+        search: &mut Search,
+        symbols: &[Symbol],
+    ) -> Result<Derived, AllocError> {
+        let derived = self.yields.derive(alloc, self.grammar, symbols)?;
+        let count = derived.rules.len().saturating_add(derived.tokens.len());
+        search.take_steps(count.saturating_mul(DERIVED));
+        Ok(derived)
     }
 }

@@ -1,11 +1,12 @@
 //! The trees of two readings that have come to the same tokens.
-ghost use Rattle.std.specs.Prelude.{◌≡◌, IfOk};
+ghost use Rattle.std.specs.Prelude.{IfOk};
 ghost use Rattle.ly_resolve.specs.Values.{conflict_from, IsInside};
 ghost use Rattle.ly_accepted.specs.Told.{IsFoundIn};
 
 use crate::ambiguity::{Ambiguity, Finder};
 use crate::bodies::{behind_dot, body_of, rest_of};
 use crate::drawing::Drawing;
+use crate::growing::Search;
 use crate::pair::Pair;
 use crate::reading::Reading;
 use crate::yields::push_reversed;
@@ -19,32 +20,36 @@ use std::alloc::{AllocError, Global};
 /// From how many states it is tried to lead to a pair.
 const STATES: usize = 4;
 
+/// How many steps such a try takes.
+const TRY: usize = 1_000_000;
+
 impl Finder<'_> {
     /// The sentence that two readings of one nonterminal have come to, if a string leads to where they begin, and its
     /// trees take both actions of a conflict.
     pub(crate) fn joined(
-        &mut self,
+        &self,
         alloc: Global,
         conflict: &Conflict,
+        search: &mut Search,
         pair: &Pair,
     ) -> Result<Option<Ambiguity>, OutOfMemory>
-        requires { IsInside self.old.examples.now.automaton conflict.now }
-        ensures found { IfOk result (IsFoundIn self.old.examples.now
-            (conflict_from self.old.examples.now.automaton conflict.now)) }
-        ensures stays { self.new.examples ≡ self.old.examples }
+        requires { IsInside self.now.examples.now.automaton conflict.now }
+        ensures { IfOk result (IsFoundIn self.now.examples.now
+            (conflict_from self.now.examples.now.automaton conflict.now)) }
     {
         let resolved = self.examples.resolved();
         for state in pair.states.iter().take(STATES) {
             if (state.0 as usize) >= self.lr0.states() {
                 continue;
             }
+            search.take_steps(TRY);
             let mut prefix = self.lr0.prefix(alloc, *state)?;
             prefix.reverse();
             let Some(way) = self.way_to(alloc, &prefix, pair, conflict.terminal)? else {
                 continue;
             };
-            let one = self.rules_of(alloc, &way, &pair.one)?;
-            let other = self.rules_of(alloc, &way, &pair.other)?;
+            let one = self.rules_of(alloc, search, &way, &pair.one)?;
+            let other = self.rules_of(alloc, search, &way, &pair.other)?;
             let found = conflicting_sentence(alloc, resolved, conflict, &one, &other)?;
             if let Some(sentence) = found {
                 return Ok(Some(Ambiguity {
@@ -87,13 +92,12 @@ impl Finder<'_> {
     /// The rules of the tree that a reading has below the last item of a way, each in front of those below it. What
     /// the way passes and what stands behind the reading is of the fewest tokens.
     fn rules_of(
-        &mut self,
+        &self,
         alloc: Global,
+        search: &mut Search,
         way: &[Item],
         reading: &Reading,
-    ) -> Result<Vec<usize>, AllocError>
-        ensures { self.new.examples ≡ self.old.examples }
-    {
+    ) -> Result<Vec<usize>, AllocError> {
         let (mut rules, mut outer, mut ahead) = (Vec::new(alloc), Vec::new(alloc), Vec::new(alloc));
         for item in way {
             self.pass(alloc, *item, &mut outer, &mut rules)?;
@@ -107,7 +111,7 @@ impl Finder<'_> {
         }
         rules.extend_from_slice(&reading.rules)?;
         ahead.reverse();
-        let rest = self.yielded(alloc, &ahead)?;
+        let rest = self.yielded(alloc, search, &ahead)?;
         rules.extend_from_slice(&rest.rules)?;
         Ok(rules)
     }

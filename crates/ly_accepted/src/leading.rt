@@ -33,7 +33,7 @@ pub(crate) fn states_before(
     let lr0 = examples.resolved().lr0();
     let mut before = Vec::new(alloc);
     for state in states {
-        if symbol_to(lr0, *state) == Some(symbol) {
+        if (state.0 as usize) < lr0.states() && lr0.accessing_symbol(*state) == Some(symbol) {
             before.extend_from_slice(examples.sources(*state))?;
         }
     }

@@ -1,6 +1,7 @@
 //! Two readings of one sentence that isn't whole yet, which take the two actions of a conflict at the same place.
 use crate::bodies::body_of;
 use crate::drawing::begin;
+use crate::growing::Search;
 use crate::leading::{states_before, symbol_to};
 use crate::reading::Reading;
 use crate::yields::Yields;
@@ -67,6 +68,13 @@ impl Pair {
             }
     }
 
+    /// How many symbols, states and rules it holds.
+    pub(crate) fn size(&self) -> usize {
+        let readings = self.one.size().saturating_add(self.other.size());
+        let before = self.string.len().saturating_add(self.states.len());
+        readings.saturating_add(before)
+    }
+
     /// One of the readings; of both, the first one.
     pub(crate) fn reading(&self, which: Which) -> &Reading {
         match which {
@@ -96,11 +104,12 @@ impl Pair {
     }
 
     /// What stands before the place where a reading gets the rule of an item around it; none where no such string
-    /// leads to the state of the conflict.
+    /// leads to the state of the conflict. It takes steps of a search.
     pub(crate) fn before_within(
         &self,
         alloc: Global,
         examples: &Examples<'_>,
+        search: &mut Search,
         which: Which,
         around: Item,
     ) -> Result<Option<Before>, AllocError> {
@@ -115,9 +124,11 @@ impl Pair {
         }
         let new = front.len().saturating_sub(known.len());
         let new = front.get(..new).unwrap_or_default();
+        search.take_steps(self.states.len());
         if !self.goes_back_over(lr0, new.last()) {
             return Ok(None);
         }
+        search.take_steps(self.size());
         let mut before = Before {
             string: Vec::from_slice(alloc, &self.string)?,
             states: Vec::from_slice(alloc, &self.states)?,
@@ -125,6 +136,7 @@ impl Pair {
         for symbol in new.iter().rev() {
             before.string.push(*symbol)?;
             before.states = states_before(alloc, examples, &before.states, *symbol)?;
+            search.take_steps(before.states.len());
             if before.states.is_empty() {
                 return Ok(None);
             }

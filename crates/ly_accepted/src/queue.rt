@@ -34,13 +34,18 @@ impl Queue {
         })
     }
 
+    /// Whether no pair is added any more.
+    pub(crate) fn is_full(&self) -> bool {
+        self.count >= KEPT
+    }
+
     /// Adds a pair, but none that is too dear, and none behind so many.
     pub(crate) fn push(&mut self, yields: &Yields, pair: Pair) -> Result<(), AllocError> {
         let Some(price) = pair.price(yields) else {
             return Ok(());
         };
         let price = usize::try_from(price).unwrap_or(usize::MAX);
-        if self.count >= KEPT || pair.one.is_long() || pair.other.is_long() {
+        if self.is_full() || pair.one.is_long() || pair.other.is_long() {
             return Ok(());
         }
         if let Some(pairs) = self.pairs.get_mut(price) {

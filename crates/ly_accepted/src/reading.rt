@@ -72,6 +72,12 @@ impl Reading {
         self.ahead.last().copied()
     }
 
+    /// How many rules and symbols it holds.
+    pub(crate) fn size(&self) -> usize {
+        let rules = self.open.len().saturating_add(self.rules.len());
+        rules.saturating_add(self.ahead.len())
+    }
+
     /// Whether it isn't gone on with.
     pub(crate) fn is_long(&self) -> bool {
         self.ahead.len() > LONGEST || self.rules.len() > LONGEST || self.open.len() > LONGEST
