@@ -193,8 +193,8 @@ claims_climb M t q r is rule exact (With j) = (
 )
 
 -- the items that wait for the left side of a rule, as they are looked up
-pub waiting_exact : (G : Grammar) (lists : List (List Item)) (q n : ℕ) (r : GrammarRule) (xs : List Item) → IsAugmented G
-    → AreWaiting G lists → IsRule G q r → n ≡ r.left → xs ≡ slice_index_or lists n [] → (i : Item)
+pub waiting_exact : (G : Grammar) (lists : List (List Item)) (q n : ℕ) (r : GrammarRule) (xs : List Item)
+    → IsAugmented G → AreWaiting G lists → IsRule G q r → n ≡ r.left → xs ≡ slice_index_or lists n [] → (i : Item)
     → Contains xs i ↔ ((rest : List Symbol) × IsAhead G i (nonterminal r.left) rest)
 waiting_exact G lists q n r xs augmented are rule left e i =
     subst (λ w. Contains w i ↔ ((rest : List Symbol) × IsAhead G i (nonterminal r.left) rest))
@@ -323,7 +323,8 @@ module _ (G : Grammar) (X : Symbol) (d : Demand) (first second : Option Claim)
 abbrev pub pop_from : code.Symbol → Demand → StateNo → Pop
 pop_from X e q = record { symbol = X; demand = record e { state = q } }
 
--- All transitions to the state of a demand are over one symbol, so it pops over that alone, from each source of its state.
+-- All transitions to the state of a demand are over one symbol, so it pops over that alone, from each source of the
+-- state.
 module _ (M : Lr0Automaton) (d : Demand) (symbol : Option code.Symbol)
     (only : (q : ℕ) (X : Symbol) → goto_of M q X ≡ Some d.state.0 → option_map symbol_of symbol ≡ Some X) where
   module _ (X : code.Symbol) (there : symbol ≡ Some X) where

@@ -114,7 +114,8 @@ module _ (old mid : List (List Item)) (body : List Symbol) (rule n : ℕ) (X : S
   ))
 
   pub waiting_push : (new : List (List Item)) (A : ℕ) → X ≡ nonterminal A → A < length mid
-      → new ≡ slice_set mid A (slice_index_or mid A [] ++ item_at rule n ∷ []) → AreWaitingAdded old new body rule (n + 1)
+      → new ≡ slice_set mid A (slice_index_or mid A [] ++ item_at rule n ∷ [])
+      → AreWaitingAdded old new body rule (n + 1)
   waiting_push new A e lt is = waiting_step new (ap length is ∙ length-set mid A _) (λ B i.
       let one = pushed_into mid new A (item_at rule n) lt is B i in (
         λ has. elim (one.0 has) [

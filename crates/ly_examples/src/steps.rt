@@ -163,6 +163,7 @@ pub(crate) fn pops(
         ↔ IsPop ground.now.lr0.now (symbol_of p.symbol) demand p.demand) }
 {
     let mut found = Vec::new(alloc);
+    // all transitions to the state are over one symbol
     let Some(symbol) = ground.lr0.accessing_symbol(demand.state) else {
         return Ok(found);
     };

@@ -7,6 +7,7 @@ use Rattle.ly_grammar.proofs.SearchLemmas.{rule_is_one}
 use Rattle.ly_lr0.specs.declared.item.Item.{Item}
 use Rattle.ly_lr0.specs.Private.Items.{HasItem, IsBehind, IsClosed, IsKernel, SameItems, added, at_start, closed}
 use Rattle.ly_lr0.specs.Private.Items.{given, moved}
+use Rattle.ly_lr0.proofs.ClosingLemmas.{behind_one}
 
 module _ (G : Grammar) where
   -- what is closed to from a kernel is closed to from another with the same items
@@ -43,6 +44,22 @@ module _ (G : Grammar) where
       → (q : ℕ) × (e : ℕ) × HasItem G g q e × IsBehind G q e X
   item_before (closed i b is left) = item_before i
   item_before (moved {p = p} {d = d} i b) = (p, d, i, b)
+
+  -- and is one only of strings that end with the symbol
+  pub ends_with : {g : List Symbol} {X : Symbol} {p d e : ℕ} → HasItem G g p e → e ≡ suc d → IsBehind G p d X
+      → slice_get g 0 ≡ Some X
+  ends_with at_start same b = absurd (omega (arith, same))
+  ends_with (closed i c is left) same b = absurd (omega (arith, same))
+  ends_with {X = X} {d = d} (moved {p = p} {d = e} {X = Y} i c) same b =
+      let at : e ≡ d = omega (arith, same) in
+      ap (λ Z. Some Z) (behind_one G p d Y X (subst (λ n. IsBehind G p n Y) at c) b)
+
+  -- so strings of the same items end with the same symbol
+  pub end_alike : (g h : List Symbol) (X : Symbol) (p d : ℕ) → SameItems G (X ∷ g) h → HasItem G (X ∷ g) p d
+      → slice_get h 0 ≡ Some X
+  end_alike g h X p d same i =
+      let before = item_before i in
+      ends_with ((same before.0 (suc before.1)).0 (moved before.2 before.3)) refl before.3
 
   module _ (augmented : IsAugmented G) where
     -- rule 0 is no rule that closing adds

@@ -14,6 +14,7 @@ pub mod LawLemmas
 pub mod ListLemmas
 pub mod OneLemmas
 pub mod OrderLemmas
+pub mod RowLemmas
 pub mod SharedLemmas
 pub mod ShiftLemmas
 pub mod StartLemmas

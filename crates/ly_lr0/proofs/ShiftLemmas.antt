@@ -16,7 +16,7 @@ use Rattle.ly_lr0.specs.Automaton.{IsLess, Lr0Automaton, Transition, goto_of, is
 use Rattle.ly_lr0.specs.Automaton.{state_at, symbol_eq, target_of}
 use Rattle.ly_lr0.specs.contracts.transition.TransitionPartialEq.TheImpl as test
 use Rattle.ly_lr0.specs.declared.transition.Transition as code
-use Rattle.ly_lr0.specs.Private.Kinds.{AreGotos, AreShifts}
+use Rattle.ly_lr0.specs.Private.Kinds.{AreOverNonterminals, AreOverTerminals}
 use Rattle.ly_lr0.specs.Private.Places.{IsPlace, symbol_at}
 use Rattle.ly_lr0.specs.Transitions.{transition_of}
 
@@ -31,7 +31,7 @@ terminal_not_behind (terminal t) off = absurd (off tt)
 terminal_not_behind (nonterminal A) off = refl
 
 -- those before the place of nonterminal 0 are over terminals
-pub shifts_before : (ts : List code.Transition) (n : ℕ) → IsPlace ts (nonterminal 0) n → AreShifts (take n ts)
+pub shifts_before : (ts : List code.Transition) (n : ℕ) → IsPlace ts (nonterminal 0) n → AreOverTerminals (take n ts)
 shifts_before ts n is k d l =
     let long = is.within in
     let less : k < n = omega (arith, l, length-take-le n ts long) in
@@ -39,7 +39,7 @@ shifts_before ts n is k d l =
     (terminal_before (symbol_at ts k d) (is.before k d less))
 
 -- and those from it on are over nonterminals
-pub gotos_behind : (ts : List code.Transition) (n : ℕ) → IsPlace ts (nonterminal 0) n → AreGotos (drop n ts)
+pub gotos_behind : (ts : List code.Transition) (n : ℕ) → IsPlace ts (nonterminal 0) n → AreOverNonterminals (drop n ts)
 gotos_behind ts n is k d l =
     let long = is.within in
     let less : n + k < length ts = omega (arith, l, length-drop n ts) in
@@ -47,7 +47,7 @@ gotos_behind ts n is k d l =
     (terminal_not_behind (symbol_at ts (n + k) d) (is.behind (n + k) d (omega arith) less))
 
 -- those over terminals, or over nonterminals, among such
-shifts_all : (ts : List code.Transition) → AreShifts ts
+shifts_all : (ts : List code.Transition) → AreOverTerminals ts
     → (filter is_shift (map transition_of ts) ≡ map transition_of ts) × (filter is_goto (map transition_of ts) ≡ [])
 shifts_all [] are = (refl, refl)
 shifts_all (t ∷ ts) are =
@@ -55,7 +55,7 @@ shifts_all (t ∷ ts) are =
     let rest = shifts_all ts (λ k d l. are (suc k) d (omega (arith, l))) in
     (rw on (ap (λ us. transition_of t ∷ us) rest.0), rw on rest.1)
 
-gotos_all : (ts : List code.Transition) → AreGotos ts
+gotos_all : (ts : List code.Transition) → AreOverNonterminals ts
     → (filter is_shift (map transition_of ts) ≡ []) × (filter is_goto (map transition_of ts) ≡ map transition_of ts)
 gotos_all [] are = (refl, refl)
 gotos_all (t ∷ ts) are =
@@ -63,7 +63,7 @@ gotos_all (t ∷ ts) are =
     let rest = gotos_all ts (λ k d l. are (suc k) d (omega (arith, l))) in
     (rw off rest.0, rw off (ap (λ us. transition_of t ∷ us) rest.1))
 
-module _ (ss gs : List code.Transition) (over_terminals : AreShifts ss) (over_nonterminals : AreGotos gs) where
+module _ (ss gs : List code.Transition) (over_terminals : AreOverTerminals ss) (over_nonterminals : AreOverNonterminals gs) where
   both : (p : Transition → Bool) → filter p (map transition_of (ss ++ gs))
       ≡ filter p (map transition_of ss) ++ filter p (map transition_of gs)
   both p = ap (filter p) (map-append transition_of ss gs)

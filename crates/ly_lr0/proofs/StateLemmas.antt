@@ -229,6 +229,13 @@ prefix_step links done k l d back less is =
         → link_at (map link_of links) k ≡ link_of l
     link_same links k l d less is = get_or-map link_of links k d _ less ∙ ap link_of (sym is)
 
+-- which ends with the symbol of the link
+pub last_of_link : (links : List link.Link) (k : ℕ) (l d : link.Link)
+    → ((j : ℕ) → j < length links → (link_at (map link_of links) j).from ≤ j) → k < length links
+    → l ≡ slice_index_or links k d
+    → slice_get (slice_index_or (prefixes_of (map link_of links)) (suc k) []) 0 ≡ Some (symbol_of l.symbol)
+last_of_link links k l d back less is = sym (ap (λ g. slice_get g 0) (prefix_step links [] k l d back less is))
+
 pub link_back : (links : List link.Link) (k : ℕ) (l d : link.Link)
     → ((j : ℕ) → j < length links → (link_at (map link_of links) j).from ≤ j) → k < length links
     → l ≡ slice_index_or links k d → l.from ≤ k

@@ -134,8 +134,9 @@ impl<'a> Lr0<'a> {
         ensures only { (q : ℕ) (X : GrammarSymbol) → goto_of self.now q X ≡ Some state.0
             → option_map symbol_of result ≡ Some X }
     {
+        let links = &self.links;
         let before = (state.0 as usize).checked_sub(1)?;
-        Some(self.links[before].symbol)
+        Some(links[before].symbol)
     }
 
     /// The numbers of a nonterminal's rules.

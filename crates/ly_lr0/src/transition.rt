@@ -1,5 +1,5 @@
 ghost use Rattle.std.specs.Rc.{rc_slice_items};
-ghost use Rattle.ly_lr0.specs.Private.Kinds.{AreGotos, AreShifts};
+ghost use Rattle.ly_lr0.specs.Private.Kinds.{AreOverNonterminals, AreOverTerminals};
 
 use ly_base::StateNo;
 use ly_join::Symbol;
@@ -33,6 +33,6 @@ pub(crate) struct Row {
     pub(crate) gotos: Vec<Transition>,
     /// The rules that are complete, rising.
     pub(crate) complete: Vec<usize>,
-    ghost over_terminals: { AreShifts (rc_slice_items shifts) },
-    ghost over_nonterminals: { AreGotos gotos.items },
+    ghost over_terminals: { AreOverTerminals (rc_slice_items shifts) },
+    ghost over_nonterminals: { AreOverNonterminals gotos.items },
 }

@@ -5,9 +5,9 @@ use Rattle.ly_lr0.specs.Automaton.{is_terminal}
 use Rattle.ly_lr0.specs.declared.transition.Transition.{Transition}
 
 -- all are over terminals
-abbrev pub AreShifts : List Transition → Type 0
-AreShifts ts = All (λ t. is_terminal (symbol_of t.symbol) ≡ true) ts
+abbrev pub AreOverTerminals : List Transition → Type 0
+AreOverTerminals ts = All (λ t. is_terminal (symbol_of t.symbol) ≡ true) ts
 
 -- all are over nonterminals
-abbrev pub AreGotos : List Transition → Type 0
-AreGotos ts = All (λ t. is_terminal (symbol_of t.symbol) ≡ false) ts
+abbrev pub AreOverNonterminals : List Transition → Type 0
+AreOverNonterminals ts = All (λ t. is_terminal (symbol_of t.symbol) ≡ false) ts

@@ -33,8 +33,8 @@ loop-dot-preserved c =
           = subst (HasNumberBelow (length c.args.waiting.now)) named
           (symbol_within (HasNumberBelow (length c.args.waiting.now)) body k c.requires c.loop-dot-test.true) in
           let long = c.loop-dot.invariant.count in
-          waiting_push c.args.waiting.now c.loop-dot.waiting (map symbol_of body) c.args.rule k X at c.loop-dot.invariant
-          c.match-body-dot.waiting w.in-Nonterminal.symbol.0 named (omega (arith, lt, long))
+          waiting_push c.args.waiting.now c.loop-dot.waiting (map symbol_of body) c.args.rule k X at
+          c.loop-dot.invariant c.match-body-dot.waiting w.in-Nonterminal.symbol.0 named (omega (arith, lt, long))
           (w.waiting-is ∙ w.in_ok-push.ensures)
       | in_default w ↦ subst (λ v. AreWaitingAdded c.args.waiting.now v (map symbol_of body) c.args.rule (k + 1))
           (sym w.waiting-is) (waiting_skip c.args.waiting.now c.loop-dot.waiting (map symbol_of body) c.args.rule k X at

@@ -39,9 +39,9 @@ returns c e =
     let xs = c.of-item-items.result.now in
     let are = subst (λ A. IsRelated (IsClaimOn A t) xs e ↔ ClimbsTo M t 0 (With (item_at c.args.rule 0)) e)
     (sym c.reduced-reduced.ensures)
-    (claims_climb M t c.args.rule k.0 xs k.1 (waiting_exact M.grammar c.args.ground.now.waiting c.args.rule c.left-left.result.0
-    k.0 xs c.requires.ground.lawful.augmented c.requires.ground.waiting k.1 (c.left-left.ensures ∙ ap (λ r. r.left) same)
-    c.of-item-items.ensures) e) in
+    (claims_climb M t c.args.rule k.0 xs k.1 (waiting_exact M.grammar c.args.ground.now.waiting c.args.rule
+    c.left-left.result.0 k.0 xs c.requires.ground.lawful.augmented c.requires.ground.waiting k.1
+    (c.left-left.ensures ∙ ap (λ r. r.left) same) c.of-item-items.ensures) e) in
     let all = all_related (IsClaimOn c.reduced-reduced.result.now.grammar t) xs c.loop-item.item-index
     c.loop-item-test.false e in
     let inv = c.loop-item.invariant e in (
