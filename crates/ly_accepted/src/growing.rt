@@ -5,6 +5,7 @@ ghost use Rattle.ly_accepted.specs.Told.{IsFoundIn};
 
 use crate::ambiguity::{Ambiguity, Finder};
 use crate::bodies::{body_of, rest_of};
+use crate::leading::waiting;
 use crate::pair::{Pair, Which};
 use crate::queue::Queue;
 use crate::reading::LONGEST;
@@ -244,10 +245,7 @@ impl Finder<'_> {
         let Some(left) = pair.reading(which).left(self.grammar) else {
             return Ok(());
         };
-        if left.0 > self.grammar.accept().0 {
-            return Ok(());
-        }
-        for around in self.examples.waiting(left) {
+        for around in waiting(self.examples, left) {
             search.take_steps(1);
             if search.is_closed() {
                 break;

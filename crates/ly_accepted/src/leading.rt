@@ -1,8 +1,9 @@
-//! Where symbols lead from states, and from where they lead to them; of a number that no state has, nowhere.
-use ly_base::StateNo;
+//! Where symbols lead from states, from where they lead to them, and what waits for nonterminals. Of a number that
+//! none has it is nothing.
+use ly_base::{StateNo, Sym};
 use ly_examples::Examples;
 use ly_join::Symbol;
-use ly_lr0::Lr0;
+use ly_lr0::{Item, Lr0};
 use std::alloc::{AllocError, Global};
 
 /// Where a symbol leads from a state.
@@ -38,4 +39,12 @@ pub(crate) fn states_before(
         }
     }
     Ok(before)
+}
+
+/// The items that wait for a nonterminal.
+pub(crate) fn waiting<'e>(examples: &'e Examples<'_>, left: Sym) -> &'e [Item] {
+    if left.0 > examples.resolved().lr0().reduced().grammar().accept().0 {
+        return &[];
+    }
+    examples.waiting(left)
 }
