@@ -15,7 +15,7 @@ use crate::reading::Reading;
 use crate::ways::Ways;
 use crate::yields::{Derived, Yields};
 use ly_base::{OutOfMemory, StateNo, Sym};
-use ly_examples::Examples;
+use ly_examples::{Examples, Patience};
 use ly_join::{Grammar, Symbol};
 use ly_lr0::{Item, Lr0};
 use ly_resolve::{Action, Conflict, ConflictKind};
@@ -57,6 +57,8 @@ pub(crate) struct Finder<'a> {
     pub(crate) yields: &'a Yields,
     /// How many steps may still be made.
     steps: usize,
+    /// How much searches for examples may still look at.
+    pub(crate) patience: Patience,
 }
 
 impl<'a> Finder<'a> {
@@ -65,6 +67,7 @@ impl<'a> Finder<'a> {
         examples: &'a Examples<'a>,
         cores: &'a Cores<'a>,
         yields: &'a Yields,
+        patience: Patience,
     ) -> Finder<'a>
         ensures { result.examples.now ≡ examples.now }
     {
@@ -75,6 +78,7 @@ impl<'a> Finder<'a> {
             grammar: examples.resolved().spec().grammar(),
             yields,
             steps: STEPS,
+            patience,
         }
     }
 

@@ -19,12 +19,15 @@ use crate::told::{Readings, Shown, Spot, Told};
 use crate::ways::Drawn;
 use crate::yields::Yields;
 use ly_base::{OutOfMemory, Sym};
-use ly_examples::{Example, Examples};
+use ly_examples::{Example, Examples, Patience};
 use ly_join::{Grammar, Spec, Symbol};
 use ly_page::Page;
 use ly_report::ConflictCounts;
 use ly_resolve::{Action, Conflict, ConflictKind};
 use std::alloc::Global;
+
+/// How much is looked at for all examples together, at most: demands, and symbols behind nonterminals.
+const LOOKS: usize = 1_000_000_000;
 
 /// What conflicts are told by.
 #[derive(Clone, Copy)]
@@ -62,9 +65,10 @@ pub(crate) fn say_conflicts(
         yields: &yields,
         spec: files.spec,
     };
-    let groups = groups_of(alloc, teller.examples)?;
+    let mut patience = Patience::new(LOOKS);
+    let groups = groups_of(alloc, teller.examples, &mut patience)?;
     let cure = best_cure(alloc, files.spec, resolved.conflicts(), &groups)?;
-    let told = teller.all_told(alloc, &groups)?;
+    let told = teller.all_told(alloc, &groups, patience)?;
     let untold = groups.len().saturating_sub(TOLD);
     if wish.json {
         say_json(alloc, page, files, places, &told)?;
@@ -137,11 +141,16 @@ fn say_rest(page: &mut Page, spec: &Spec, cure: Option<Cure>, untold: usize) {
 
 impl Teller<'_> {
     /// The groups of conflicts as they are told, up to so many.
-    fn all_told<'g>(&self, alloc: Global, groups: &'g [Group]) -> Result<Vec<Told<'g>>, OutOfMemory>
+    fn all_told<'g>(
+        &self,
+        alloc: Global,
+        groups: &'g [Group],
+        patience: Patience,
+    ) -> Result<Vec<Told<'g>>, OutOfMemory>
         requires { AreGroups self.now.examples.now groups.now }
         ensures { IfOk result (λ told. AreTold self.now.examples.now groups.now told.items) }
     {
-        let mut finder = Finder::new(self.examples, self.cores, self.yields);
+        let mut finder = Finder::new(self.examples, self.cores, self.yields, patience);
         let mut all = Vec::new(alloc);
         for group in first_of(groups, TOLD) {
             all.push(self.told(alloc, group, &mut finder)?)?;
@@ -209,7 +218,7 @@ impl Teller<'_> {
     {
         match &group.example {
             Some(Example::At(string)) => Ok(Shown::At(self.spot(alloc, conflict, string, finder)?)),
-            Some(Example::Merged) => self.merged(alloc, conflict, &group.conflicts),
+            Some(Example::Merged) => { self.merged(alloc, conflict, &group.conflicts, finder) }
             Some(Example::Unknown) => Ok(Shown::Unknown(finder.find(alloc, conflict, None)?)),
             None => Ok(Shown::Unsought),
         }
@@ -268,17 +277,20 @@ impl Teller<'_> {
         alloc: Global,
         conflict: &Conflict,
         group: &[usize],
+        finder: &mut Finder<'_>,
     ) -> Result<Shown<'g>, OutOfMemory>
         requires inside { IsInside self.now.examples.now.automaton conflict.now }
         requires conflict { Contains self.now.examples.now.conflicts
             (conflict_from self.now.examples.now.automaton conflict.now) }
-        ensures { (c : spec.Conflict) → IfOk result (IsShown self.now.examples.now group.now c) }
+        ensures shown { (c : spec.Conflict) → IfOk result (IsShown self.now.examples.now group.now c) }
+        ensures stays { finder.new.examples ≡ finder.old.examples }
     {
-        if !self.examples.none_has_one(alloc, group, BOUND)? {
+        let patience = &mut finder.patience;
+        if !self.examples.none_has_one(alloc, group, BOUND, patience)? {
             return Ok(Shown::Unsought);
         }
-        let one = self.examples.of_choice(alloc, conflict, BOUND)?;
-        let other = self.examples.of_rule(alloc, conflict, BOUND)?;
+        let one = self.examples.of_choice(alloc, conflict, BOUND, patience)?;
+        let other = self.examples.of_rule(alloc, conflict, BOUND, patience)?;
         if let (Some(one), Some(other)) = (one, other) {
             let ways = self.drawn(conflict).ways(alloc, &one, &other)?;
             return Ok(Shown::Merged(Some(ways)));

@@ -92,7 +92,10 @@ impl<'a> Cores<'a> {
     /// The kernel of a state, from the items of the state before; nothing where these aren't kept.
     fn kernel_again(&self, alloc: Global, state: StateNo) -> Result<Vec<Item>, AllocError> {
         let mut again = Vec::new(alloc);
-        let from = self.entries.get(state.0 as usize).and_then(|entry| entry.from);
+        let from = self
+            .entries
+            .get(state.0 as usize)
+            .and_then(|entry| entry.from);
         if let Some(symbol) = symbol_to(self.lr0, state)
             && let Some(from) = from
             && let Some(kernel) = self.kernel(from)

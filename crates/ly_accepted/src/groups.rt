@@ -9,7 +9,7 @@ ghost use Rattle.ly_accepted.specs.Private.Grouping.{AreGrouped, IsAt, IsJoinedB
 use crate::common::{Common, Key, Keys};
 use indexmap::IndexSet;
 use ly_base::OutOfMemory;
-use ly_examples::{Example, Examples};
+use ly_examples::{Example, Examples, Patience};
 use ly_resolve::Conflict;
 use std::alloc::Global;
 
@@ -47,18 +47,23 @@ pub(crate) struct Groups {
 
 /// How many examples may still be sought.
 #[derive(Clone, Copy)]
-struct Patience {
+struct Allowed {
     /// How many conflicts may still be asked.
     searches: usize,
     /// How many of them may still have more demands than are looked at.
     endless: usize,
 }
 
-/// All conflicts in groups, which are in the order of their first ones.
-pub(crate) fn groups_of(alloc: Global, examples: &Examples<'_>) -> Result<Vec<Group>, OutOfMemory>
+/// All conflicts in groups, which are in the order of their first ones. Examples are sought as long as there is
+/// patience.
+pub(crate) fn groups_of(
+    alloc: Global,
+    examples: &Examples<'_>,
+    patience: &mut Patience,
+) -> Result<Vec<Group>, OutOfMemory>
     ensures { IfOk result (λ groups. AreGroups examples.now groups.items) }
 {
-    let mut patience = Patience {
+    let mut allowed = Allowed {
         searches: SEARCHES,
         endless: ENDLESS,
     };
@@ -70,7 +75,7 @@ pub(crate) fn groups_of(alloc: Global, examples: &Examples<'_>) -> Result<Vec<Gr
     for index in 0..conflicts.len() {
         let conflict = conflicts.get_near(index, &mut run).unwrap();
         let example = if groups.asks_for(&conflict) {
-            example_of(alloc, examples, &conflict, &mut patience)?
+            example_of(alloc, examples, &conflict, &mut allowed, patience)?
         } else {
             None
         };
@@ -85,19 +90,20 @@ fn example_of(
     alloc: Global,
     examples: &Examples<'_>,
     conflict: &Conflict,
+    allowed: &mut Allowed,
     patience: &mut Patience,
 ) -> Result<Option<Example>, OutOfMemory>
     requires inside { IsInside examples.now.automaton conflict.now }
     requires conflict { Contains examples.now.conflicts (conflict_from examples.now.automaton conflict.now) }
     ensures { IfOk result (IsSought examples.now conflict.now) }
 {
-    if patience.searches == 0 || patience.endless == 0 {
+    if allowed.searches == 0 || allowed.endless == 0 || patience.is_over() {
         return Ok(None);
     }
-    patience.searches = patience.searches.saturating_sub(1);
-    let example = examples.of(alloc, conflict, BOUND)?;
+    allowed.searches = allowed.searches.saturating_sub(1);
+    let example = examples.of(alloc, conflict, BOUND, patience)?;
     if let Example::Unknown = example {
-        patience.endless = patience.endless.saturating_sub(1);
+        allowed.endless = allowed.endless.saturating_sub(1);
     }
     Ok(Some(example))
 }

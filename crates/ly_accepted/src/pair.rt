@@ -116,7 +116,10 @@ impl Pair {
         let lr0 = examples.resolved().lr0();
         let body = body_of(lr0.reduced().grammar(), around.rule);
         let front = body.get(..around.dot).unwrap_or_default();
-        let known = self.string.get(self.reading(which).passed..).unwrap_or_default();
+        let known = self
+            .string
+            .get(self.reading(which).passed..)
+            .unwrap_or_default();
         for (symbol, same) in front.iter().rev().zip(known.iter()) {
             if symbol != same {
                 return Ok(None);
@@ -154,7 +157,10 @@ impl Pair {
     /// a reading, and mostly answers no.
     fn goes_back_over(&self, lr0: &Lr0<'_>, symbol: Option<&Symbol>) -> bool {
         match symbol {
-            Some(symbol) => self.states.iter().any(|state| symbol_to(lr0, *state) == Some(*symbol)),
+            Some(symbol) => self
+                .states
+                .iter()
+                .any(|state| symbol_to(lr0, *state) == Some(*symbol)),
             None => true,
         }
     }

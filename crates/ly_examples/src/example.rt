@@ -17,6 +17,7 @@ ghost use Rattle.ly_examples.specs.Private.Opening.{ClaimsRival};
 use crate::claim::{Claim, Demand};
 use crate::ground::{Ground, ground_of};
 use crate::halt::Halt;
+use crate::patience::Patience;
 use crate::search::{Sought, shortest};
 use ly_base::{OutOfMemory, RuleNo, StateNo, Sym};
 use ly_join::{Spec, Symbol};
@@ -103,7 +104,8 @@ impl<'a> Examples<'a> {
         self.ground.waiting.of(left.0 as usize)
     }
 
-    /// Whether it is found, over so many demands each, that none of the conflicts of these indices has an example.
+    /// Whether it is found, over so many demands each and before the patience is over, that none of the conflicts of
+    /// these indices has an example.
     ///
     /// `OutOfMemory` comes where a growth was refused.
     pub fn none_has_one(
@@ -111,6 +113,7 @@ impl<'a> Examples<'a> {
         alloc: Global,
         indices: &[usize],
         bound: usize,
+        patience: &mut Patience,
     ) -> Result<bool, OutOfMemory>
         ensures { IfOk result (λ none. none ≡ true → (i : ℕ) → Contains indices.now i → HasNoExample self.now i) }
     {
@@ -118,14 +121,17 @@ impl<'a> Examples<'a> {
             let Some(conflict) = self.conflict(*index) else {
                 return Ok(false);
             };
-            let Example::Merged = self.of(alloc, &conflict, bound)? else {
+            if patience.is_over() {
+                return Ok(false);
+            }
+            let Example::Merged = self.of(alloc, &conflict, bound, patience)? else {
                 return Ok(false);
             };
         }
         Ok(true)
     }
 
-    /// An example of a conflict, which is sought over so many demands.
+    /// An example of a conflict, which is sought over so many demands. What is looked at is taken off the patience.
     ///
     /// `OutOfMemory` comes where a growth was refused.
     pub fn of(
@@ -133,6 +139,7 @@ impl<'a> Examples<'a> {
         alloc: Global,
         conflict: &Conflict,
         bound: usize,
+        patience: &mut Patience,
     ) -> Result<Example, OutOfMemory>
         requires inside { IsInside self.now.automaton conflict.now }
         requires conflict { Contains self.now.conflicts (conflict_from self.now.automaton conflict.now) }
@@ -145,7 +152,7 @@ impl<'a> Examples<'a> {
             terminal: conflict.terminal,
             bound,
         };
-        match shortest(alloc, &sought, demand) {
+        match shortest(alloc, &sought, demand, patience) {
             Ok(Some(string)) => Ok(Example::At(string)),
             Ok(None) => Ok(Example::Merged),
             Err(Halt::TooMany) => Ok(Example::Unknown),
@@ -154,7 +161,7 @@ impl<'a> Examples<'a> {
     }
 
     /// A string of symbols at which the rule of a conflict is possible, which is sought over so many demands; none
-    /// where there are more.
+    /// where there are more. What is looked at is taken off the patience.
     ///
     /// `OutOfMemory` comes where a growth was refused.
     pub fn of_rule(
@@ -162,6 +169,7 @@ impl<'a> Examples<'a> {
         alloc: Global,
         conflict: &Conflict,
         bound: usize,
+        patience: &mut Patience,
     ) -> Result<Option<Vec<Symbol>>, OutOfMemory>
         requires inside { IsInside self.now.automaton conflict.now }
         requires conflict { Contains self.now.conflicts (conflict_from self.now.automaton conflict.now) }
@@ -174,11 +182,11 @@ impl<'a> Examples<'a> {
             second: Claim::Settled,
             ..self.demand(conflict)
         };
-        self.string_of(alloc, conflict, demand, bound)
+        self.string_of(alloc, conflict, demand, bound, patience)
     }
 
     /// A string of symbols at which what stands against the rule of a conflict is possible, which is sought over so
-    /// many demands; none where there are more.
+    /// many demands; none where there are more. What is looked at is taken off the patience.
     ///
     /// `OutOfMemory` comes where a growth was refused.
     pub fn of_choice(
@@ -186,6 +194,7 @@ impl<'a> Examples<'a> {
         alloc: Global,
         conflict: &Conflict,
         bound: usize,
+        patience: &mut Patience,
     ) -> Result<Option<Vec<Symbol>>, OutOfMemory>
         requires inside { IsInside self.now.automaton conflict.now }
         requires conflict { Contains self.now.conflicts (conflict_from self.now.automaton conflict.now) }
@@ -199,7 +208,7 @@ impl<'a> Examples<'a> {
             first: Claim::Settled,
             ..self.demand(conflict)
         };
-        self.string_of(alloc, conflict, demand, bound)
+        self.string_of(alloc, conflict, demand, bound, patience)
     }
 
     /// A string of symbols that meets a demand before the terminal of a conflict, which is sought over so many demands;
@@ -210,6 +219,7 @@ impl<'a> Examples<'a> {
         conflict: &Conflict,
         demand: Demand,
         bound: usize,
+        patience: &mut Patience,
     ) -> Result<Option<Vec<Symbol>>, OutOfMemory>
         requires inside { IsInside self.now.automaton conflict.now }
         requires kept { IsKeptDemand self.now.automaton demand }
@@ -223,7 +233,7 @@ impl<'a> Examples<'a> {
             terminal: conflict.terminal,
             bound,
         };
-        match shortest(alloc, &sought, demand) {
+        match shortest(alloc, &sought, demand, patience) {
             Ok(string) => Ok(string),
             Err(Halt::TooMany) => Ok(None),
             Err(Halt::OutOfMemory) => Err(OutOfMemory),

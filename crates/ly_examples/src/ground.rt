@@ -7,6 +7,7 @@ ghost use Rattle.ly_lr0.specs.declared.transition.Transition as code;
 ghost use Rattle.ly_examples.specs.Private.Grounds.{AreSources, AreWaiting};
 ghost use Rattle.ly_examples.specs.Private.Lists.{AreSourcesAdded, AreSourcesOf, AreWaitingAdded, IsGround};
 
+use crate::claim::{Claim, Demand};
 use crate::lists::Lists;
 use ly_base::{OutOfMemory, StateNo};
 use ly_join::Symbol;
@@ -24,6 +25,32 @@ pub(crate) struct Ground<'a> {
     pub(crate) waiting: Lists<Item>,
     /// For each state how long its prefix is.
     pub(crate) lengths: Vec<usize>,
+    /// For each nonterminal how many symbols stand in bodies from it on.
+    weights: Vec<usize>,
+}
+
+impl Ground<'_> {
+    /// How many symbols are looked at to find what a demand climbs to, at most.
+    pub(crate) fn weight(&self, demand: Demand) -> usize {
+        self.weight_of(demand.first)
+            .saturating_add(self.weight_of(demand.second))
+    }
+
+    /// How many symbols are looked at to find the claims by which one is true, at most.
+    fn weight_of(&self, claim: Claim) -> usize {
+        let Claim::With(item) = claim else {
+            return 0;
+        };
+        let rules = self.lr0.reduced().grammar().rules();
+        match rules.get(item.rule) {
+            Some(rule) if item.dot == 0 => self
+                .weights
+                .get(rule.left().0 as usize)
+                .copied()
+                .unwrap_or(0),
+            _ => 0,
+        }
+    }
 }
 
 /// What is looked for in an automaton.
@@ -34,11 +61,13 @@ pub(crate) fn ground_of<'a>(alloc: Global, lr0: &'a Lr0<'a>) -> Result<Ground<'a
     let lengths = lengths_of(alloc, lr0)?;
     let waiting = waiting_of(alloc, lr0)?;
     let sources = sources_of(alloc, lr0)?;
+    let weights = weights_of(alloc, lr0)?;
     Ok(Ground {
         lr0,
         sources,
         waiting,
         lengths,
+        weights,
     })
 }
 
@@ -111,6 +140,23 @@ fn push_waiting(waiting: &mut Lists<Item>, body: &[Symbol], rule: usize) -> Resu
         }
     }
     Ok(())
+}
+
+/// For each nonterminal how many symbols stand in bodies from it on.
+fn weights_of(alloc: Global, lr0: &Lr0<'_>) -> Result<Vec<usize>, OutOfMemory> {
+    let grammar = lr0.reduced().grammar();
+    let mut weights = vec![in alloc; 0; grammar.accept().0 as usize + 1]?;
+    for rule in grammar.rules() {
+        let body = rule.body();
+        for (place, symbol) in body.iter().enumerate() {
+            if let Symbol::Nonterminal(left) = symbol
+                && let Some(weight) = weights.get_mut(left.0 as usize)
+            {
+                *weight = body.len().saturating_sub(place).saturating_add(*weight);
+            }
+        }
+    }
+    Ok(weights)
 }
 
 /// For each state how long its prefix is.

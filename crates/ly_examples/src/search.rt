@@ -14,10 +14,14 @@ use crate::claim::{Claim, Demand};
 use crate::found::{Found, Link};
 use crate::ground::Ground;
 use crate::halt::Halt;
+use crate::patience::Patience;
 use crate::steps::{climbs, pops};
 use ly_base::{OutOfMemory, Sym};
 use ly_join::Symbol;
 use std::alloc::{AllocError, Global};
+
+/// How many symbols a demand that is found is worth, by the time that it takes.
+const FOUND: usize = 10;
 
 /// What is sought.
 #[derive(Clone, Copy)]
@@ -45,11 +49,12 @@ pub(crate) struct Search {
     best: Option<usize>,
 }
 
-/// The shortest string that meets a demand, its first symbol first.
+/// The shortest string that meets a demand, its first symbol first. What is looked at is taken off the patience.
 pub(crate) fn shortest(
     alloc: Global,
     sought: &Sought<'_>,
     demand: Demand,
+    patience: &mut Patience,
 ) -> Result<Option<Vec<Symbol>>, Halt>
     requires ground { IsGround sought.now.ground.now }
     requires terminal { sought.now.terminal.0 < (automaton_of sought.now).grammar.terminals }
@@ -61,7 +66,7 @@ pub(crate) fn shortest(
         → HasMore (automaton_of sought.now) sought.now.terminal.0 sought.now.bound demand }
 {
     let mut search = Search::new(alloc, sought, demand)?;
-    search.finish(alloc, sought)
+    search.finish(alloc, sought, patience)
 }
 
 impl Search {
@@ -90,14 +95,19 @@ impl Search {
     }
 
     /// The shortest string that meets the first demand, which is sought to the end.
-    fn finish(&mut self, alloc: Global, sought: &Sought<'_>) -> Result<Option<Vec<Symbol>>, Halt>
+    fn finish(
+        &mut self,
+        alloc: Global,
+        sought: &Sought<'_>,
+        patience: &mut Patience,
+    ) -> Result<Option<Vec<Symbol>>, Halt>
         requires underway { IsUnderway sought.now self.old }
         ensures found { (d : demands.Demand) → slice_get self.old.found 0 ≡ Some d → IsProper d.first
             → IsProper d.second → IfOk result (IsFoundBy sought.now d) }
         ensures many { IsErrOf result Halt.TooMany → HasMoreThanAllowed sought.now self.old }
     {
         while self.popped < self.found.len() {
-            self.advance(alloc, sought)?;
+            self.advance(alloc, sought, patience)?;
         }
         match self.best {
             Some(place) => Ok(Some(self.string(alloc, sought, place)?)),
@@ -106,7 +116,12 @@ impl Search {
     }
 
     /// Climbs from the next demand from which that wasn't done, or pops where there is none.
-    fn advance(&mut self, alloc: Global, sought: &Sought<'_>) -> Result<(), Halt>
+    fn advance(
+        &mut self,
+        alloc: Global,
+        sought: &Sought<'_>,
+        patience: &mut Patience,
+    ) -> Result<(), Halt>
         requires underway { IsUnderway sought.now self.old }
         requires left { self.old.popped < length self.old.found }
         ensures underway { OnOk result (IsUnderway sought.now self.new) }
@@ -117,13 +132,13 @@ impl Search {
         if self.climbed < self.found.len() {
             let place = self.climbed;
             if self.may_serve(sought, place) {
-                self.climb(alloc, sought, place)?;
+                self.climb(alloc, sought, place, patience)?;
             }
             self.climbed = place + 1;
         } else {
             let place = self.popped;
             if self.may_serve(sought, place) {
-                self.pop(alloc, sought, place)?;
+                self.pop(alloc, sought, place, patience)?;
             }
             self.popped = place + 1;
         }
@@ -164,7 +179,13 @@ impl Search {
     }
 
     /// Adds what the demand at a place climbs to. Where it claims nothing more it is the best.
-    fn climb(&mut self, alloc: Global, sought: &Sought<'_>, place: usize) -> Result<(), Halt>
+    fn climb(
+        &mut self,
+        alloc: Global,
+        sought: &Sought<'_>,
+        place: usize,
+        patience: &mut Patience,
+    ) -> Result<(), Halt>
         requires search { IsSearch sought.now self.old }
         requires place { place < length self.old.found }
         ensures on { OnOk result (GoesOn sought.now self.old self.new) }
@@ -179,7 +200,9 @@ impl Search {
             return Ok(());
         }
         let popped = self.popped_to(place);
+        patience.take(sought.ground.weight(demand));
         let demands = climbs(alloc, sought.ground, sought.terminal, demand)?;
+        patience.take(demands.len().saturating_mul(FOUND));
         for next in &demands {
             let link = Link {
                 from: place,
@@ -192,7 +215,13 @@ impl Search {
     }
 
     /// Adds what is left of the demand at a place where a symbol is popped.
-    fn pop(&mut self, alloc: Global, sought: &Sought<'_>, place: usize) -> Result<(), Halt>
+    fn pop(
+        &mut self,
+        alloc: Global,
+        sought: &Sought<'_>,
+        place: usize,
+        patience: &mut Patience,
+    ) -> Result<(), Halt>
         requires search { IsSearch sought.now self.old }
         requires place { place < length self.old.found }
         ensures on { OnOk result (GoesOn sought.now self.old self.new) }
@@ -205,6 +234,7 @@ impl Search {
         let demand = self.found.at(place);
         let popped = self.popped_to(place).saturating_add(1);
         let demands = pops(alloc, sought.ground, demand)?;
+        patience.take(demands.len().saturating_mul(FOUND));
         for next in &demands {
             let link = Link {
                 from: place,

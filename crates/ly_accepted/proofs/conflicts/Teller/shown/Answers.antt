@@ -9,4 +9,4 @@ returns-in-Some-Merged-clause-shown c =
     let r = c.args.self.now.examples.now in
     let conflict = conflict_from r.automaton c.args.conflict.now in
     subst (λ group. IfOk c.merged.result (IsShown r group conflict)) c.deref-in-Some-Merged.ensures.value
-    (c.merged.ensures conflict)
+    (c.merged.ensures.shown conflict)
