@@ -1,13 +1,18 @@
 //! The claims that are looked at on the way from an action back to the start, each on a beginning of one string.
+use crate::bodies::behind_dot;
 use crate::cores::Cores;
 use indexmap::{IndexMap, IndexSet};
 use ly_base::{OutOfMemory, StateNo, Sym};
 use ly_examples::Claim;
+use ly_join::Symbol;
 use ly_lr0::Item;
 use std::alloc::{AllocError, Global};
 
 /// How many claims are looked at, at most, to find how an action comes about.
 pub(crate) const MOST: usize = 50_000;
+
+/// How many items of states are gone through, at most, for that.
+const MOST_ITEMS: usize = 5_000_000;
 
 /// A claim on a beginning of the string.
 #[derive(Clone, Copy, PartialEq, Eq, Hash)]
@@ -35,37 +40,110 @@ pub(crate) struct Search {
     /// Each with the place of the one that is true by it.
     pub(crate) found: IndexMap<Claimed, usize>,
     /// The openings of those that were looked at.
-    pub(crate) opened: IndexSet<Opening>,
-    /// The items of the state that was asked for last.
-    pub(crate) last: Option<(StateNo, Vec<Item>)>,
+    opened: IndexSet<Opening>,
+    /// The core that was asked for last.
+    last: Option<Core>,
+    /// How many items of states were gone through.
+    items: usize,
+}
+
+/// The items of a state that wait for nonterminals.
+#[derive(Drop)]
+struct Core {
+    /// The state.
+    state: StateNo,
+    /// How many items it has, with those that wait for none.
+    count: usize,
+    /// The nonterminals.
+    lefts: IndexSet<u32>,
+    /// For each of them the items, in the order in which they were found.
+    waiting: Vec<Vec<Item>>,
+}
+
+impl Core {
+    /// The core of a state.
+    fn of(alloc: Global, cores: &Cores<'_>, state: StateNo) -> Result<Core, AllocError> {
+        let grammar = cores.lr0().reduced().grammar();
+        let items = cores.items(alloc, state)?;
+        let mut core = Core {
+            state,
+            count: items.len(),
+            lefts: IndexSet::new(alloc),
+            waiting: Vec::new(alloc),
+        };
+        for item in &items {
+            if let Some(Symbol::Nonterminal(left)) = behind_dot(grammar, *item) {
+                core.add(alloc, left, *item)?;
+            }
+        }
+        Ok(core)
+    }
+
+    /// Adds an item that waits for a nonterminal.
+    fn add(&mut self, alloc: Global, left: Sym, item: Item) -> Result<(), AllocError> {
+        if self.lefts.insert(left.0)? {
+            self.waiting.push(Vec::new(alloc))?;
+        }
+        if let Some(place) = self.lefts.get_index_of(&left.0)
+            && let Some(items) = self.waiting.get_mut(place)
+        {
+            items.push(item)?;
+        }
+        Ok(())
+    }
+
+    /// The items that wait for a nonterminal.
+    fn waiting(&self, left: Sym) -> &[Item] {
+        match self.lefts.get_index_of(&left.0) {
+            Some(place) => match self.waiting.get(place) {
+                Some(items) => items,
+                None => &[],
+            },
+            None => &[],
+        }
+    }
 }
 
 impl Search {
+    /// A search that has found nothing.
+    pub(crate) fn new(alloc: Global) -> Search {
+        Search {
+            found: IndexMap::new(alloc),
+            opened: IndexSet::new(alloc),
+            last: None,
+            items: 0,
+        }
+    }
+
     /// The claim at a place; none behind so many that the search ends.
     pub(crate) fn claimed(&self, place: usize) -> Option<Claimed> {
-        if self.found.len() > MOST {
+        if self.found.len() > MOST || self.items > MOST_ITEMS {
             return None;
         }
         let (claimed, _) = self.found.get_index(place)?;
         Some(*claimed)
     }
 
-    /// The items of a state. Claims on one beginning mostly follow one another, so those of the last one are kept.
-    pub(crate) fn items(
+    /// The items of a state that wait for a nonterminal. Claims on one beginning mostly follow one another, so the core
+    /// of the last one is kept.
+    pub(crate) fn waiting(
         &mut self,
         alloc: Global,
         cores: &Cores<'_>,
         state: StateNo,
+        left: Sym,
     ) -> Result<&[Item], AllocError> {
         let known = match &self.last {
-            Some((last, _)) => *last == state,
+            Some(core) => core.state == state,
             None => false,
         };
         if !known {
-            self.last = Some((state, cores.items(alloc, state)?));
+            let core = Core::of(alloc, cores, state)?;
+            self.items = self.items.saturating_add(core.count);
+            self.last = Some(core);
         }
         match &self.last {
-            Some((_, items)) => Ok(items),
+            Some(core) => Ok(core.waiting(left)),
             None => Ok(&[]),
         }
     }

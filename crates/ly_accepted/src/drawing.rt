@@ -3,7 +3,6 @@ use crate::bodies::{behind_dot, rest_of};
 use crate::claims::{Claimed, MOST, Opening, Search, item_of, with_item};
 use crate::cores::Cores;
 use crate::leading::goto_of;
-use indexmap::{IndexMap, IndexSet};
 use ly_base::{OutOfMemory, StateNo, Sym};
 use ly_examples::Claim;
 use ly_grammar::Reduced;
@@ -50,11 +49,7 @@ impl<'a> Drawing<'a> {
     /// The way to a claim behind the string: the items of the claims from that on the start to this one, each of which
     /// is true by the one before it; none where that isn't found.
     pub(crate) fn way(&self, alloc: Global, last: Claim) -> Result<Vec<Item>, OutOfMemory> {
-        let mut search = Search {
-            found: IndexMap::new(alloc),
-            opened: IndexSet::new(alloc),
-            last: None,
-        };
+        let mut search = Search::new(alloc);
         let last = Claimed {
             length: self.string.len(),
             claim: last,
@@ -131,8 +126,11 @@ impl<'a> Drawing<'a> {
                 found.push(Claimed { length, claim })?;
             }
         } else if let Some(state) = self.states.get(claimed.length) {
-            let core = search.items(alloc, self.cores, *state)?;
-            self.push_waiting(&mut found, core, claimed, item)?;
+            let Some(rule) = self.grammar.rules().get(item.rule) else {
+                return Ok(found);
+            };
+            let waiting = search.waiting(alloc, self.cores, *state, rule.left())?;
+            self.push_waiting(&mut found, waiting, claimed)?;
         }
         Ok(found)
     }
@@ -141,18 +139,10 @@ impl<'a> Drawing<'a> {
     fn push_waiting(
         &self,
         found: &mut Vec<Claimed>,
-        core: &[Item],
+        items: &[Item],
         claimed: Claimed,
-        item: Item,
     ) -> Result<(), OutOfMemory> {
-        let Some(rule) = self.grammar.rules().get(item.rule) else {
-            return Ok(());
-        };
-        let left = Symbol::Nonterminal(rule.left());
-        for waiting in core {
-            if behind_dot(self.grammar, *waiting) != Some(left) {
-                continue;
-            }
+        for waiting in items {
             let (in_core, with) = self.is_true_by(claimed.claim, *waiting);
             if in_core {
                 found.push(Claimed {
