@@ -1,7 +1,6 @@
 -- Sentences by two trees, by the moves to these.
 use Rattle.std.proofs.Common.{◌≡◌, ◌≢◌, ◌∙◌, ℕ, List, [], ◌∷◌, ◌++◌, refl, sym, ap, subst}
 use Rattle.std.proofs.lemmas.List.{append_cancel_left, map-append}
-use Rattle.ly_base.specs.declared.numbers.Sym.{Sym}
 use Rattle.ly_join.specs.Grammar.{Grammar}
 use Rattle.ly_resolve.specs.Conflicts.{Conflict}
 use Rattle.ly_resolve.specs.Resolved.{Resolved}

@@ -4,7 +4,6 @@ use Rattle.std.proofs.Common.{refl, sym, ap, subst, arith, length, map, take, dr
 use Rattle.std.proofs.Common.{slice_index_or, slice_set, All, Contains}
 use Rattle.std.specs.Prelude.{Bool, false, filter, not, option_and_then, true}
 use Rattle.std.proofs.lemmas.List.{get_or-set_same, get_or-set_other, length-set}
-use Rattle.std.proofs.lemmas.List.Elements.{Contains-get_or}
 use Rattle.std.proofs.lemmas.Bool.{cases_order}
 use Rattle.std.proofs.lemmas.Option.{slice_get_past, slice_get_within}
 use Rattle.ly_base.specs.declared.numbers.StateNo.{StateNo}

@@ -1,8 +1,8 @@
 -- Parses by their moves: what they shift, where two of them part, and the string and the state that moves lead to.
-use Rattle.std.proofs.Common.{◌≡◌, ◌≢◌, ◌∙◌, ◌↔◌, ◌<◌, ◌≤◌, ◌+◌, ℕ, zero, suc, List, [], ◌∷◌, ◌++◌, Option, Some}
+use Rattle.std.proofs.Common.{◌≡◌, ◌≢◌, ◌∙◌, ◌↔◌, ◌<◌, ◌≤◌, ◌+◌, ℕ, zero, suc, List, [], ◌∷◌, ◌++◌, Some}
 use Rattle.std.proofs.Common.{None}
 use Rattle.std.proofs.Common.{refl, sym, ap, arith, subst, drop, take, length, map, reverse, append-nil, slice_get}
-use Rattle.std.proofs.Common.{slice_index_or, option_map}
+use Rattle.std.proofs.Common.{slice_index_or}
 use Rattle.std.proofs.Math.Seq.{drop-cons}
 use Rattle.std.proofs.lemmas.List.{append_assoc, append_cancel_left, map-append, reverse-append, reverse-reverse}
 use Rattle.std.proofs.lemmas.List.{drop_all, take-append-drop, take_more}

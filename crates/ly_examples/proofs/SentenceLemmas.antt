@@ -7,10 +7,10 @@ use Rattle.std.specs.Option.{option_map}
 use Rattle.std.proofs.Common.{drop, suc, take}
 use Rattle.std.proofs.Math.Seq.{drop-cons}
 use Rattle.std.proofs.lemmas.List.{append_assoc, length-map, map-append, reverse-append, take_more}
-use Rattle.ly_base.specs.Trees.{Tree, Trees, leaf, node, none, more}
+use Rattle.ly_base.specs.Trees.{Trees, leaf, node, none, more}
 use Rattle.ly_base.specs.declared.numbers.Sym.{Sym}
 use Rattle.ly_join.specs.Grammar.{Grammar, IsRule, GrammarRule, Symbol, nonterminal, terminal}
-use Rattle.ly_grammar.specs.Derivations.{AreTrees, IsTree}
+use Rattle.ly_grammar.specs.Derivations.{AreTrees}
 use Rattle.ly_examples.specs.Moves.{Move, moves_among, moves_of, reduces, shifts}
 use Rattle.ly_examples.specs.Sentences.{rules_among, rules_of}
 use Rattle.ly_examples.specs.Private.Leftmost.{Ahead, ahead_of, AreMovesBy, Derive, IsPassed, IsUnderWay, known}

@@ -1,6 +1,6 @@
 -- Two parses, as they are compared and followed. Strings that are kept have their first symbol first.
 use Rattle.std.specs.Prelude.{◌≡◌, ◌≢◌, ℕ, List, [], ◌∷◌, ◌++◌, Option, Some, None, map, reverse}
-use Rattle.ly_join.specs.Grammar.{Grammar, GrammarRule, IsRule, Symbol, symbol_of}
+use Rattle.ly_join.specs.Grammar.{Grammar, Symbol, symbol_of}
 use Rattle.ly_join.specs.declared.symbol.Symbol as code
 use Rattle.ly_lr0.specs.Automaton.{Lr0Automaton, Reaches, goto_of}
 use Rattle.ly_examples.specs.Moves.{Lead, Move, reduces, shifted}

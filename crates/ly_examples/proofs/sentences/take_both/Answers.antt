@@ -1,5 +1,5 @@
-use Rattle.std.proofs.Common.{◌≡◌, ◌∙◌, ◌-◌, ◌∷◌, [], List, None, Option, Some, ap, arith, drop, eqb, false, length}
-use Rattle.std.proofs.Common.{not, option_map, refl, slice_get, subst, sym, take, true}
+use Rattle.std.proofs.Common.{◌≡◌, ◌∙◌, ◌-◌, ◌∷◌, [], List, Option, Some, ap, arith, drop, eqb, false, length}
+use Rattle.std.proofs.Common.{not, option_map, refl, subst, sym, take, true}
 use Rattle.std.proofs.lemmas.Bool.{both_ways, eq-eqb, eqb-true, iff_false, not-false}
 use Rattle.std.proofs.lemmas.List.{length-drop, take-map, take_all}
 use Rattle.std.proofs.lemmas.Option.{slice_get-get_or}

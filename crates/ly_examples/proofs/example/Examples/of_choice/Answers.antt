@@ -4,7 +4,6 @@ use Rattle.std.proofs.lemmas.Option.{IfSome_then}
 use Rattle.std.proofs.lemmas.Result.{IfOk-weaker}
 use Rattle.ly_join.specs.Grammar.{symbol_of}
 use Rattle.ly_lr0.specs.Automaton.{IsLr0Automaton}
-use Rattle.ly_resolve.specs.Actions.{reduce}
 use Rattle.ly_resolve.specs.Values.{conflict_from}
 use Rattle.ly_examples.specs.Examples.{IsPlaceOf, rival}
 use Rattle.ly_examples.specs.Private.Met.{IsMet}

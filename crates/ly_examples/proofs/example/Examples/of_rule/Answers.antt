@@ -6,7 +6,7 @@ use Rattle.ly_join.specs.Grammar.{symbol_of}
 use Rattle.ly_lr0.specs.Automaton.{IsLr0Automaton}
 use Rattle.ly_resolve.specs.Actions.{reduce}
 use Rattle.ly_resolve.specs.Values.{conflict_from}
-use Rattle.ly_examples.specs.Examples.{IsPlaceOf, rival}
+use Rattle.ly_examples.specs.Examples.{IsPlaceOf}
 use Rattle.ly_examples.specs.Private.Met.{IsMet}
 use Rattle.ly_examples.specs.declared.claim.Claim.TheVariants.{Settled}
 use Rattle.ly_examples.specs.declared.claim.Demand.{Demand}

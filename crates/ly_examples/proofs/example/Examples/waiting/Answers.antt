@@ -1,4 +1,4 @@
-use Rattle.std.proofs.Common.{◌≡◌, ◌∙◌, ◌↔◌, ◌≤◌, List, [], ap, subst, sym, slice_index_or, Contains}
+use Rattle.std.proofs.Common.{◌∙◌, ◌↔◌, ◌≤◌, List, [], ap, subst, sym, slice_index_or, Contains}
 use Rattle.ly_join.specs.Grammar.{Symbol, nonterminal}
 use Rattle.ly_examples.specs.Demands.{IsAhead}
 use Rattle.ly_examples.proofs.example.Examples.waiting.Goals as goal

@@ -1,4 +1,4 @@
-use Rattle.std.proofs.Common.{◌∙◌, ap, arith, subst, sym, true, Contains}
+use Rattle.std.proofs.Common.{◌∙◌, ap, arith, subst, sym, Contains}
 use Rattle.std.proofs.lemmas.Bool.{both_ways}
 use Rattle.std.specs.Prelude.{◌↔◌}
 use Rattle.ly_join.proofs.ListLemmas.{member_at}
