@@ -1,24 +1,19 @@
 -- Where symbols lead by transitions in the order of their symbols.
-use Rattle.std.proofs.Common.{◌≡◌, inl, inr, ℕ, ◌+◌, ◌-◌, ◌<◌, ◌≤◌, List, [], ◌∷◌, Option, Some, None}
+use Rattle.std.proofs.Common.{◌≡◌, inl, inr, ℕ, ◌+◌, ◌-◌, ◌<◌, ◌≤◌, List, Option, Some, None}
 use Rattle.std.proofs.Common.{refl, sym, ◌∙◌, ap, subst, arith, length, map}
 use Rattle.std.specs.Prelude.{slice_get, slice_index_or}
 use Rattle.std.proofs.lemmas.Bool.{cases_order}
 use Rattle.std.proofs.lemmas.List.{get_or_default, length-map, get_or-map as list_map}
-use Rattle.std.proofs.lemmas.Option.{slice_get-get_or, slice_get_within, get_or_from_slice_get}
+use Rattle.std.proofs.lemmas.Option.{slice_get_within, get_or_from_slice_get}
 use Rattle.std.proofs.Math.ListN.{get_or-map}
-use Rattle.std.proofs.lemmas.List.Kept.{AllPairs-filter}
-use Rattle.std.specs.Rc.{rc_slice_items}
-use Rattle.ly_join.specs.Grammar.{Grammar, Symbol, nonterminal, symbol_of, terminal}
-use Rattle.ly_lr0.specs.Automaton.{IsLess, goto_of, is_goto, is_shift, state_at, target_of}
+use Rattle.ly_join.specs.Grammar.{Symbol, symbol_of}
+use Rattle.ly_lr0.specs.Automaton.{IsLess, target_of}
 use Rattle.ly_lr0.specs.declared.transition.Transition as code
-use Rattle.ly_lr0.specs.declared.transition.Link as link
-use Rattle.ly_lr0.specs.declared.transition.Row.{Row}
-use Rattle.ly_lr0.specs.Private.Built.{AreInOrder, IsBuilt, automaton_from, link_of, prefixes_of, transitions_of}
+use Rattle.ly_lr0.specs.Private.Built.{AreInOrder}
 use Rattle.ly_lr0.specs.Private.Places.{IsPlace, symbol_at}
 use Rattle.ly_lr0.specs.Transitions.{transition_of}
 use Rattle.ly_lr0.proofs.OrderLemmas.{less_off, less_trans}
-use Rattle.ly_lr0.proofs.ShiftLemmas.{gotos_alone, gotos_lead, shifts_alone, shifts_lead}
-use Rattle.ly_lr0.proofs.StateLemmas.{count_of, goto_of-rows, length-fold, state_of, target_at, target_some}
+use Rattle.ly_lr0.proofs.StateLemmas.{target_at, target_some}
 
 module _ (ts : List code.Transition) (ordered : AreInOrder (map transition_of ts)) where
   shown : (k : ℕ) (d : code.Transition) → slice_index_or (map transition_of ts) k (transition_of d)
@@ -108,57 +103,3 @@ module _ (ts : List code.Transition) (ordered : AreInOrder (map transition_of ts
         let c = target_some (map transition_of ts) X n is in
         let within : c.0 < length ts = omega (arith, c.1, length-map ts transition_of) in
         absurd (off n c.0 within (ap (λ t. t.symbol) (sym (list_map transition_of ts c.0 e _ within) ∙ c.2)))
-
--- what the row of a state says
-module _ (G : Grammar) (links : List link.Link) (rows : List Row) (s : ℕ) (row : Row) {lists : List (List ℕ)}
-    (built : IsBuilt G links rows lists)
-    (less : s < length rows) (is : row ≡ slice_index_or rows s row) where
-  many : length (prefixes_of (map link_of links)) ≡ length rows
-  many = let count = built.count in
-      omega (arith, length-fold ([] ∷ []) (map link_of links), length-map links link_of, count)
-
-  -- its transitions are in the order of their symbols
-  row_ordered : AreInOrder (transitions_of row)
-  row_ordered =
-      let M = automaton_from G links rows in
-      let q = state_at M s in
-      let there = slice_get-get_or M.states s (record { prefix = []; transitions = []; complete = [] })
-      (omega (arith, less, count_of links rows built.count)) in
-      subst AreInOrder (ap (λ q. q.transitions) (state_of G links rows s row built.count less is))
-      (built.automaton.each s q there).ordered
-
-  -- and say where the state leads
-  row_leads : (X : Symbol) → target_of (transitions_of row) X ≡ goto_of (automaton_from G links rows) s X
-  row_leads X = ap (λ r. target_of (transitions_of r) X) is
-      ∙ sym (ap (λ ts. target_of ts X) (list_map transitions_of rows s row [] less))
-      ∙ sym (goto_of-rows G (prefixes_of (map link_of links)) rows many s X)
-
-  abbrev shifts : List code.Transition
-  shifts = rc_slice_items row.shifts
-
-  abbrev gotos : List code.Transition
-  gotos = row.gotos.items
-
-  -- so are those of a kind
-  pub shifts_ordered : AreInOrder (map transition_of shifts)
-  shifts_ordered = subst AreInOrder (shifts_alone shifts gotos row.over_terminals row.over_nonterminals)
-      (AllPairs-filter (λ t u. IsLess t.symbol u.symbol) is_shift (transitions_of row) row_ordered)
-
-  pub gotos_ordered : AreInOrder (map transition_of gotos)
-  gotos_ordered = subst AreInOrder (gotos_alone shifts gotos row.over_terminals row.over_nonterminals)
-      (AllPairs-filter (λ t u. IsLess t.symbol u.symbol) is_goto (transitions_of row) row_ordered)
-
-  -- which say where symbols of that kind lead
-  pub shifts_leads : (t : ℕ) → target_of (map transition_of shifts) (terminal t)
-      ≡ goto_of (automaton_from G links rows) s (terminal t)
-  shifts_leads t
-      = ap (λ ts. target_of ts (terminal t))
-      (sym (shifts_alone shifts gotos row.over_terminals row.over_nonterminals))
-      ∙ shifts_lead (transitions_of row) t ∙ row_leads (terminal t)
-
-  pub gotos_leads : (A : ℕ) → target_of (map transition_of gotos) (nonterminal A)
-      ≡ goto_of (automaton_from G links rows) s (nonterminal A)
-  gotos_leads A
-      = ap (λ ts. target_of ts (nonterminal A))
-      (sym (gotos_alone shifts gotos row.over_terminals row.over_nonterminals))
-      ∙ gotos_lead (transitions_of row) A ∙ row_leads (nonterminal A)

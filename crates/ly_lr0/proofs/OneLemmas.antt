@@ -1,28 +1,24 @@
 -- A grammar has one automaton: its states are the cores of viable strings, in the order of the least strings of each.
 use Rattle.std.proofs.Common.{◌≡◌, ◌∙◌, ◌<◌, inl, inr, ℕ, List, [], ◌∷◌, Some, ap, arith, get_or, length}
 use Rattle.std.proofs.Common.{map, subst, sym}
-use Rattle.std.specs.Prelude.{AllPairs, Contains, option_and_then}
+use Rattle.std.specs.Prelude.{AllPairs, Contains}
 use Rattle.std.proofs.lemmas.List.{get_or-map, get_or_default, length-map, same_lists}
 use Rattle.std.proofs.lemmas.List.Elements.{Contains-get_or}
 use Rattle.ly_base.proofs.ListLemmas.{rising_one}
 use Rattle.ly_join.specs.Grammar.{Grammar, Symbol}
 use Rattle.ly_grammar.specs.Items.{IsComplete, SameCore}
 use Rattle.ly_lr0.specs.Automaton.{Lr0Automaton, ComesBefore, HasCores, IsLr0Automaton, IsLess, Reaches}
-use Rattle.ly_lr0.specs.Automaton.{Transition, goto_of, prefix_of, state_at, target_of}
+use Rattle.ly_lr0.specs.Automaton.{Transition, goto_of, prefix_of, state_at}
 use Rattle.ly_lr0.specs.Laws.{AutomatonIsOne}
 use Rattle.ly_lr0.proofs.LawLemmas.{reached_within}
 use Rattle.ly_lr0.proofs.OrderLemmas.{before_off, less_off, less_trans}
-use Rattle.ly_lr0.proofs.StateLemmas.{state_there, target_at, target_some}
+use Rattle.ly_lr0.proofs.StateLemmas.{goes_by, state_there, target_at, target_some}
 
 -- a string has its own core
 same_itself : (G : Grammar) (g : List Symbol) → SameCore G g g
 same_itself G g p before after = (λ c. c, λ c. c)
 
--- where it leads is what its transitions say, and its prefix is its own
-goes_by : (M : Lr0Automaton) (s : ℕ) (X : Symbol) → s < length M.states
-    → goto_of M s X ≡ target_of (state_at M s).transitions X
-goes_by M s X lt = ap (option_and_then (λ q. target_of q.transitions X)) (state_there M s lt)
-
+-- the prefix of a state is its own
 prefix_at : (M : Lr0Automaton) (s : ℕ) → s < length M.states → prefix_of M s ≡ (state_at M s).prefix
 prefix_at M s lt = get_or-map (λ q. q.prefix) M.states s (record { prefix = []; transitions = []; complete = [] }) [] lt
 

@@ -1,12 +1,13 @@
 -- The transitions of a state over terminals, and those over nonterminals.
-use Rattle.std.proofs.Common.{Bool, ◌∙◌, ◌≡◌, ℕ, suc, ◌+◌, ◌<◌, List, [], ◌∷◌, ◌++◌, true, false}
+use Rattle.std.proofs.Common.{All, Bool, ◌∙◌, ◌≡◌, inl, inr, ℕ, suc, ◌+◌, ◌<◌, List, [], ◌∷◌, ◌++◌, true, false}
 use Rattle.std.proofs.Common.{Some, refl, sym, ap, arith, drop, length, map, subst, take}
-use Rattle.std.specs.Prelude.{filter, nat_eq, option_and_then, if◌then◌else◌}
+use Rattle.std.specs.Prelude.{filter, nat_eq, not, if◌then◌else◌}
+use Rattle.std.specs.Rc.{rc_slice_items}
+use Rattle.std.proofs.lemmas.Bool.{cases_Bool}
 use Rattle.std.proofs.lemmas.Bool.Decides.{Decides-and, Decides-eqb, Decides-like}
 use Rattle.std.specs.Bool.{Decides}
 use Rattle.std.proofs.lemmas.List.{append-nil, get_or-drop, get_or-take, length-drop, length-take-le, map-append}
 use Rattle.std.proofs.lemmas.List.Elements.{filter-append}
-use Rattle.std.proofs.lemmas.Option.{slice_get-get_or}
 use Rattle.std.proofs.lemmas.Slice.Eq.{slice_eq-Decides}
 use lib.Pointwise.{pointwise}
 use Rattle.ly_join.specs.Grammar.{Symbol, nonterminal, symbol_of, terminal}
@@ -15,10 +16,13 @@ use Rattle.ly_join.specs.declared.symbol.Symbol.TheVariants.{Nonterminal, Termin
 use Rattle.ly_lr0.specs.Automaton.{IsLess, Lr0Automaton, Transition, goto_of, is_goto, is_shift, is_terminal}
 use Rattle.ly_lr0.specs.Automaton.{state_at, symbol_eq, target_of}
 use Rattle.ly_lr0.specs.contracts.transition.TransitionPartialEq.TheImpl as test
+use Rattle.ly_lr0.specs.declared.transition.Row.{Row}
 use Rattle.ly_lr0.specs.declared.transition.Transition as code
+use Rattle.ly_lr0.specs.Private.Built.{transitions_of}
 use Rattle.ly_lr0.specs.Private.Kinds.{AreOverNonterminals, AreOverTerminals}
 use Rattle.ly_lr0.specs.Private.Places.{IsPlace, symbol_at}
 use Rattle.ly_lr0.specs.Transitions.{transition_of}
+use Rattle.ly_lr0.proofs.StateLemmas.{goes_by, symbol_same}
 
 -- a symbol before nonterminal 0 is a terminal
 terminal_before : (X : Symbol) → IsLess X (nonterminal 0) → is_terminal X ≡ true
@@ -46,73 +50,76 @@ gotos_behind ts n is k d l =
     subst (λ t. is_terminal (symbol_of t.symbol) ≡ false) (sym (get_or-drop n ts k d))
     (terminal_not_behind (symbol_at ts (n + k) d) (is.behind (n + k) d (omega arith) less))
 
--- those over terminals, or over nonterminals, among such
-shifts_all : (ts : List code.Transition) → AreOverTerminals ts
-    → (filter is_shift (map transition_of ts) ≡ map transition_of ts) × (filter is_goto (map transition_of ts) ≡ [])
-shifts_all [] are = (refl, refl)
-shifts_all (t ∷ ts) are =
-    let on : is_terminal (symbol_of t.symbol) ≡ true = are 0 t (omega arith) in
-    let rest = shifts_all ts (λ k d l. are (suc k) d (omega (arith, l))) in
-    (rw on (ap (λ us. transition_of t ∷ us) rest.0), rw on rest.1)
+-- whether a transition is over a symbol of a kind: terminals are true, nonterminals false
+abbrev pub is_of : Bool → Transition → Bool
+is_of true = is_shift
+is_of false = is_goto
 
-gotos_all : (ts : List code.Transition) → AreOverNonterminals ts
-    → (filter is_shift (map transition_of ts) ≡ []) × (filter is_goto (map transition_of ts) ≡ map transition_of ts)
-gotos_all [] are = (refl, refl)
-gotos_all (t ∷ ts) are =
-    let off : is_terminal (symbol_of t.symbol) ≡ false = are 0 t (omega arith) in
-    let rest = gotos_all ts (λ k d l. are (suc k) d (omega (arith, l))) in
-    (rw off rest.0, rw off (ap (λ us. transition_of t ∷ us) rest.1))
+-- the transitions of a row over symbols of a kind
+abbrev pub of_kind : Bool → Row → List code.Transition
+of_kind true row = rc_slice_items row.shifts
+of_kind false row = row.gotos.items
 
-module _ (ss gs : List code.Transition) (over_terminals : AreOverTerminals ss) (over_nonterminals : AreOverNonterminals gs) where
-  both : (p : Transition → Bool) → filter p (map transition_of (ss ++ gs))
-      ≡ filter p (map transition_of ss) ++ filter p (map transition_of gs)
-  both p = ap (filter p) (map-append transition_of ss gs)
-      ∙ filter-append p (map transition_of ss) (map transition_of gs)
+-- what a test leaves of transitions that all pass it, or of which none does
+alike : (p : Transition → Bool) (answer : Bool) (ts : List code.Transition)
+    → All (λ t. p (transition_of t) ≡ answer) ts
+    → filter p (map transition_of ts) ≡ (if answer then map transition_of ts else [])
+alike p true [] are = refl
+alike p false [] are = refl
+alike p true (t ∷ ts) are =
+    let on : p (transition_of t) ≡ true = are 0 t (omega arith) in
+    rw on (ap (λ us. transition_of t ∷ us) (alike p true ts (λ k d l. are (suc k) d (omega (arith, l)))))
+alike p false (t ∷ ts) are =
+    let off : p (transition_of t) ≡ false = are 0 t (omega arith) in
+    rw off (alike p false ts (λ k d l. are (suc k) d (omega (arith, l))))
 
-  -- those over terminals of a row
-  pub shifts_alone : filter is_shift (map transition_of (ss ++ gs)) ≡ map transition_of ss
-  shifts_alone = both is_shift
-      ∙ ap (λ us. us ++ filter is_shift (map transition_of gs)) (shifts_all ss over_terminals).0
-      ∙ ap (λ us. map transition_of ss ++ us) (gotos_all gs over_nonterminals).0 ∙ append-nil (map transition_of ss)
+module _ (row : Row) where
+  abbrev shifts : List code.Transition
+  shifts = of_kind true row
 
-  -- and those over nonterminals
-  pub gotos_alone : filter is_goto (map transition_of (ss ++ gs)) ≡ map transition_of gs
-  gotos_alone = both is_goto
-      ∙ ap (λ us. us ++ filter is_goto (map transition_of gs)) (shifts_all ss over_terminals).1
-      ∙ (gotos_all gs over_nonterminals).1
+  abbrev gotos : List code.Transition
+  gotos = of_kind false row
 
--- they say where terminals lead
-pub shifts_lead : (ts : List Transition) (t : ℕ)
-    → target_of (filter is_shift ts) (terminal t) ≡ target_of ts (terminal t)
-shifts_lead [] t = refl
-shifts_lead (u ∷ ts) t = one u ts t u.symbol refl (shifts_lead ts t)
+  both : (p : Transition → Bool) → filter p (transitions_of row)
+      ≡ filter p (map transition_of shifts) ++ filter p (map transition_of gotos)
+  both p = ap (filter p) (map-append transition_of shifts gotos)
+      ∙ filter-append p (map transition_of shifts) (map transition_of gotos)
+
+  -- those of a kind alone are what the row has of it
+  pub kind_alone : (kind : Bool) → filter (is_of kind) (transitions_of row) ≡ map transition_of (of_kind kind row)
+  kind_alone true = both is_shift
+      ∙ ap (λ us. us ++ filter is_shift (map transition_of gotos)) (alike is_shift true shifts row.over_terminals)
+      ∙ ap (λ us. map transition_of shifts ++ us) (alike is_shift false gotos row.over_nonterminals)
+      ∙ append-nil (map transition_of shifts)
+  kind_alone false = both is_goto
+      ∙ ap (λ us. us ++ filter is_goto (map transition_of gotos))
+      (alike is_goto false shifts (λ k d l. ap not (row.over_terminals k d l)))
+      ∙ alike is_goto true gotos (λ k d l. ap not (row.over_nonterminals k d l))
+
+-- they say where symbols of the kind lead
+pub kind_leads : (kind : Bool) (X : Symbol) → is_terminal X ≡ kind → (ts : List Transition)
+    → target_of (filter (is_of kind) ts) X ≡ target_of ts X
+kind_leads kind X of [] = refl
+kind_leads kind X of (u ∷ ts) = elim (cases_Bool (is_of kind u)) [
+  | inl passes ↦ rw passes
+      (ap (λ o. if symbol_eq u.symbol X then Some u.target else o) (kind_leads kind X of ts))
+  | inr fails ↦ elim (cases_Bool (symbol_eq u.symbol X)) [
+    | inl same ↦
+        let passes : is_of kind u ≡ true = passes_of kind (ap is_terminal (symbol_same u.symbol X same) ∙ of) in
+        absurd (cc)
+    | inr other ↦ rw (fails, other) (kind_leads kind X of ts)
+  ]
+]
   where
-    one : (u : Transition) (ts : List Transition) (t : ℕ) (X : Symbol) → u.symbol ≡ X
-        → target_of (filter is_shift ts) (terminal t) ≡ target_of ts (terminal t)
-        → target_of (filter is_shift (u ∷ ts)) (terminal t) ≡ target_of (u ∷ ts) (terminal t)
-    one u ts t (terminal w) is rest = rw is
-        (ap (λ o. if symbol_eq (terminal w) (terminal t) then Some u.target else o) rest)
-    one u ts t (nonterminal A) is rest = rw is rest
-
--- and those over nonterminals where nonterminals lead
-pub gotos_lead : (ts : List Transition) (A : ℕ)
-    → target_of (filter is_goto ts) (nonterminal A) ≡ target_of ts (nonterminal A)
-gotos_lead [] A = refl
-gotos_lead (u ∷ ts) A = one u ts A u.symbol refl (gotos_lead ts A)
-  where
-    one : (u : Transition) (ts : List Transition) (A : ℕ) (X : Symbol) → u.symbol ≡ X
-        → target_of (filter is_goto ts) (nonterminal A) ≡ target_of ts (nonterminal A)
-        → target_of (filter is_goto (u ∷ ts)) (nonterminal A) ≡ target_of (u ∷ ts) (nonterminal A)
-    one u ts A (terminal w) is rest = rw is rest
-    one u ts A (nonterminal B) is rest = rw is
-        (ap (λ o. if symbol_eq (nonterminal B) (nonterminal A) then Some u.target else o) rest)
+    passes_of : (kind : Bool) → is_terminal u.symbol ≡ kind → is_of kind u ≡ true
+    passes_of true e = e
+    passes_of false e = ap not e
 
 -- so where terminals lead from a state
 pub shifts_goto : (M : Lr0Automaton) (s t : ℕ) → s < length M.states
     → target_of (filter is_shift (state_at M s).transitions) (terminal t) ≡ goto_of M s (terminal t)
-shifts_goto M s t less = shifts_lead (state_at M s).transitions t
-    ∙ sym (ap (λ o. option_and_then (λ q. target_of q.transitions (terminal t)) o)
-    (slice_get-get_or M.states s (record { prefix = []; transitions = []; complete = [] }) less))
+shifts_goto M s t less = kind_leads true (terminal t) refl (state_at M s).transitions
+    ∙ sym (goes_by M s (terminal t) less)
 
 abbrev made : symbol.Symbol → ℕ → code.Transition
 made x n = record { symbol = x; target = record { 0 = n } }

@@ -101,6 +101,11 @@ state_parts (p ∷ ps) (r ∷ rs) (suc s) q e =
 pub state_there : (M : Lr0Automaton) (s : ℕ) → s < length M.states → slice_get M.states s ≡ Some (state_at M s)
 state_there M s lt = slice_get-get_or M.states s (record { prefix = []; transitions = []; complete = [] }) lt
 
+-- and leads where its transitions say
+pub goes_by : (M : Lr0Automaton) (s : ℕ) (X : Symbol) → s < length M.states
+    → goto_of M s X ≡ target_of (state_at M s).transitions X
+goes_by M s X lt = ap (option_and_then (λ q. target_of q.transitions X)) (state_there M s lt)
+
 pub symbol_same : (X Y : Symbol) → symbol_eq X Y ≡ true → X ≡ Y
 symbol_same (terminal t) (terminal u) e = ap terminal (eqb-true t u e)
 symbol_same (terminal t) (nonterminal B) e = absurd (cc)
@@ -228,13 +233,6 @@ prefix_step links done k l d back less is =
     link_same : (links : List link.Link) (k : ℕ) (l d : link.Link) → k < length links → l ≡ slice_index_or links k d
         → link_at (map link_of links) k ≡ link_of l
     link_same links k l d less is = get_or-map link_of links k d _ less ∙ ap link_of (sym is)
-
--- which ends with the symbol of the link
-pub last_of_link : (links : List link.Link) (k : ℕ) (l d : link.Link)
-    → ((j : ℕ) → j < length links → (link_at (map link_of links) j).from ≤ j) → k < length links
-    → l ≡ slice_index_or links k d
-    → slice_get (slice_index_or (prefixes_of (map link_of links)) (suc k) []) 0 ≡ Some (symbol_of l.symbol)
-last_of_link links k l d back less is = sym (ap (λ g. slice_get g 0) (prefix_step links [] k l d back less is))
 
 pub link_back : (links : List link.Link) (k : ℕ) (l d : link.Link)
     → ((j : ℕ) → j < length links → (link_at (map link_of links) j).from ≤ j) → k < length links

@@ -12,5 +12,6 @@ invariant_of-result c =
     let rest = take_all (length ts - place) (drop place ts) (omega (arith, length-drop place ts)) in
     record {
       over_terminals = subst AreOverTerminals (sym c.in_ok-shared_shifts.ensures) (shifts_before ts place is);
-      over_nonterminals = subst AreOverNonterminals (sym (c.in_ok-from_slice.ensures.items ∙ rest)) (gotos_behind ts place is);
+      over_nonterminals = subst AreOverNonterminals (sym (c.in_ok-from_slice.ensures.items ∙ rest))
+          (gotos_behind ts place is);
     }

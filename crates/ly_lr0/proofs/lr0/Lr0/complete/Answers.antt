@@ -1,26 +1,10 @@
-use Rattle.std.proofs.Common.{◌<◌, ◌∙◌, ap, arith, length, sym}
-use Rattle.ly_lr0.specs.Automaton.{Lr0Automaton, state_at}
-use Rattle.ly_lr0.proofs.StateLemmas.{count_of, state_of}
+use Rattle.std.proofs.Common.{◌∙◌, arith}
+use Rattle.ly_lr0.proofs.RowLemmas.{row_complete, row_there}
 use Rattle.ly_lr0.proofs.lr0.Lr0.complete.Goals as goal
 
 pub index-requires : goal.index-requires
-index-requires c =
-    let view = ap (λ (M : Lr0Automaton). length M.states) c.self.view_is in
-    let many = count_of c.self.inside.links.items c.self.inside.rows.items c.self.invariant.count in
-    let ok = c.self.inside.rows.ok.0 in
-    let less = c.requires in
-    omega arith
+index-requires c = omega (arith, row_there c.self.invariant c.self.view_is c.args.state.0 c.requires)
 
 pub returns : goal.returns
-returns c =
-    let view = ap (λ (M : Lr0Automaton). length M.states) c.self.view_is in
-    let links = c.self.inside.links.items in
-    let rows = c.self.inside.rows.items in
-    let s = c.args.state.0 in
-    let many = count_of links rows c.self.invariant.count in
-    let less : s < length rows = let l = c.requires in omega arith in
-    c.deref.ensures.value
-    ∙ sym (ap (λ q. q.complete)
-    (state_of c.self.inside.reduced.now.grammar links rows s c.index.result.now c.self.invariant.count less
-    c.index.ensures))
-    ∙ ap (λ M. (state_at M s).complete) c.self.view_is
+returns c = c.deref.ensures.value
+    ∙ row_complete c.self.invariant c.self.view_is c.args.state.0 c.requires c.index.result.now c.index.ensures

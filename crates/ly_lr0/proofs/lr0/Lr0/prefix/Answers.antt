@@ -1,19 +1,15 @@
 use Rattle.std.proofs.Common.{◌≡◌, ◌<◌, ◌-◌, ◌∙◌, suc, ap, arith, length, map, sym, slice_index_or, [], ◌++◌}
 use Rattle.std.proofs.lemmas.List.{append-nil}
 use Rattle.ly_join.specs.Grammar.{symbol_of}
-use Rattle.ly_lr0.specs.Automaton.{Lr0Automaton, prefix_of}
 use Rattle.ly_lr0.specs.Private.Built.{link_of, prefixes_of}
-use Rattle.ly_lr0.proofs.StateLemmas.{count_of, link_back, no_links_prefix, prefix_of_built, prefix_step}
+use Rattle.ly_lr0.proofs.RowLemmas.{count_rows, prefix_by_links}
+use Rattle.ly_lr0.proofs.StateLemmas.{link_back, no_links_prefix, prefix_step}
 use Rattle.ly_lr0.proofs.lr0.Lr0.prefix.Goals as goal
 
 pub loop-state-init : goal.loop-state-init
 loop-state-init c =
-    let view = ap (λ (M : Lr0Automaton). length M.states) c.self.view_is in
-    let many = count_of c.self.inside.links.items c.self.inside.rows.items c.self.invariant.count in
-    let count = c.self.invariant.count in
-    let less = c.requires in
     record {
-      within = omega arith;
+      within = omega (arith, count_rows c.self.invariant c.self.view_is, c.self.invariant.count);
       left = ap (λ xs. map symbol_of xs
           ++ slice_index_or (prefixes_of (map link_of c.self.inside.links.items)) c.args.state.0 [])
           c.new-prefix.ensures.items;
@@ -59,6 +55,4 @@ returns c =
     ∙ ap (λ n. map symbol_of c.loop-state.prefix.items ++ slice_index_or (prefixes_of (map link_of links)) n [])
     (sym start)
     ∙ c.loop-state.invariant.left
-    ∙ prefix_of_built c.self.inside.reduced.now.grammar links c.self.inside.rows.items c.args.state.0
-    c.self.invariant.count
-    ∙ ap (λ M. prefix_of M c.args.state.0) c.self.view_is
+    ∙ prefix_by_links c.self.invariant c.self.view_is c.args.state.0
