@@ -1,11 +1,11 @@
 -- What leads to states and what waits for nonterminals, as it is added.
-use Rattle.std.proofs.Common.{◌≡◌, ◌≢◌, ◌∙◌, ◌⊎◌, ◌↔◌, inl, inr, ℕ, ◌+◌, ◌<◌, ◌≤◌, List, [], ◌∷◌, ◌++◌, Some, None}
+use Rattle.std.proofs.Common.{◌≡◌, ◌≢◌, ◌∙◌, ◌⊎◌, ◌↔◌, inl, inr, ℕ, ◌+◌, ◌<◌, ◌≤◌, List, [], ◌∷◌, ◌++◌, Some}
 use Rattle.std.proofs.Common.{refl, sym, ap, subst, arith, length, map, take, drop, slice_get}
 use Rattle.std.proofs.Common.{slice_index_or, slice_set, All, Contains}
-use Rattle.std.specs.Prelude.{Bool, false, filter, not, option_and_then, true}
+use Rattle.std.specs.Prelude.{Bool, false, filter, not, true}
 use Rattle.std.proofs.lemmas.List.{get_or-set_same, get_or-set_other, length-set}
 use Rattle.std.proofs.lemmas.Bool.{cases_order}
-use Rattle.std.proofs.lemmas.Option.{slice_get_past, slice_get_within}
+use Rattle.std.proofs.lemmas.Option.{slice_get_within}
 use Rattle.ly_base.specs.declared.numbers.StateNo.{StateNo}
 use Rattle.ly_join.specs.Grammar.{Grammar, IsAugmented, IsRule, GrammarRule, Symbol, nonterminal, symbol_of, terminal}
 use Rattle.ly_join.proofs.ListLemmas.{in_mapped, mapped_in}
@@ -15,7 +15,7 @@ use Rattle.ly_lr0.specs.Automaton.{Lr0Automaton, IsLr0Automaton, IsState, Transi
 use Rattle.ly_lr0.specs.Automaton.{is_terminal, state_at, target_of}
 use Rattle.ly_lr0.specs.Transitions.{transition_of}
 use Rattle.ly_lr0.specs.declared.transition.Transition as code
-use Rattle.ly_lr0.proofs.StateLemmas.{state_there, target_some}
+use Rattle.ly_lr0.proofs.StateLemmas.{goes_by, goto_some, state_there, target_some}
 use Rattle.ly_relate.specs.Private.Walks.{HasNumberTo}
 use Rattle.ly_relate.proofs.GotoLemmas.{has_target}
 use Rattle.ly_resolve.proofs.MeetingLemmas.{filter_in, in_filter}
@@ -232,16 +232,13 @@ module _ (M : Lr0Automaton) (is : IsLr0Automaton M) (from : StateNo) (lt : from.
       → (t : code.Transition) → Contains ts t → t.target.0 < length M.states
   target_within p ts shown t has = these.within (transition_of t) (passed_there p ts shown t has)
 
-  goes : (X : Symbol) → goto_of M from.0 X ≡ target_of transitions X
-  goes X = ap (option_and_then (λ q. target_of q.transitions X)) (state_there M from.0 lt)
-
   -- by one of those that pass a test the state goes where it leads
   source_leads : (p : Transition → Bool) (ts : List code.Transition) → map transition_of ts ≡ filter p transitions
       → (s : ℕ) (q : StateNo) → IsRelated (IsSourceBy from s) ts q
       → (from ≡ q) × (X : Symbol) × (goto_of M from.0 X ≡ Some s)
   source_leads p ts shown s q (t, among, (target, e)) =
       let there = has_target transitions (transition_of t) these.ordered (passed_there p ts shown t among) in
-      (e, symbol_of t.symbol, goes (symbol_of t.symbol) ∙ there ∙ ap (λ n. Some n) target)
+      (e, symbol_of t.symbol, goes_by M from.0 (symbol_of t.symbol) lt ∙ there ∙ ap (λ n. Some n) target)
 
   -- where the state goes by a symbol, one of those over the symbol's kind leads
   leading_source : (p : Transition → Bool) (ts : List code.Transition) → map transition_of ts ≡ filter p transitions
@@ -249,7 +246,8 @@ module _ (M : Lr0Automaton) (is : IsLr0Automaton M) (from : StateNo) (lt : from.
       → IsRelated (IsSourceBy from s) ts from
   leading_source p ts shown s X leads passes =
       let u : Transition = record { symbol = X; target = s } in
-      let among = in_filter p transitions u (target_some transitions X s (sym (goes X) ∙ leads)) passes in
+      let leads' : target_of transitions X ≡ Some s = sym (goes_by M from.0 X lt) ∙ leads in
+      let among = in_filter p transitions u (target_some transitions X s leads') passes in
       let it = in_mapped transition_of ts u (subst (λ w. Contains w u) (sym shown) among) in
       (it.0, it.1, (ap (λ v. v.target) it.2, refl))
 
@@ -309,23 +307,7 @@ sources_all M lists n past are = record {
   );
 } where
   early : (r : ℕ) (X : Symbol) (s : ℕ) → goto_of M r X ≡ Some s → r < n
-  early r X s leads = elim (cases_order r n) [
-    | inl same ↦ absurd (nowhere r X s leads (omega (arith, same, past)))
-    | inr (inl less) ↦ less
-    | inr (inr more') ↦ absurd (nowhere r X s leads (omega (arith, more', past)))
-  ]
-    where
-      nowhere : (r : ℕ) (X : Symbol) (s : ℕ) → goto_of M r X ≡ Some s → length M.states ≤ r → ⊥
-      nowhere r X s leads le =
-          let none : goto_of M r X ≡ None
-          = ap (option_and_then (λ q. target_of q.transitions X)) (slice_get_past M.states r le) in
-          cc
-
--- a state leads to states
-pub goto_within : (M : Lr0Automaton) → IsLr0Automaton M → (s : ℕ) (X : Symbol) (t : ℕ) → s < length M.states
-    → goto_of M s X ≡ Some t → t < length M.states
-goto_within M is s X t lt e =
-    let there = state_there M s lt in
-    let to : target_of (state_at M s).transitions X ≡ Some t
-    = sym (ap (option_and_then (λ q. target_of q.transitions X)) there) ∙ e in
-    (is.each s (state_at M s) there).within _ (target_some (state_at M s).transitions X t to)
+  early r X s leads =
+      let from = goto_some M.states r X s leads in
+      let there = slice_get_within M.states r from.0 from.1 in
+      omega (arith, there, past)
