@@ -153,8 +153,8 @@ impl Pair {
         Ok(Some(before))
     }
 
-    /// Whether one of the states is come to by a symbol, if there is one. It is asked of each rule that may stand around
-    /// a reading, and mostly answers no.
+    /// Whether one of the states is come to by a symbol, if there is one. It is asked of each rule that may stand
+    /// around a reading, and mostly answers no.
     fn goes_back_over(&self, lr0: &Lr0<'_>, symbol: Option<&Symbol>) -> bool {
         match symbol {
             Some(symbol) => self
