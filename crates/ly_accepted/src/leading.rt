@@ -35,7 +35,7 @@ pub(crate) fn states_before(
     let mut before = Vec::new(alloc);
     for state in states {
         if (state.0 as usize) < lr0.states() && lr0.accessing_symbol(*state) == Some(symbol) {
-            before.extend_from_slice(examples.sources(*state))?;
+            before.extend_from_slice(examples.predecessors(*state))?;
         }
     }
     Ok(before)

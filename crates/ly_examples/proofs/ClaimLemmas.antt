@@ -323,7 +323,8 @@ module _ (G : Grammar) (X : Symbol) (d : Demand) (first second : Option Claim)
 abbrev pub pop_from : code.Symbol → Demand → StateNo → Pop
 pop_from X e q = record { symbol = X; demand = record e { state = q } }
 
--- All transitions to the state of a demand are over one symbol, so it pops over that alone, from each source of the
+-- All transitions to the state of a demand are over one symbol, so it pops over that alone, from each predecessor of
+-- the
 -- state.
 module _ (M : Lr0Automaton) (d : Demand) (symbol : Option code.Symbol)
     (only : (q : ℕ) (X : Symbol) → goto_of M q X ≡ Some d.state.0 → option_map symbol_of symbol ≡ Some X) where

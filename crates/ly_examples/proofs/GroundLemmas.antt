@@ -20,8 +20,9 @@ use Rattle.ly_relate.specs.Private.Walks.{HasNumberTo}
 use Rattle.ly_relate.proofs.GotoLemmas.{has_target}
 use Rattle.ly_resolve.proofs.MeetingLemmas.{filter_in, in_filter}
 use Rattle.ly_lr0.specs.declared.item.Item.{Item}
-use Rattle.ly_examples.specs.Private.Grounds.{AreSources, AreWaiting}
-use Rattle.ly_examples.specs.Private.Lists.{AreSourcesAdded, AreSourcesOf, AreWaitingAdded, AreWaitingOf, IsSourceBy}
+use Rattle.ly_examples.specs.Private.Grounds.{ArePredecessors, AreWaiting}
+use Rattle.ly_examples.specs.Private.Lists.{ArePredecessorsAdded, ArePredecessorsOf, AreWaitingAdded, AreWaitingOf}
+use Rattle.ly_examples.specs.Private.Lists.{IsPredecessorBy}
 use Rattle.ly_examples.specs.Private.Met.{item_at}
 use Rattle.ly_examples.specs.Private.Steps.{IsRelated}
 use Rattle.ly_examples.proofs.BackLemmas.{ahead_at, at_ahead, none_related, pushed_one, related_beside}
@@ -190,26 +191,26 @@ waiting_all G lists n past are = record {
   );
 }
 
--- SOURCES
+-- PREDECESSORS
 
-pub sources_none : (lists : List (List StateNo)) (from : StateNo) (ts : List code.Transition)
-    → AreSourcesAdded lists lists from (take 0 ts)
-sources_none lists from ts = record {
+pub predecessors_none : (lists : List (List StateNo)) (from : StateNo) (ts : List code.Transition)
+    → ArePredecessorsAdded lists lists from (take 0 ts)
+predecessors_none lists from ts = record {
   count = refl;
   exact = λ s q. (
     λ has. inl has,
-    λ either. elim either [ inl was ↦ was | inr none ↦ absurd (none_related (IsSourceBy from s) ts q none) ],
+    λ either. elim either [ inl was ↦ was | inr none ↦ absurd (none_related (IsPredecessorBy from s) ts q none) ],
   );
 }
 
-pub sources_more : (old mid new : List (List StateNo)) (from : StateNo) (ts : List code.Transition) (k : ℕ)
+pub predecessors_more : (old mid new : List (List StateNo)) (from : StateNo) (ts : List code.Transition) (k : ℕ)
     (t : code.Transition) → k < length ts → (slice_index_or ts k t).target.0 < length mid
     → new ≡ slice_set mid (slice_index_or ts k t).target.0 (slice_index_or mid (slice_index_or ts k t).target.0 []
     ++ from ∷ [])
-    → AreSourcesAdded old mid from (take k ts) → AreSourcesAdded old new from (take (k + 1) ts)
-sources_more old mid new from ts k t lt within e are = record {
+    → ArePredecessorsAdded old mid from (take k ts) → ArePredecessorsAdded old new from (take (k + 1) ts)
+predecessors_more old mid new from ts k t lt within e are = record {
   count = ap length e ∙ length-set mid (slice_index_or ts k t).target.0 _ ∙ are.count;
-  exact = λ s. related_beside (IsSourceBy from s) ts (λ y. Contains (slice_index_or old s []) y) k t lt
+  exact = λ s. related_beside (IsPredecessorBy from s) ts (λ y. Contains (slice_index_or old s []) y) k t lt
       (slice_index_or mid s []) (slice_index_or new s [])
       (pushed_into mid new (slice_index_or ts k t).target.0 from within e s) (are.exact s);
 }
@@ -233,18 +234,19 @@ module _ (M : Lr0Automaton) (is : IsLr0Automaton M) (from : StateNo) (lt : from.
   target_within p ts shown t has = these.within (transition_of t) (passed_there p ts shown t has)
 
   -- by one of those that pass a test the state goes where it leads
-  source_leads : (p : Transition → Bool) (ts : List code.Transition) → map transition_of ts ≡ filter p transitions
-      → (s : ℕ) (q : StateNo) → IsRelated (IsSourceBy from s) ts q
+  predecessor_leads : (p : Transition → Bool) (ts : List code.Transition) → map transition_of ts ≡ filter p transitions
+      → (s : ℕ) (q : StateNo) → IsRelated (IsPredecessorBy from s) ts q
       → (from ≡ q) × (X : Symbol) × (goto_of M from.0 X ≡ Some s)
-  source_leads p ts shown s q (t, among, (target, e)) =
+  predecessor_leads p ts shown s q (t, among, (target, e)) =
       let there = has_target transitions (transition_of t) these.ordered (passed_there p ts shown t among) in
       (e, symbol_of t.symbol, goes_by M from.0 (symbol_of t.symbol) lt ∙ there ∙ ap (λ n. Some n) target)
 
   -- where the state goes by a symbol, one of those over the symbol's kind leads
-  leading_source : (p : Transition → Bool) (ts : List code.Transition) → map transition_of ts ≡ filter p transitions
+  leading_predecessor : (p : Transition → Bool) (ts : List code.Transition)
+      → map transition_of ts ≡ filter p transitions
       → (s : ℕ) (X : Symbol) → goto_of M from.0 X ≡ Some s → p (record { symbol = X; target = s }) ≡ true
-      → IsRelated (IsSourceBy from s) ts from
-  leading_source p ts shown s X leads passes =
+      → IsRelated (IsPredecessorBy from s) ts from
+  leading_predecessor p ts shown s X leads passes =
       let u : Transition = record { symbol = X; target = s } in
       let leads' : target_of transitions X ≡ Some s = sym (goes_by M from.0 X lt) ∙ leads in
       let among = in_filter p transitions u (target_some transitions X s leads') passes in
@@ -254,18 +256,19 @@ module _ (M : Lr0Automaton) (is : IsLr0Automaton M) (from : StateNo) (lt : from.
   module _ (shifts gotos : List code.Transition)
       (over_terminals : map transition_of shifts ≡ filter is_shift transitions)
       (over_nonterminals : map transition_of gotos ≡ filter is_goto transitions) where
-    -- the state was added to the sources of those to which it leads
-    source_added : (s : ℕ) (X : Symbol) → goto_of M from.0 X ≡ Some s
-        → IsRelated (IsSourceBy from s) shifts from ⊎ IsRelated (IsSourceBy from s) gotos from
-    source_added s X leads = kind (is_terminal X) refl where
+    -- the state was added to the predecessors of those to which it leads
+    predecessor_added : (s : ℕ) (X : Symbol) → goto_of M from.0 X ≡ Some s
+        → IsRelated (IsPredecessorBy from s) shifts from ⊎ IsRelated (IsPredecessorBy from s) gotos from
+    predecessor_added s X leads = kind (is_terminal X) refl where
       kind : (b : Bool) → is_terminal X ≡ b
-          → IsRelated (IsSourceBy from s) shifts from ⊎ IsRelated (IsSourceBy from s) gotos from
-      kind true e = inl (leading_source is_shift shifts over_terminals s X leads e)
-      kind false e = inr (leading_source is_goto gotos over_nonterminals s X leads (ap not e))
+          → IsRelated (IsPredecessorBy from s) shifts from ⊎ IsRelated (IsPredecessorBy from s) gotos from
+      kind true e = inl (leading_predecessor is_shift shifts over_terminals s X leads e)
+      kind false e = inr (leading_predecessor is_goto gotos over_nonterminals s X leads (ap not e))
 
-    pub source_done : (old mid new : List (List StateNo)) → AreSourcesOf M old from.0
-        → AreSourcesAdded old mid from shifts → AreSourcesAdded mid new from gotos → AreSourcesOf M new (from.0 + 1)
-    source_done old mid new before first second = record {
+    pub predecessor_done : (old mid new : List (List StateNo)) → ArePredecessorsOf M old from.0
+        → ArePredecessorsAdded old mid from shifts → ArePredecessorsAdded mid new from gotos
+        → ArePredecessorsOf M new (from.0 + 1)
+    predecessor_done old mid new before first second = record {
       count = second.count ∙ first.count ∙ before.count;
       exact = λ s q less. (
         λ has. elim ((second.exact s q).0 has) [
@@ -273,15 +276,15 @@ module _ (M : Lr0Automaton) (is : IsLr0Automaton M) (from : StateNo) (lt : from.
             | inl older ↦
                 let there = (before.exact s q less).0 older in
                 ((let e = there.0 in omega (arith, e)), there.1, there.2)
-            | inr some ↦ here s q (source_leads is_shift shifts over_terminals s q some)
+            | inr some ↦ here s q (predecessor_leads is_shift shifts over_terminals s q some)
           ]
-          | inr some ↦ here s q (source_leads is_goto gotos over_nonterminals s q some)
+          | inr some ↦ here s q (predecessor_leads is_goto gotos over_nonterminals s q some)
         ],
         λ (early, X, leads). elim (cases_order q.0 from.0) [
           | inl same ↦
               let it : from ≡ q = ap (λ n. record { 0 = n }) (sym same) in
               subst (Contains (slice_index_or new s [])) it
-              (elim (source_added s X (ap (λ n. goto_of M n X) (sym same) ∙ leads)) [
+              (elim (predecessor_added s X (ap (λ n. goto_of M n X) (sym same) ∙ leads)) [
                 | inl one ↦ (second.exact s from).1 (inl ((first.exact s from).1 (inr one)))
                 | inr one ↦ (second.exact s from).1 (inr one)
               ])
@@ -297,9 +300,9 @@ module _ (M : Lr0Automaton) (is : IsLr0Automaton M) (from : StateNo) (lt : from.
           let same : from.0 ≡ q.0 = ap (λ v. v.0) e in
           ((omega (arith, same)), X, subst (λ n. goto_of M n X ≡ Some s) same leads)
 
-pub sources_all : (M : Lr0Automaton) (lists : List (List StateNo)) (n : ℕ) → length M.states ≤ n
-    → AreSourcesOf M lists n → AreSources M lists
-sources_all M lists n past are = record {
+pub predecessors_all : (M : Lr0Automaton) (lists : List (List StateNo)) (n : ℕ) → length M.states ≤ n
+    → ArePredecessorsOf M lists n → ArePredecessors M lists
+predecessors_all M lists n past are = record {
   count = are.count;
   exact = λ s q less. (
     λ has. let there = (are.exact s q less).0 has in (there.1, there.2),

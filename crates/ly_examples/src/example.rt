@@ -87,12 +87,12 @@ impl<'a> Examples<'a> {
     }
 
     /// The states from which transitions lead to a state.
-    pub fn sources(&self, state: StateNo) -> &[StateNo]
+    pub fn predecessors(&self, state: StateNo) -> &[StateNo]
         requires { state.0 < length self.now.automaton.states }
         ensures { (q : state_numbers.StateNo) → Contains result.now q
             ↔ ((X : GrammarSymbol) × (goto_of self.now.automaton q.0 X ≡ Some state.0)) }
     {
-        self.ground.sources.of(state.0 as usize)
+        self.ground.predecessors.of(state.0 as usize)
     }
 
     /// The items that wait for a nonterminal: they have it behind the dot, and their rules are kept.

@@ -4,8 +4,8 @@ ghost use Rattle.ly_join.specs.Grammar.{symbol_of};
 ghost use Rattle.ly_grammar.specs.Private.Search.{HasNumberBelow};
 ghost use Rattle.ly_lr0.specs.Automaton.{IsLr0Automaton};
 ghost use Rattle.ly_lr0.specs.declared.transition.Transition as code;
-ghost use Rattle.ly_examples.specs.Private.Grounds.{AreSources, AreWaiting};
-ghost use Rattle.ly_examples.specs.Private.Lists.{AreSourcesAdded, AreSourcesOf, AreWaitingAdded, IsGround};
+ghost use Rattle.ly_examples.specs.Private.Grounds.{ArePredecessors, AreWaiting};
+ghost use Rattle.ly_examples.specs.Private.Lists.{ArePredecessorsAdded, ArePredecessorsOf, AreWaitingAdded, IsGround};
 
 use crate::claim::{Claim, Demand};
 use crate::lists::Lists;
@@ -20,7 +20,7 @@ pub(crate) struct Ground<'a> {
     /// The automaton.
     pub(crate) lr0: &'a Lr0<'a>,
     /// For each state those from which transitions lead to it.
-    pub(crate) sources: Lists<StateNo>,
+    pub(crate) predecessors: Lists<StateNo>,
     /// For each nonterminal the items that wait for it: they have it behind the dot.
     pub(crate) waiting: Lists<Item>,
     /// For each state how long its prefix is.
@@ -60,11 +60,11 @@ pub(crate) fn ground_of<'a>(alloc: Global, lr0: &'a Lr0<'a>) -> Result<Ground<'a
 {
     let lengths = lengths_of(alloc, lr0)?;
     let waiting = waiting_of(alloc, lr0)?;
-    let sources = sources_of(alloc, lr0)?;
+    let predecessors = predecessors_of(alloc, lr0)?;
     let weights = weights_of(alloc, lr0)?;
     Ok(Ground {
         lr0,
-        sources,
+        predecessors,
         waiting,
         lengths,
         weights,
@@ -72,44 +72,44 @@ pub(crate) fn ground_of<'a>(alloc: Global, lr0: &'a Lr0<'a>) -> Result<Ground<'a
 }
 
 /// For each state those from which transitions lead to it, in their order.
-fn sources_of(alloc: Global, lr0: &Lr0<'_>) -> Result<Lists<StateNo>, OutOfMemory>
-    ensures sources { IfOk result (AreSources lr0.now) }
+fn predecessors_of(alloc: Global, lr0: &Lr0<'_>) -> Result<Lists<StateNo>, OutOfMemory>
+    ensures predecessors { IfOk result (ArePredecessors lr0.now) }
     ensures lawful { IsLr0Automaton lr0.now }
 {
-    let mut sources = Lists::new(alloc, lr0.states())?;
+    let mut predecessors = Lists::new(alloc, lr0.states())?;
     for state in 0..lr0.states() {
-        push_source(&mut sources, lr0, StateNo(state as u32))?;
+        push_predecessor(&mut predecessors, lr0, StateNo(state as u32))?;
     }
-    Ok(sources)
+    Ok(predecessors)
 }
 
-/// Adds a state to the sources of those to which its transitions lead.
-fn push_source(
-    sources: &mut Lists<StateNo>,
+/// Adds a state to the predecessors of those to which its transitions lead.
+fn push_predecessor(
+    predecessors: &mut Lists<StateNo>,
     lr0: &Lr0<'_>,
-    source: StateNo,
+    predecessor: StateNo,
 ) -> Result<(), OutOfMemory>
     requires lawful { IsLr0Automaton lr0.now }
-    requires state { source.0 < length lr0.now.states }
-    requires before { AreSourcesOf lr0.now sources.old source.0 }
-    ensures { OnOk result (AreSourcesOf lr0.now sources.new (source.0 + 1)) }
+    requires state { predecessor.0 < length lr0.now.states }
+    requires before { ArePredecessorsOf lr0.now predecessors.old predecessor.0 }
+    ensures { OnOk result (ArePredecessorsOf lr0.now predecessors.new (predecessor.0 + 1)) }
 {
-    push_to_each(sources, source, lr0.shifts(source))?;
-    push_to_each(sources, source, lr0.gotos(source))?;
+    push_to_each(predecessors, predecessor, lr0.shifts(predecessor))?;
+    push_to_each(predecessors, predecessor, lr0.gotos(predecessor))?;
     Ok(())
 }
 
-/// Adds a state to the sources of those to which transitions lead.
+/// Adds a state to the predecessors of those to which transitions lead.
 fn push_to_each(
-    sources: &mut Lists<StateNo>,
-    source: StateNo,
+    predecessors: &mut Lists<StateNo>,
+    predecessor: StateNo,
     transitions: &[Transition],
 ) -> Result<(), OutOfMemory>
-    requires { (t : code.Transition) → Contains transitions.now t → t.target.0 < length sources.old }
-    ensures { OnOk result (AreSourcesAdded sources.old sources.new source transitions.now) }
+    requires { (t : code.Transition) → Contains transitions.now t → t.target.0 < length predecessors.old }
+    ensures { OnOk result (ArePredecessorsAdded predecessors.old predecessors.new predecessor transitions.now) }
 {
     for transition in transitions {
-        sources.push(transition.target.0 as usize, source)?;
+        predecessors.push(transition.target.0 as usize, predecessor)?;
     }
     Ok(())
 }

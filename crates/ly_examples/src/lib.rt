@@ -9,7 +9,7 @@
 //! begins what stands behind, or is handed up. Where no example is, only merging made the conflict.
 //! `Examples::of_rule` and `Examples::of_choice` seek one for each action by itself, and `Examples::none_has_one` asks
 //! many conflicts at once. What leads back is looked up: the states from which transitions lead to one, and the items
-//! that wait for a nonterminal (`Examples::sources`, `Examples::waiting`).
+//! that wait for a nonterminal (`Examples::predecessors`, `Examples::waiting`).
 //!
 //! `unmatched_rules` lists the rules of the lex file that never match (`NeverMatches`): they win at no place of any
 //! text (`MatchedWin`). `unreduced_rules` lists the useful rules of the grammar by which nothing is reduced

@@ -170,11 +170,11 @@ pub(crate) fn pops(
     let Some(popped) = both_popped(ground, demand, symbol) else {
         return Ok(found);
     };
-    for source in ground.sources.of(demand.state.0 as usize) {
+    for predecessor in ground.predecessors.of(demand.state.0 as usize) {
         found.push(Pop {
             symbol,
             demand: Demand {
-                state: *source,
+                state: *predecessor,
                 ..popped
             },
         })?;

@@ -7,7 +7,7 @@ use Rattle.ly_examples.specs.Demands.{IsAhead}
 use Rattle.ly_lr0.specs.declared.item.Item.{Item}
 
 -- For each state those from which transitions lead to it.
-pub record AreSources (M : Lr0Automaton) (lists : List (List StateNo)) : Type 0 where
+pub record ArePredecessors (M : Lr0Automaton) (lists : List (List StateNo)) : Type 0 where
   pub count : length lists ≡ length M.states
   pub exact : (s : ℕ) (q : StateNo) → s < length M.states → Contains (slice_index_or lists s []) q
       ↔ ((X : Symbol) × (goto_of M q.0 X ≡ Some s))

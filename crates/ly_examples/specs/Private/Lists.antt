@@ -9,10 +9,10 @@ use Rattle.ly_examples.specs.Demands.{IsAhead}
 use Rattle.ly_examples.specs.Private.Steps.{IsRelated}
 use Rattle.ly_lr0.specs.declared.item.Item.{Item}
 use Rattle.ly_examples.specs.declared.ground.Ground.{Ground}
-use Rattle.ly_examples.specs.Private.Grounds.{AreSources, AreWaiting}
+use Rattle.ly_examples.specs.Private.Grounds.{ArePredecessors, AreWaiting}
 
 -- for each state those of the first n from which transitions lead to it
-pub record AreSourcesOf (M : Lr0Automaton) (lists : List (List StateNo)) (n : ℕ) : Type 0 where
+pub record ArePredecessorsOf (M : Lr0Automaton) (lists : List (List StateNo)) (n : ℕ) : Type 0 where
   pub count : length lists ≡ length M.states
   pub exact : (s : ℕ) (q : StateNo) → s < length M.states → Contains (slice_index_or lists s []) q
       ↔ ((q.0 < n) × (X : Symbol) × (goto_of M q.0 X ≡ Some s))
@@ -27,19 +27,19 @@ pub record AreWaitingAdded (old new : List (List Item)) (body : List Symbol) (ru
 -- an automaton, what leads to its states, what waits for its nonterminals, and a length for each state
 pub record IsGround (g : Ground) : Type 0 where
   pub lawful : IsLr0Automaton g.lr0.now
-  pub sources : AreSources g.lr0.now g.sources
+  pub predecessors : ArePredecessors g.lr0.now g.predecessors
   pub waiting : AreWaiting g.lr0.now.grammar g.waiting
   pub lengths : length g.lengths.items ≡ length g.lr0.now.states
 
 -- the transition leads to the state, from the other one
-abbrev pub IsSourceBy : StateNo → ℕ → Transition → StateNo → Type 0
-IsSourceBy from s t q = (t.target.0 ≡ s) × (from ≡ q)
+abbrev pub IsPredecessorBy : StateNo → ℕ → Transition → StateNo → Type 0
+IsPredecessorBy from s t q = (t.target.0 ≡ s) × (from ≡ q)
 
--- a state was added to the sources of those to which transitions lead
-pub record AreSourcesAdded (old new : List (List StateNo)) (from : StateNo) (ts : List Transition) : Type 0 where
+-- a state was added to the predecessors of those to which transitions lead
+pub record ArePredecessorsAdded (old new : List (List StateNo)) (from : StateNo) (ts : List Transition) : Type 0 where
   pub count : length new ≡ length old
   pub exact : (s : ℕ) (q : StateNo) → Contains (slice_index_or new s []) q
-      ↔ (Contains (slice_index_or old s []) q ⊎ IsRelated (IsSourceBy from s) ts q)
+      ↔ (Contains (slice_index_or old s []) q ⊎ IsRelated (IsPredecessorBy from s) ts q)
 
 -- the items of the first n rules that wait for a nonterminal
 pub record AreWaitingOf (G : Grammar) (lists : List (List Item)) (n : ℕ) : Type 0 where

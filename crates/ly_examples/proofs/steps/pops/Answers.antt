@@ -8,7 +8,7 @@ use Rattle.ly_examples.proofs.BackLemmas.{all_related, none_at_all, only_none, r
 use Rattle.ly_examples.proofs.ClaimLemmas.{pop_from, pops_are, pops_never}
 use Rattle.ly_examples.proofs.steps.pops.Goals as goal
 
--- what stands where no source does
+-- what stands where no predecessor does
 abbrev none : StateNo
 none = record { 0 = 0 }
 
@@ -22,15 +22,17 @@ returns-in_default-both_popped c =
     only_none (λ p. IsPop M (symbol_of p.symbol) d p.demand) found found c.new-found.ensures.items refl
     (pops_never M d c.accessing_symbol.result c.accessing_symbol.ensures.only c.in-Some.symbol c.in-Some.is never)
 
-pub loop-source-preserved : goal.loop-source-preserved
-loop-source-preserved c =
+pub loop-predecessor-preserved : goal.loop-predecessor-preserved
+loop-predecessor-preserved c =
     let X = c.in-Some.symbol in
     let e = c.in-Some-both_popped.popped in
-    let qs = c.of-source-items.result.now in
-    let k = c.loop-source.source-index in
-    related_on (λ q r. pop_from X e q ≡ r) qs k none c.loop-source-test.true (pop_from X e (slice_index_or qs k none))
-    (λ r. ((λ same. same), (λ same. same))) c.loop-source.found.items c.push.new.self.items c.in_ok-push.ensures.items
-    c.loop-source.invariant
+    let qs = c.of-predecessor-items.result.now in
+    let k = c.loop-predecessor.predecessor-index in
+    related_on (λ q r. pop_from X e q ≡ r) qs k none c.loop-predecessor-test.true (pop_from X e (slice_index_or qs k
+    none))
+    (λ r. ((λ same. same), (λ same. same))) c.loop-predecessor.found.items c.push.new.self.items
+    c.in_ok-push.ensures.items
+    c.loop-predecessor.invariant
 
 pub returns : goal.returns
 returns c p =
@@ -38,12 +40,13 @@ returns c p =
     let d = c.args.demand in
     let X = c.in-Some.symbol in
     let e = c.in-Some-both_popped.popped in
-    let qs = c.of-source-items.result.now in
+    let qs = c.of-predecessor-items.result.now in
     let one = some_alone (ArePopped M.grammar (symbol_of X) d) c.both_popped.result c.both_popped.ensures e
     c.in-Some-both_popped.is in
     let are = pops_are M d c.accessing_symbol.result c.accessing_symbol.ensures.only X c.in-Some.is e one qs
     (λ q. subst (λ w. Contains w q ↔ ((Y : Symbol) × (goto_of M q.0 Y ≡ Some d.state.0)))
-    (sym c.of-source-items.ensures) (c.requires.ground.sources.exact d.state.0 q c.requires.kept.state)) p in
-    let all = all_related (λ q r. pop_from X e q ≡ r) qs c.loop-source.source-index c.loop-source-test.false p in
-    let inv = c.loop-source.invariant p in
+    (sym c.of-predecessor-items.ensures) (c.requires.ground.predecessors.exact d.state.0 q c.requires.kept.state)) p in
+    let all = all_related (λ q r. pop_from X e q ≡ r) qs c.loop-predecessor.predecessor-index
+    c.loop-predecessor-test.false p in
+    let inv = c.loop-predecessor.invariant p in
     ((λ has. are.0 (all.0 (inv.0 has))), (λ pops. inv.1 (all.1 (are.1 pops))))

@@ -4,7 +4,7 @@ use Rattle.ly_examples.specs.Private.Steps.{IsRelated}
 use Rattle.ly_examples.proofs.ClaimLemmas.{pop_from}
 use Rattle.ly_examples.proofs.steps.pops.Given as goal
 
--- those from the sources so far
-abbrev pub invariant-loop-source : goal.invariant-loop-source
-invariant-loop-source l = (p : Pop) → Contains l.found.items p
-    ↔ IsRelated (λ q r. pop_from l.symbol l.popped q ≡ r) (take l.source-index l.source-items) p
+-- those from the predecessors so far
+abbrev pub invariant-loop-predecessor : goal.invariant-loop-predecessor
+invariant-loop-predecessor l = (p : Pop) → Contains l.found.items p
+    ↔ IsRelated (λ q r. pop_from l.symbol l.popped q ≡ r) (take l.predecessor-index l.predecessor-items) p
