@@ -324,8 +324,7 @@ abbrev pub pop_from : code.Symbol → Demand → StateNo → Pop
 pop_from X e q = record { symbol = X; demand = record e { state = q } }
 
 -- All transitions to the state of a demand are over one symbol, so it pops over that alone, from each predecessor of
--- the
--- state.
+-- the state.
 module _ (M : Lr0Automaton) (d : Demand) (symbol : Option code.Symbol)
     (only : (q : ℕ) (X : Symbol) → goto_of M q X ≡ Some d.state.0 → option_map symbol_of symbol ≡ Some X) where
   module _ (X : code.Symbol) (there : symbol ≡ Some X) where

@@ -18,16 +18,16 @@ pub push-requires : goal.push-requires
 push-requires c =
     let lt = c.requires _ (Contains-get_or c.args.transitions.now c.loop-transition.transition-index none
     c.loop-transition-test.true) in
-    let long : length c.loop-transition.predecessors ≡ length c.args.predecessors.now =
-    c.loop-transition.invariant.count in
+    let long : length c.loop-transition.predecessors ≡ length c.args.predecessors.now
+    = c.loop-transition.invariant.count in
     omega (arith, lt, long)
 
 pub loop-transition-preserved : goal.loop-transition-preserved
 loop-transition-preserved c =
     let lt = c.requires _ (Contains-get_or c.args.transitions.now c.loop-transition.transition-index none
     c.loop-transition-test.true) in
-    let long : length c.loop-transition.predecessors ≡ length c.args.predecessors.now =
-    c.loop-transition.invariant.count in
+    let long : length c.loop-transition.predecessors ≡ length c.args.predecessors.now
+    = c.loop-transition.invariant.count in
     predecessors_more c.args.predecessors.now c.loop-transition.predecessors c.push.new.self c.args.predecessor
     c.args.transitions.now
     c.loop-transition.transition-index none c.loop-transition-test.true (omega (arith, lt, long)) c.in_ok-push.ensures

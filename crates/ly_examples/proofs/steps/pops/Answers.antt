@@ -28,8 +28,8 @@ loop-predecessor-preserved c =
     let e = c.in-Some-both_popped.popped in
     let qs = c.of-predecessor-items.result.now in
     let k = c.loop-predecessor.predecessor-index in
-    related_on (λ q r. pop_from X e q ≡ r) qs k none c.loop-predecessor-test.true (pop_from X e (slice_index_or qs k
-    none))
+    related_on (λ q r. pop_from X e q ≡ r) qs k none c.loop-predecessor-test.true
+    (pop_from X e (slice_index_or qs k none))
     (λ r. ((λ same. same), (λ same. same))) c.loop-predecessor.found.items c.push.new.self.items
     c.in_ok-push.ensures.items
     c.loop-predecessor.invariant
