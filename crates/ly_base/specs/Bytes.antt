@@ -1,4 +1,4 @@
--- Bytes by their names, where a definition speaks of single ones.
+-- Names of single bytes, for use in definitions.
 use Rattle.std.specs.Prelude.{ℕ}
 
 abbrev pub tab : ℕ

@@ -1,11 +1,11 @@
--- The bytes of gaps and names (POSIX, XCU lex and yacc).
+-- The bytes of whitespace and names (POSIX, XCU lex and yacc).
 use Rattle.std.specs.Prelude.{◌≡◌, ◌≢◌, ◌&&◌, ◌||◌, ℕ, List, [], ◌∷◌, ◌++◌, Bool, IsTrue, nat_eq, nat_le}
 use Rattle.ly_base.specs.Blank.{is_blank}
 use Rattle.ly_base.specs.Escapes.{AllPass, Stops}
 use Rattle.ly_base.specs.declared.language.Language.{Language}
 use Rattle.ly_base.specs.declared.language.Language.TheVariants.{Lex, Yacc}
 
--- a blank; between words of yacc files newlines stand too
+-- a blank; in yacc files also a newline
 abbrev pub is_space : Language → ℕ → Bool
 is_space Lex b = is_blank b
 is_space Yacc b = is_blank b || nat_eq b 10
@@ -23,7 +23,7 @@ abbrev pub starts_name : Language → ℕ → Bool
 starts_name Lex b = is_letter b
 starts_name Yacc b = is_letter b || nat_eq b 46
 
--- that or a digit
+-- one of these or a digit
 abbrev pub continues_name : Language → ℕ → Bool
 continues_name l b = starts_name l b || is_decimal b
 

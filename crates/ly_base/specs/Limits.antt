@@ -1,10 +1,10 @@
--- The sizes that lytab refuses to pass.
+-- The greatest sizes that lytab accepts.
 use Rattle.std.specs.Prelude.{ℕ, ◌≤◌, min}
 use Rattle.ly_base.specs.declared.limits.Limits.TheInside.{Inside}
 use Rattle.ly_base.specs.declared.version.Version.{Version}
 use Rattle.ly_base.specs.declared.version.Version.TheVariants.{V1, V2}
 
--- the greatest that each may be
+-- the greatest value of each size
 pub record Sizes : Type 0 where
   pub symbols : ℕ
   pub yacc_rules : ℕ
@@ -17,7 +17,7 @@ pub record Sizes : Type 0 where
   pub pattern_weight : ℕ
   pub total_weight : ℕ
 
--- those of version 1
+-- the sizes of version 1
 abbrev pub version_1 : Sizes
 version_1 = record {
   symbols = 4095;
@@ -32,7 +32,7 @@ version_1 = record {
   total_weight = 65535;
 }
 
--- those of version 2
+-- the sizes of version 2
 abbrev pub version_2 : Sizes
 version_2 = record {
   symbols = 16383;
@@ -47,12 +47,12 @@ version_2 = record {
   total_weight = 1048575;
 }
 
--- those of a version of the table file
+-- the sizes of a version of the table file
 abbrev pub sizes_in : Version → Sizes
 sizes_in V1 = version_1
 sizes_in V2 = version_2
 
--- none is above the other's
+-- no size is above the other's
 pub record AreBounded (most sizes : Sizes) : Type 0 where
   pub symbols : sizes.symbols ≤ most.symbols
   pub yacc_rules : sizes.yacc_rules ≤ most.yacc_rules
@@ -65,7 +65,7 @@ pub record AreBounded (most sizes : Sizes) : Type 0 where
   pub pattern_weight : sizes.pattern_weight ≤ most.pattern_weight
   pub total_weight : sizes.total_weight ≤ most.total_weight
 
--- the lesser of each
+-- the lesser of each size
 abbrev pub least_of : Sizes → Sizes → Sizes
 least_of s t = record {
   symbols = min s.symbols t.symbols;

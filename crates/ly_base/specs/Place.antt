@@ -1,9 +1,9 @@
--- Where a run over a text stands, as it is kept.
+-- The state of a scan over a text, as the code represents it.
 use Rattle.std.specs.Prelude.{◌≡◌, ◌+◌, ◌-◌, ◌<◌, ◌≤◌, ◌^◌, ℕ, drop, length, take}
 use Rattle.ly_base.specs.Lexed.{after_line, Place}
 use Rattle.ly_base.specs.declared.place.Place.TheInside.{Inside}
 
--- how many bytes lie behind the run and weren't given up
+-- the number of scanned bytes that weren't discarded
 abbrev pub passed : Inside → ℕ
 passed p = length p.text.now - length p.rest.now
 
@@ -15,7 +15,7 @@ spot_of p = record {
   rest = p.rest.now;
 }
 
--- the bytes that are left are the end of the text, and all of them can be counted
+-- the remaining bytes are the end of the text, and the offset of its end fits into the counter
 pub record EndsText (p : Inside) : Type 0 where
   pub within : length p.rest.now ≤ length p.text.now
   pub end : drop (passed p) p.text.now ≡ p.rest.now

@@ -5,7 +5,7 @@ ghost use Rattle.ly_base.specs.Escapes.{Escape, meaning, number};
 
 use thiserror::Error;
 
-/// Why an escape is refused.
+/// Why an escape is rejected.
 #[derive(Clone, Copy, Debug, PartialEq, Eq, Error)]
 pub enum EscapeFault {
     /// The text or the line ends after the backslash.
@@ -16,10 +16,10 @@ pub enum EscapeFault {
     TooLarge,
 }
 
-/// Reads the escape at the front of a text, whose first byte is a backslash and isn't looked at: its byte, and
-/// how many bytes of the text it takes (POSIX, lex, "Escape Sequences in lex"). One to three octal digits, or `x`
-/// with the longest run of hexadecimal digits, give a byte by its value; `\x` without digits is `x`, and
-/// before any other byte the backslash takes away that byte's meaning.
+/// Reads the escape at the start of `text` (POSIX, lex, "Escape Sequences in lex"). The first byte is a backslash and
+/// isn't checked. Returns the byte that the escape denotes and the number of bytes read. One to three octal digits, or
+/// `x` with the longest run of hexadecimal digits, denote a byte by its value; `\x` without digits denotes `x`. Before
+/// any other byte the backslash removes that byte's special meaning.
 pub fn escape(text: &[u8]) -> Result<(u8, usize), EscapeFault>
     ensures first { IfOk result (λ found. 2 ≤ found.1) }
     ensures within { IfOk result (λ found. found.1 ≤ length text.now) }
@@ -48,7 +48,7 @@ pub fn escape(text: &[u8]) -> Result<(u8, usize), EscapeFault>
     Ok((meaning_of(letter), 2))
 }
 
-/// What a backslash before a byte that begins no number stands for.
+/// The byte that a backslash and this byte denote, if the byte begins no number.
 fn meaning_of(letter: u8) -> u8
     ensures { result ≡ meaning letter }
 {
@@ -96,20 +96,20 @@ impl Radix {
     }
 }
 
-/// The first value that is no byte: digits that come to more count as this.
+/// The first value that is no byte. Digits with a greater value count as this one.
 const TOO_LARGE: u16 = 256;
 
-/// A run of digits: how many there are, and their value, or `TOO_LARGE`.
+/// A run of digits.
 #[derive(Clone, Copy)]
 struct Digits {
-    /// Their value, or `TOO_LARGE` if that is less.
+    /// The value of the digits, at most `TOO_LARGE`.
     value: u16,
-    /// How many there are.
+    /// The number of digits.
     count: usize,
 }
 
 impl Digits {
-    /// The digits at the front of a text, at most `most`.
+    /// Reads the digits at the start of a text, at most `most` of them.
     fn leading(text: &[u8], radix: Radix, most: usize) -> Self
         ensures within { result.count ≤ length text.now }
         ensures count { result.count ≡ length (digits (test_of radix) most text.now) }
@@ -129,7 +129,7 @@ impl Digits {
         }
     }
 
-    /// The value as a byte.
+    /// Returns the value as a byte.
     fn byte(self) -> Result<u8, EscapeFault>
         ensures ok { IfOk result (λ byte. byte ≡ self.value) }
         ensures small { IfOk result (λ byte. byte < 256) }

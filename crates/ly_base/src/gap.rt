@@ -3,7 +3,7 @@ ghost use Rattle.ly_base.specs.Gap.{Closes, EndBefore, GapBefore, GapEnds, HasNo
 
 use crate::language::Language;
 
-/// What stands behind the spaces and comments at the front. A comment that isn't closed stays.
+/// Skips the whitespace and comments at the start of `text` and returns the rest. An unclosed comment isn't skipped.
 pub fn after_gap(text: &[u8], language: Language) -> &[u8]
     ensures before { GapBefore language text.now result.now }
     ensures stops { GapEnds language result.now }
@@ -15,7 +15,7 @@ pub fn after_gap(text: &[u8], language: Language) -> &[u8]
     rest
 }
 
-/// What stands behind the space or the comment at the front, where there is one.
+/// Skips one whitespace byte or one comment at the start and returns the rest, if there is one to skip.
 fn after_space_or_comment(text: &[u8], language: Language) -> Option<&[u8]>
     ensures these { MatchOption result (GapEnds language text.now) (λ rest. GapBefore language text.now rest.now) }
     ensures shorter { IfSome result (λ rest. length rest.now < length text.now) }
@@ -29,7 +29,7 @@ fn after_space_or_comment(text: &[u8], language: Language) -> Option<&[u8]>
     }
 }
 
-/// What stands behind the first `*/`, which ends a comment.
+/// Returns what follows the first `*/`, the end of a comment.
 pub fn after_comment(inside: &[u8]) -> Option<&[u8]>
     ensures { MatchOption result (HasNo (codes "*/") inside.now)
         (λ rest. EndBefore (codes "*/") inside.now rest.now) }
@@ -37,7 +37,7 @@ pub fn after_comment(inside: &[u8]) -> Option<&[u8]>
     after_end(inside, b"*/")
 }
 
-/// What stands behind the first `%}`, which ends a block of a yacc file.
+/// Returns what follows the first `%}`, the end of a block in a yacc file.
 pub fn after_block(inside: &[u8]) -> Option<&[u8]>
     ensures { MatchOption result (HasNo (codes "%}") inside.now)
         (λ rest. EndBefore (codes "%}") inside.now rest.now) }
@@ -45,7 +45,7 @@ pub fn after_block(inside: &[u8]) -> Option<&[u8]>
     after_end(inside, b"%}")
 }
 
-/// What stands behind the first place where these bytes stand.
+/// Returns what follows the first occurrence of `end`.
 fn after_end<'t>(inside: &'t [u8], end: &[u8]) -> Option<&'t [u8]>
     requires some { 0 < length end.now }
     ensures { MatchOption result (HasNo end.now inside.now) (λ rest. EndBefore end.now inside.now rest.now) }
@@ -58,7 +58,7 @@ fn after_end<'t>(inside: &'t [u8], end: &[u8]) -> Option<&'t [u8]>
     None
 }
 
-/// What stands behind the brace that closes, where one is open.
+/// Returns what follows the brace that closes an already open one. Nested braces are matched.
 pub fn after_braces(inside: &[u8]) -> Option<&[u8]>
     ensures { MatchOption result ((rest : List ℕ) → Closes 0 inside.now rest → ⊥)
         (λ rest. Closes 0 inside.now rest.now) }

@@ -3,17 +3,17 @@ ghost use Rattle.ly_base.specs.Language.{continues_name, is_space, starts_name};
 
 use crate::blank::is_blank;
 
-/// The two input languages, as far as their gaps and names differ (POSIX, XCU lex and yacc).
+/// The two input languages, as far as their whitespace and names differ (POSIX, XCU lex and yacc).
 #[derive(Clone, Copy, Debug, PartialEq, Eq)]
 pub enum Language {
-    /// Gaps end with the line; a name has letters, digits and `_`.
+    /// Whitespace ends at the end of the line. A name consists of letters, digits and `_`.
     Lex,
-    /// Gaps go over lines; a name may have `.` too.
+    /// Whitespace may include newlines. A name may also contain `.`.
     Yacc,
 }
 
 impl Language {
-    /// Whether the byte may stand between words.
+    /// Whether the byte is whitespace between words.
     pub fn is_space(self, byte: u8) -> bool
         ensures { result ≡ is_space self byte }
     {
@@ -23,7 +23,7 @@ impl Language {
         }
     }
 
-    /// Whether the byte may begin a name.
+    /// Whether a name can start with the byte.
     pub fn starts_name(self, byte: u8) -> bool
         ensures { result ≡ starts_name self byte }
     {
@@ -33,7 +33,7 @@ impl Language {
         }
     }
 
-    /// Whether the byte may stand in a name behind its first byte.
+    /// Whether the byte can follow the first byte of a name.
     pub fn continues_name(self, byte: u8) -> bool
         ensures { result ≡ continues_name self byte }
     {

@@ -1,29 +1,29 @@
 use crate::numbers::RuleNo;
 
-/// What is taken at a place of a text: one match.
+/// One match of a rule in a text.
 #[derive(Clone, Copy, Debug, PartialEq, Eq)]
 pub struct Lexeme {
     /// The rule that matches.
     pub rule: RuleNo,
-    /// How many bytes it matches.
+    /// The length of the match in bytes.
     pub matched: usize,
-    /// How many of these, from the first on, are its token.
+    /// The length of the token in bytes, counted from the start of the match.
     pub taken: usize,
 }
 
-/// How a run over a text ends.
+/// How scanning a text ends.
 #[derive(Clone, Copy, Debug, PartialEq, Eq)]
 pub enum End {
     /// At the end of the text.
     Clean,
     /// At a byte where no rule matches.
     Stuck {
-        /// The byte's place, counted from 0.
+        /// The byte's offset.
         byte: usize,
     },
-    /// At a byte where a rule matches, and its cut leaves no token.
+    /// At a byte where a rule matches, but its trailing context leaves no token.
     BadCut {
-        /// The byte's place, counted from 0.
+        /// The byte's offset.
         byte: usize,
     },
 }

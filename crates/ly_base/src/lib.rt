@@ -1,10 +1,15 @@
-//! What all of lytab shares: from bytes to sets, escapes and literals, and from a text to its places.
+//! The basics that all crates of lytab share: byte sets, escapes, literals, names, limits and locations.
 //!
-//! `Place` says where a run over a text stands, and `locate` on which line and in which column an offset of a file is.
-//! `Limits` holds the sizes that are accepted, by the version of the table file (`Version`). Escapes, literals, gaps
-//! and names are those of both input languages.
+//! `Place` is the state of a scan over a text, and `locate` converts an offset into a line and a column. `Limits` holds
+//! the greatest sizes that are accepted, for each version of the table file (`Version`). The readers of escapes,
+//! literals, names, whitespace and comments serve both input languages.
 //!
-//! Left out: what is printed and written, which `ly_print` has.
+//! The greatest limits are those of version 2. A call that writes a table file uses the lesser of each limit and that
+//! version's (`Limits::within`), so a generated table set always fits its file.
+//!
+//! A `SparseSet` holds positions and instructions. Adding a number can't fail, and clearing takes one step.
+//!
+//! Printing and writing are in `ly_print`.
 #![tactic(auto)]
 
 mod blank;

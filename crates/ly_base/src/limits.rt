@@ -3,25 +3,25 @@ ghost use Rattle.std.specs.Prelude.{◌≡◌, min};
 use crate::version::Version;
 use std::marker::Model;
 
-/// The sizes that lytab refuses to pass. A greater limit than version 2's counts as version 2's, so a `Limits` never
-/// holds one.
+/// The greatest sizes that lytab accepts. A limit above version 2's counts as version 2's, so a `Limits` never holds a
+/// greater one.
 #[derive(Clone, Copy, Debug, PartialEq, Eq)]
 pub struct Limits {
-    /// How many symbols a grammar may have, `$end`, `$undef` and `$accept` among them.
+    /// The greatest number of symbols in a grammar, including `$end`, `$undef` and `$accept`.
     symbols: u32,
-    /// How many rules a yacc file may have, the one that lytab adds not counted.
+    /// The greatest number of rules in a yacc file, without the rule that lytab adds.
     yacc_rules: u32,
-    /// How many rules a lex file may have.
+    /// The greatest number of rules in a lex file.
     lex_rules: u32,
-    /// How many symbols the body of a rule may have.
+    /// The greatest number of symbols in the body of a rule.
     body_length: u32,
-    /// How many start conditions there may be, the initial one among them.
+    /// The greatest number of start conditions, including the initial one.
     conditions: u32,
-    /// How many bytes the name of a symbol or a constructor may have.
+    /// The greatest length in bytes of a symbol's or constructor's name.
     name_length: u32,
-    /// How many states the parser may have.
+    /// The greatest number of parser states.
     parser_states: u32,
-    /// How many states the scanner may have before it is made smallest.
+    /// The greatest number of scanner states before the DFA is minimised.
     scanner_states: u32,
     /// The greatest weight of one pattern or definition.
     pattern_weight: u32,
@@ -74,21 +74,21 @@ impl Limits {
         total_weight: 1_048_575,
     };
 
-    /// The limits of version 1, as a value that contracts see.
+    /// The limits of version 1, as a value that contracts can use.
     pub fn version_1() -> Self
         ensures { result ≡ version_1 }
     {
         Limits::V1
     }
 
-    /// The limits of version 2, as a value that contracts see.
+    /// The limits of version 2, as a value that contracts can use.
     pub fn version_2() -> Self
         ensures { result ≡ version_2 }
     {
         Limits::V2
     }
 
-    /// The same limits, but none above that of a version.
+    /// Lowers each limit to that of `version` if it is greater.
     pub fn within(self, version: Version) -> Self
         ensures least { result ≡ least_of self (sizes_in version) }
         ensures bounded { AreBounded (sizes_in version) result }
@@ -111,21 +111,21 @@ impl Limits {
         }
     }
 
-    /// Does nothing: its contract says what the type keeps, that no limit is above version 2's.
+    /// Does nothing. Its contract states the invariant of the type: no limit is above version 2's.
     pub fn are_bounded(&self)
         ensures { AreBounded version_2 self.now }
     {
         let _ = &self.symbols;
     }
 
-    /// How many symbols a grammar may have, `$end`, `$undef` and `$accept` among them.
+    /// The greatest number of symbols in a grammar, including `$end`, `$undef` and `$accept`.
     pub fn symbols(&self) -> u32
         ensures { result ≡ self.now.symbols }
     {
         self.symbols
     }
 
-    /// The same limits with another one for the symbols of a grammar, or version 2's if that is less.
+    /// Sets the limit on the symbols of a grammar, to `most` or to version 2's if that is less.
     pub fn with_symbols(self, most: u32) -> Self
         ensures { result ≡ record self { symbols = min most version_2.symbols } }
     {
@@ -135,14 +135,14 @@ impl Limits {
         }
     }
 
-    /// How many rules a yacc file may have, the one that lytab adds not counted.
+    /// The greatest number of rules in a yacc file, without the rule that lytab adds.
     pub fn yacc_rules(&self) -> u32
         ensures { result ≡ self.now.yacc_rules }
     {
         self.yacc_rules
     }
 
-    /// The same limits with another one for the rules of a yacc file, or version 2's if that is less.
+    /// Sets the limit on the rules of a yacc file, to `most` or to version 2's if that is less.
     pub fn with_yacc_rules(self, most: u32) -> Self
         ensures { result ≡ record self { yacc_rules = min most version_2.yacc_rules } }
     {
@@ -152,14 +152,14 @@ impl Limits {
         }
     }
 
-    /// How many rules a lex file may have.
+    /// The greatest number of rules in a lex file.
     pub fn lex_rules(&self) -> u32
         ensures { result ≡ self.now.lex_rules }
     {
         self.lex_rules
     }
 
-    /// The same limits with another one for the rules of a lex file, or version 2's if that is less.
+    /// Sets the limit on the rules of a lex file, to `most` or to version 2's if that is less.
     pub fn with_lex_rules(self, most: u32) -> Self
         ensures { result ≡ record self { lex_rules = min most version_2.lex_rules } }
     {
@@ -169,14 +169,14 @@ impl Limits {
         }
     }
 
-    /// How many symbols the body of a rule may have.
+    /// The greatest number of symbols in the body of a rule.
     pub fn body_length(&self) -> u32
         ensures { result ≡ self.now.body_length }
     {
         self.body_length
     }
 
-    /// The same limits with another one for the symbols in the body of a rule, or version 2's if that is less.
+    /// Sets the limit on the symbols in the body of a rule, to `most` or to version 2's if that is less.
     pub fn with_body_length(self, most: u32) -> Self
         ensures { result ≡ record self { body_length = min most version_2.body_length } }
     {
@@ -186,14 +186,14 @@ impl Limits {
         }
     }
 
-    /// How many start conditions there may be, the initial one among them.
+    /// The greatest number of start conditions, including the initial one.
     pub fn conditions(&self) -> u32
         ensures { result ≡ self.now.conditions }
     {
         self.conditions
     }
 
-    /// The same limits with another one for the start conditions, or version 2's if that is less.
+    /// Sets the limit on the start conditions, to `most` or to version 2's if that is less.
     pub fn with_conditions(self, most: u32) -> Self
         ensures { result ≡ record self { conditions = min most version_2.conditions } }
     {
@@ -203,14 +203,14 @@ impl Limits {
         }
     }
 
-    /// How many bytes the name of a symbol or a constructor may have.
+    /// The greatest length in bytes of a symbol's or constructor's name.
     pub fn name_length(&self) -> u32
         ensures { result ≡ self.now.name_length }
     {
         self.name_length
     }
 
-    /// The same limits with another one for the bytes of a name, or version 2's if that is less.
+    /// Sets the limit on the bytes of a name, to `most` or to version 2's if that is less.
     pub fn with_name_length(self, most: u32) -> Self
         ensures { result ≡ record self { name_length = min most version_2.name_length } }
     {
@@ -220,14 +220,14 @@ impl Limits {
         }
     }
 
-    /// How many states the parser may have.
+    /// The greatest number of parser states.
     pub fn parser_states(&self) -> u32
         ensures { result ≡ self.now.parser_states }
     {
         self.parser_states
     }
 
-    /// The same limits with another one for the states of the parser, or version 2's if that is less.
+    /// Sets the limit on the states of the parser, to `most` or to version 2's if that is less.
     pub fn with_parser_states(self, most: u32) -> Self
         ensures { result ≡ record self { parser_states = min most version_2.parser_states } }
     {
@@ -237,14 +237,14 @@ impl Limits {
         }
     }
 
-    /// How many states the scanner may have before it is made smallest.
+    /// The greatest number of scanner states before the DFA is minimised.
     pub fn scanner_states(&self) -> u32
         ensures { result ≡ self.now.scanner_states }
     {
         self.scanner_states
     }
 
-    /// The same limits with another one for the states of the scanner, or version 2's if that is less.
+    /// Sets the limit on the states of the scanner, to `most` or to version 2's if that is less.
     pub fn with_scanner_states(self, most: u32) -> Self
         ensures { result ≡ record self { scanner_states = min most version_2.scanner_states } }
     {
@@ -261,7 +261,7 @@ impl Limits {
         self.pattern_weight
     }
 
-    /// The same limits with another one for the weight of one pattern or definition, or version 2's if that is less.
+    /// Sets the limit on the weight of one pattern or definition, to `most` or to version 2's if that is less.
     pub fn with_pattern_weight(self, most: u32) -> Self
         ensures { result ≡ record self { pattern_weight = min most version_2.pattern_weight } }
     {
@@ -278,7 +278,7 @@ impl Limits {
         self.total_weight
     }
 
-    /// The same limits with another one for the weight of all patterns, or version 2's if that is less.
+    /// Sets the limit on the weight of all patterns, to `most` or to version 2's if that is less.
     pub fn with_total_weight(self, most: u32) -> Self
         ensures { result ≡ record self { total_weight = min most version_2.total_weight } }
     {

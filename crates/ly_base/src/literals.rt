@@ -4,9 +4,9 @@ ghost use Rattle.ly_base.specs.Literals.{Inside, Literal};
 
 use crate::escapes::escape;
 
-/// Reads the literal at the front of a text: one byte or one escape between single quotes (POSIX, yacc,
-/// "Declarations Section"), where a backslash before a newline stands for the newline. It answers the byte,
-/// which isn't 0, and how many bytes the literal takes; `None` where there is none.
+/// Reads the literal at the start of `text`: one byte or one escape between single quotes (POSIX, yacc, "Declarations
+/// Section"). A backslash before a newline denotes the newline. Returns the byte, which isn't 0, and the number of
+/// bytes read, or `None` if there is no literal.
 pub fn literal(text: &[u8]) -> Option<(u8, usize)>
     ensures byte { IfSome result (λ found. 0 < found.0) }
     ensures within { IfSome result (λ found. found.1 ≤ length text.now) }
@@ -25,7 +25,7 @@ pub fn literal(text: &[u8]) -> Option<(u8, usize)>
     Some((byte, length + 2))
 }
 
-/// Reads the byte or escape at the front of what stands behind the opening quote.
+/// Reads the byte or escape that follows the opening quote.
 fn literal_byte(inside: &[u8]) -> Option<(u8, usize)>
     ensures within { IfSome result (λ found. found.1 ≤ length inside.now) }
     ensures inside { IfSome result (λ found. (byte : ℕ) (rest : List ℕ) → Inside inside.now byte rest

@@ -2,7 +2,7 @@ ghost use Rattle.std.specs.Prelude.{◌≡◌, ◌≤◌, count_by, length, not,
 ghost use Rattle.std.specs.List.{take_while};
 ghost use Rattle.ly_base.specs.Location.{column_behind, is_newline, line_behind};
 
-/// A line of a text and a column of that line.
+/// A line and a column of a text.
 #[derive(Clone, Copy, Debug, PartialEq, Eq)]
 pub struct Location {
     /// The line, counted from 1.
@@ -11,7 +11,7 @@ pub struct Location {
     pub column: u64,
 }
 
-/// On which line of a text an offset is, and in which column of it; of an offset past the text, where the text ends.
+/// Returns the line and column of an offset. For an offset past the end, returns the location of the end.
 pub fn locate(text: &[u8], offset: usize) -> Location
     ensures line { result.line ≡ line_behind (take offset text.now) }
     ensures column { result.column ≡ column_behind (take offset text.now) }
@@ -23,7 +23,7 @@ pub fn locate(text: &[u8], offset: usize) -> Location
     }
 }
 
-/// How many newlines there are.
+/// The number of newlines.
 fn newlines(front: &[u8]) -> usize
     ensures counted { result ≡ count_by is_newline front.now }
     ensures within { result ≤ length front.now }
@@ -31,7 +31,7 @@ fn newlines(front: &[u8]) -> usize
     front.iter().filter(|byte| **byte == b'\n').count()
 }
 
-/// How many bytes stand behind the last newline, or how many there are without one.
+/// The number of bytes after the last newline, or of all bytes if there is none.
 fn since_newline(front: &[u8]) -> usize
     ensures counted { result ≡ length (take_while (λ byte. not (is_newline byte)) (reverse front.now)) }
     ensures within { result ≤ length front.now }

@@ -5,7 +5,7 @@ ghost use Rattle.ly_base.specs.Private.Names.{name_length};
 
 use crate::language::Language;
 
-/// The name at the front and what stands behind it, where there is one.
+/// Splits `text` into the name at its start and the rest, if it starts with a name.
 pub fn leading_name(text: &[u8], language: Language) -> Option<(&[u8], &[u8])>
     ensures { MatchOption result ((name rest : List ℕ) → NameBefore language text.now name rest → ⊥)
         (λ found. NameBefore language text.now found.0.now found.1.now) }
@@ -17,7 +17,7 @@ pub fn leading_name(text: &[u8], language: Language) -> Option<(&[u8], &[u8])>
     Some(text.split_at(length))
 }
 
-/// The decimal digits at the front and what stands behind them, where there are some.
+/// Splits `text` into the decimal digits at its start and the rest, if it starts with a digit.
 pub fn leading_digits(text: &[u8]) -> Option<(&[u8], &[u8])>
     ensures { MatchOption result ((digits rest : List ℕ) → DigitsBefore text.now digits rest → ⊥)
         (λ found. DigitsBefore text.now found.0.now found.1.now) }
@@ -29,7 +29,7 @@ pub fn leading_digits(text: &[u8]) -> Option<(&[u8], &[u8])>
     Some(text.split_at(length))
 }
 
-/// How many bytes the name at the front takes, 0 where there is none.
+/// The length in bytes of the name at the start, or 0 if there is none.
 fn name_length(text: &[u8], language: Language) -> usize
     ensures within { result ≤ length text.now }
     ensures value { result ≡ name_length language text.now }
@@ -40,7 +40,7 @@ fn name_length(text: &[u8], language: Language) -> usize
     }
 }
 
-/// How many bytes at the front may stand in a name.
+/// The number of bytes at the start that can continue a name.
 fn continued_length(text: &[u8], language: Language) -> usize
     ensures { result ≡ prefix_len (continues_name language) text.now }
 {
@@ -49,7 +49,7 @@ fn continued_length(text: &[u8], language: Language) -> usize
         .unwrap_or(text.len())
 }
 
-/// How many digits there are at the front.
+/// The number of digits at the start.
 fn digits_length(text: &[u8]) -> usize
     ensures within { result ≤ length text.now }
     ensures value { result ≡ prefix_len is_decimal text.now }

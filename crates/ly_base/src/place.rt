@@ -3,17 +3,17 @@ ghost use Rattle.ly_base.specs.Lexed.{after_line};
 
 use std::marker::Model;
 
-/// Where a run over a text stands: at a byte, in a start condition, at the start of a line or not. The first bytes of
-/// the text may have been given up.
+/// The state of a scan over a text: the offset, the start condition, and whether a line begins here. The first bytes of
+/// the text may have been discarded.
 #[derive(Drop)]
 pub struct Place<'t> {
-    /// How many bytes were given up.
+    /// The number of discarded bytes.
     given_up: usize,
-    /// Whether a line begins behind these.
+    /// Whether a line begins after the discarded bytes.
     line: bool,
-    /// The text behind these.
+    /// The text after the discarded bytes.
     text: &'t [u8],
-    /// The bytes of it that are left.
+    /// The bytes of `text` that aren't scanned yet.
     rest: &'t [u8],
     /// The number of the start condition.
     condition: u32,
@@ -34,7 +34,7 @@ impl<'t> Model for Place<'t> {
 impl<'t> Place<'t> {
     ghost use Rattle.ly_base.specs.Lexed.{moved, start_of};
 
-    /// The start of a text: a line begins there, in the initial condition.
+    /// Returns the start of a text: the start of a line, in the initial condition.
     pub fn start(text: &'t [u8]) -> Self
         ensures { result ≡ start_of text.now }
     {
@@ -47,7 +47,7 @@ impl<'t> Place<'t> {
         }
     }
 
-    /// A place in a text whose bytes before it were given up.
+    /// Returns the start of `text`, which follows `given_up` discarded bytes.
     pub fn behind(text: &'t [u8], given_up: usize, line: bool, condition: u32) -> Self
         requires { given_up + length text.now < 2 ^ 64 }
         ensures { result ≡ record { line = line; condition = condition; at = given_up; rest = text.now } }
@@ -61,7 +61,7 @@ impl<'t> Place<'t> {
         }
     }
 
-    /// How many bytes of the text lie behind the run.
+    /// The offset in the whole text, including the discarded bytes.
     pub fn at(&self) -> usize
         ensures { result ≡ self.now.at }
     {
@@ -75,21 +75,21 @@ impl<'t> Place<'t> {
         self.condition
     }
 
-    /// Whether a line begins here. It is looked for when it is asked for, since few patterns do.
+    /// Whether a line begins here. It is computed on each call, since few patterns need it.
     pub fn at_line_start(&self) -> bool
         ensures { result ≡ self.now.line }
     {
         line_starts_behind(self.line, &self.text[..self.text.len() - self.rest.len()])
     }
 
-    /// The bytes that are left.
+    /// The bytes that aren't scanned yet.
     pub fn rest(&self) -> &'t [u8]
         ensures { result.now ≡ self.now.rest }
     {
         self.rest
     }
 
-    /// Goes on by some bytes, and sets the condition if there is one to set.
+    /// Moves forward by `count` bytes and sets the condition if `begin` has one.
     pub fn advance(&mut self, count: usize, begin: Option<u32>)
         requires { count ≤ length self.old.rest }
         ensures { self.new ≡ moved self.old count begin }
@@ -99,7 +99,7 @@ impl<'t> Place<'t> {
     }
 }
 
-/// Whether a line begins behind some bytes, by whether one began before them.
+/// Whether a line begins after `passed`. `before` is whether one began before it.
 fn line_starts_behind(before: bool, passed: &[u8]) -> bool
     ensures { result ≡ after_line before passed.now }
 {

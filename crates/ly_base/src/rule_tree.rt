@@ -3,24 +3,24 @@ ghost use Rattle.ly_base.specs.Shape.{shape_of};
 
 use std::alloc::{AllocError, Global};
 
-/// What the tree of a rule of a grammar is. Places count the symbols of its body from 1.
+/// What a rule of a grammar makes of the trees of its body. The symbols of a body count from 1.
 #[derive(Drop)]
 pub enum RuleTree {
-    /// The tree of nothing.
+    /// The empty tree.
     Nil,
-    /// The tree at this place.
+    /// The tree of this symbol of the body.
     Pass(u32),
     /// A node.
     Build {
-        /// Its constructor.
+        /// The node's constructor.
         name: Vec<u8>,
-        /// The places of its children.
+        /// The symbols of the body whose trees are its children.
         places: Vec<u32>,
     },
 }
 
 impl RuleTree {
-    /// A copy. It fails where memory runs out.
+    /// Returns a copy. Fails if memory runs out.
     pub fn copied(&self, alloc: Global) -> Result<RuleTree, AllocError>
         ensures { IfOk result (λ t. shape_of t ≡ shape_of self.now) }
     {

@@ -1,21 +1,21 @@
 use crate::numbers::Sym;
 
-/// What happens where a rule of the lex file matches.
+/// What the scanner does when a rule of the lex file matches.
 #[derive(Clone, Copy, Debug, PartialEq, Eq)]
 pub struct ScanAction {
-    /// The condition that is set, if one is.
+    /// The start condition to set, if any.
     pub begin: Option<u32>,
-    /// The token that comes of it.
+    /// The token to return, if any.
     pub emits: Emitted,
 }
 
-/// The token that comes of a match.
+/// The token that a match returns.
 #[derive(Clone, Copy, Debug, PartialEq, Eq)]
 pub enum Emitted {
-    /// None: the text is passed over.
+    /// None: the match is skipped.
     Nothing,
-    /// One of this terminal.
+    /// A token of this terminal.
     Terminal(Sym),
-    /// One of the terminal of the first byte that was matched.
+    /// A token of the terminal of the first matched byte.
     FirstByte,
 }

@@ -4,15 +4,15 @@ ghost use Rattle.std.specs.List.{list_any};
 use std::alloc::{AllocError, Global};
 use std::marker::Model;
 
-/// A set of numbers below a bound. All its room is made with it, and it is cleared in one step (Briggs
-/// and Torczon 1993).
+/// A set of numbers below a bound. All memory is allocated at the start, and clearing takes one step (Briggs and
+/// Torczon 1993).
 #[derive(Drop)]
 pub struct SparseSet {
-    /// Room for the members; they stand in the first `size` slots.
+    /// The members, in the first `size` slots.
     slots: Vec<u32>,
-    /// The slot in which each number stood last.
+    /// The slot that each number was last written to.
     places: Vec<u32>,
-    /// How many members there are.
+    /// The number of members.
     size: usize,
 }
 
@@ -31,7 +31,7 @@ impl Model for SparseSet {
 impl SparseSet {
     ghost use Rattle.ly_base.specs.SparseSet.{with_member, with_members};
 
-    /// The empty set of numbers below a bound, or that its room is refused.
+    /// Returns the empty set of numbers below `bound`. Fails if memory runs out.
     pub fn new(alloc: Global, bound: usize) -> Result<Self, AllocError>
         ensures { IfOk result (λ s. s ≡ record { below = bound; members = [] }) }
     {
@@ -42,7 +42,7 @@ impl SparseSet {
         })
     }
 
-    /// The members, each once, in the order in which they came.
+    /// The members, each once, in the order in which they were added.
     pub fn members(&self) -> &[u32]
         ensures these { result.now ≡ self.now.members }
         ensures within { All (λ m. m < self.now.below) result.now }
@@ -60,14 +60,14 @@ impl SparseSet {
         place < self.size && self.slots[place] == number
     }
 
-    /// Takes out all members.
+    /// Removes all members.
     pub fn clear(&mut self)
         ensures { self.new ≡ record self.old { members = [] } }
     {
         self.size = 0;
     }
 
-    /// Adds a number, and answers whether it is a new one.
+    /// Adds a number. Returns whether it is new.
     pub fn insert(&mut self, number: u32) -> bool
         requires { number < self.old.below }
         ensures added { self.new ≡ record self.old { members = with_member self.old.members number } }

@@ -1,8 +1,8 @@
-/// The versions of the table file. They differ in how wide its numbers are, and so in the greatest sizes.
+/// The versions of the table file. They differ in the width of their numbers, and so in the greatest sizes.
 #[derive(Clone, Copy, Debug, PartialEq, Eq)]
 pub enum Version {
-    /// Version 1, of numbers of 16 bits.
+    /// Version 1, with numbers of 16 bits.
     V1,
-    /// Version 2, of numbers of 32 bits.
+    /// Version 2, with numbers of 32 bits.
     V2,
 }

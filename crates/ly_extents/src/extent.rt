@@ -1,16 +1,16 @@
 ghost use Rattle.std.specs.Prelude.{◌≡◌, ◌-◌};
 
-/// Where something stands in a text, by bytes that are counted from 0.
+/// A span of a text, by byte offsets that count from 0.
 #[derive(Clone, Copy, Debug, PartialEq, Eq)]
 pub struct Extent {
-    /// Where its first byte stands.
+    /// The offset of the first byte.
     pub start: usize,
-    /// Where the byte behind its last one stands.
+    /// The offset after the last byte.
     pub end: usize,
 }
 
 impl Extent {
-    /// How many bytes it has.
+    /// The number of bytes.
     pub fn len(&self) -> usize
         ensures { result ≡ self.now.end - self.now.start }
     {

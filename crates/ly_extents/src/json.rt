@@ -6,8 +6,8 @@ use crate::line_starts::LineStarts;
 use ly_base::OutOfMemory;
 use ly_print::push_json_location;
 
-/// Appends where something begins and ends in a text, as `,"start":[4,1,5],"end":[5,1,6]`: members of a JSON object,
-/// behind another one. It fails where memory runs out.
+/// Appends the span of a part of a text as `,"start":[4,1,5],"end":[5,1,6]`: members of a JSON object that follow
+/// another member. Fails if memory runs out.
 pub fn push_json_extent(
     out: &mut Vec<u8>,
     lines: &LineStarts<'_>,

@@ -1,9 +1,8 @@
-//! From a text to where things stand in it: extents by offsets, lines and columns, and both as JSON.
+//! Spans of a text: offsets, lines and columns, and both as JSON.
 //!
-//! `LineStarts` has where the lines of a text begin, and says of an offset which line and column it is (`locate`), as
-//! ly_base's `locate` does, without walking over the text. `push_json_extent` prints where something begins and ends.
-//!
-//! Left out: what stands there.
+//! `LineStarts` lists the offsets where the lines of a text begin. Its `locate` returns the line and column of an
+//! offset as that of `ly_base` does, by binary search instead of a walk over the text. `locate_near` first looks at a
+//! given line and the next one, where most offsets that are printed in order are. `push_json_extent` prints a span.
 #![tactic(auto)]
 
 mod extent;

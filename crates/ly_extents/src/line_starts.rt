@@ -7,12 +7,12 @@ use ly_base::{Location, OutOfMemory};
 use std::alloc::Global;
 use std::marker::Model;
 
-/// A text, and where its lines begin.
+/// A text and the offsets where its lines begin.
 #[derive(Drop)]
 pub struct LineStarts<'t> {
     /// The text.
     text: &'t [u8],
-    /// Where each of its lines begins, the first one at 0.
+    /// The offset of each line's first byte. The first is 0.
     starts: Vec<usize>,
 }
 
@@ -28,7 +28,7 @@ impl<'t> Model for LineStarts<'t> {
 }
 
 impl<'t> LineStarts<'t> {
-    /// Finds where the lines of a text begin. It fails where memory runs out.
+    /// Finds the lines of a text. Fails if memory runs out.
     pub fn of(alloc: Global, text: &'t [u8]) -> Result<LineStarts<'t>, OutOfMemory>
         ensures { IfOk result (λ lines. lines ≡ text.now) }
     {
@@ -49,7 +49,7 @@ impl<'t> LineStarts<'t> {
         self.text
     }
 
-    /// On which line an offset is, and in which column of it.
+    /// Returns the line and column of an offset.
     pub fn locate(&self, offset: usize) -> Location
         requires { offset ≤ length self.now }
         ensures line { result.line ≡ line_behind (take offset self.now) }
@@ -58,7 +58,7 @@ impl<'t> LineStarts<'t> {
         self.on_line(offset, self.line_of(offset))
     }
 
-    /// What `locate` says, which is looked for first on a line that may be near, and on the next one.
+    /// Returns the same as `locate`. It looks at line `near` and the next one first.
     pub fn locate_near(&self, offset: usize, near: u64) -> Location
         requires { offset ≤ length self.now }
         ensures line { result.line ≡ line_behind (take offset self.now) }
@@ -75,7 +75,7 @@ impl<'t> LineStarts<'t> {
         self.locate(offset)
     }
 
-    /// The location of an offset that is on this line.
+    /// Returns the location of an offset on this line.
     fn on_line(&self, offset: usize, line: usize) -> Location
         requires within { offset ≤ length self.now }
         requires line { line ≡ line_behind (take offset self.now) }
@@ -109,7 +109,7 @@ impl<'t> LineStarts<'t> {
         }
     }
 
-    /// On which line an offset is: it is the last one that begins no later.
+    /// Returns the line of an offset: the last one that begins no later.
     fn line_of(&self, offset: usize) -> usize
         ensures line { result ≡ line_behind (take offset self.now) }
         ensures there { result ≤ length (line_starts self.now) }

@@ -1,4 +1,4 @@
--- What a Counted holds.
+-- The contents of a Counted.
 use Rattle.std.specs.Prelude.{ℕ}
 use Rattle.ly_print.specs.declared.counted.Counted.{Counted}
 
@@ -6,6 +6,6 @@ use Rattle.ly_print.specs.declared.counted.Counted.{Counted}
 abbrev pub device_of : {T : Type 0} → Counted T → T
 device_of c = c.inner
 
--- how many calls failed
+-- the number of calls that failed
 abbrev pub failures_of : {T : Type 0} → Counted T → ℕ
 failures_of c = c.failures

@@ -1,4 +1,4 @@
--- How a count of failures goes on, and which calls are failures.
+-- How failures are counted, and which calls fail.
 use Rattle.std.specs.Prelude.{◌≡◌, ℕ, ◌+◌, ◌%◌, ◌^◌, Bool, true, false, Result, Ok, Err, nat_eq, nat_lt, ◌&&◌}
 use Rattle.std.specs.Prelude.{if◌then◌else◌, Option, None, Some, min, ◌-◌}
 
@@ -6,7 +6,7 @@ use Rattle.std.specs.Prelude.{if◌then◌else◌, Option, None, Some, min, ◌-
 abbrev pub next_count : ℕ → ℕ
 next_count n = (n + 1) % 2 ^ 64
 
--- a write of `len` bytes failed: any error, or none of one or more bytes taken
+-- a write of `len` bytes failed: it returned an error, or took none of one or more bytes
 abbrev pub write_failed : {E : Type 0} → Result ℕ E → ℕ → Bool
 write_failed (Ok n) len = nat_eq n 0 && nat_lt 0 len
 write_failed (Err e) len = true
@@ -16,16 +16,16 @@ abbrev pub read_failed : {E : Type 0} → Result ℕ E → Bool
 read_failed (Ok n) = false
 read_failed (Err e) = true
 
--- the count goes on by one exactly where the call failed
+-- the count grows by one exactly if the call failed
 abbrev pub CountsFailure : Bool → ℕ → ℕ → Type 0
 CountsFailure failed old new = new ≡ (if failed then next_count old else old)
 
--- at most n bytes, and no more than are left before the failure, if it comes
+-- n, or the number of bytes left before the failure if that is less
 abbrev pub allowed : Option ℕ → ℕ → ℕ
 allowed None n = n
 allowed (Some left) n = min left n
 
--- how many bytes are left before the failure after n more
+-- the number of bytes left before the failure after n more
 abbrev pub left_after : Option ℕ → ℕ → Option ℕ
 left_after None n = None
 left_after (Some left) n = Some (left - n)

@@ -1,4 +1,4 @@
--- Bytes in a JSON text (RFC 8259), without blanks. A string is written as `JSON.stringify` writes it (ECMA-262,
+-- Bytes in a JSON text (RFC 8259), without whitespace. A string is written as `JSON.stringify` writes it (ECMA-262,
 -- QuoteJSONString).
 use Rattle.std.specs.Prelude.{ℕ, ◌/◌, ◌%◌, List, [], ◌∷◌, ◌++◌, ◌||◌, false, codes, if◌then◌else◌, nat_eq, nat_lt}
 use Rattle.std.specs.Char.{encode_utf8}
@@ -16,7 +16,7 @@ control_escape b = if nat_eq b 8 then codes "\\b" else
     (if nat_eq b 13 then codes "\\r" else
     codes "\\u00" ++ digit_glyph false (b / 16) ∷ digit_glyph false (b % 16) ∷ []))))
 
--- a byte in a string: `"` and `\` have a backslash before them, and all others from 32 on stand for themselves
+-- a byte in a string: `"` and `\` have a backslash before them, and all others from 32 on are written as they are
 abbrev pub string_byte : ℕ → List ℕ
 string_byte b = if nat_eq b double_quote || nat_eq b backslash then backslash ∷ b ∷ [] else
     (if nat_lt b 32 then control_escape b else b ∷ [])
@@ -29,15 +29,15 @@ string_body bytes = flat_map string_byte bytes
 abbrev pub json_string : List ℕ → List ℕ
 json_string bytes = double_quote ∷ (string_body bytes ++ double_quote ∷ [])
 
--- A name as a string. Each of its bytes is the character of that number, so that any name is Unicode.
+-- A name as a string. Each of its bytes becomes the character with that number, so that any name is valid Unicode.
 abbrev pub json_name : List ℕ → List ℕ
 json_name name = json_string (flat_map encode_utf8 name)
 
--- a number behind another one
+-- a number after another one
 abbrev pub other_number : ℕ → List ℕ
 other_number n = codes "," ++ decimal n
 
--- numbers, with commas between them
+-- numbers, separated by commas
 abbrev pub numbers : List ℕ → List ℕ
 numbers [] = []
 numbers (n ∷ ns) = decimal n ++ flat_map other_number ns
@@ -47,13 +47,13 @@ abbrev pub json_located : ℕ → ℕ → ℕ → List ℕ
 json_located offset line column = codes "[" ++ (decimal offset ++ (codes "," ++ (decimal line ++ (codes ","
     ++ (decimal column ++ codes "]")))))
 
--- a text as the member of an object, and bytes
+-- a text as a member of an object; bytes as a member of an object
 abbrev pub text_member : List ℕ → List ℕ
 text_member text = codes "\"text\":" ++ json_string text
 
 abbrev pub bytes_member : List ℕ → List ℕ
 bytes_member bytes = codes "\"bytes\":[" ++ (numbers bytes ++ codes "]")
 
--- What a token consists of, as the member of an object: a text where that is UTF-8, or else bytes.
+-- The text of a token as a member of an object: a string if it is UTF-8, else a list of bytes.
 abbrev pub json_content : List ℕ → List ℕ
 json_content text = if is_utf8 text then text_member text else bytes_member text

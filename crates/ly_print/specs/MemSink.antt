@@ -1,4 +1,4 @@
--- What a MemSink holds.
+-- The contents of a MemSink.
 use Rattle.std.specs.Prelude.{ℕ, List, Option, vec_capacity}
 use Rattle.ly_print.specs.declared.memory.MemSink.{MemSink}
 
@@ -6,14 +6,14 @@ use Rattle.ly_print.specs.declared.memory.MemSink.{MemSink}
 abbrev pub written : MemSink → List ℕ
 written s = s.bytes.items
 
--- how many bytes it takes before it fails, if it will
+-- the number of bytes that it takes before it fails, if it is set to fail
 abbrev pub takes_at_most : MemSink → Option ℕ
 takes_at_most s = s.left
 
--- how many calls failed
+-- the number of calls that failed
 abbrev pub write_failures : MemSink → ℕ
 write_failures s = s.failures
 
--- how many bytes it can hold without more memory
+-- the number of bytes that it can hold without an allocation
 abbrev pub room : MemSink → ℕ
 room s = vec_capacity s.bytes

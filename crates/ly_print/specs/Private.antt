@@ -1,4 +1,4 @@
--- What contracts of private functions cite: what is written for a byte, and how much room a printed leaf takes. No
--- public contract rests on it.
+-- Definitions for contracts of private functions: what is written for a byte, and how many bytes a printed leaf takes.
+-- No public contract depends on them.
 pub mod ByteForm
 pub mod Room

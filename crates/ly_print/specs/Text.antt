@@ -1,4 +1,4 @@
--- Bytes, tokens and answers as printed text.
+-- Bytes, tokens and output as printed text.
 use Rattle.std.specs.Prelude.{ℕ, ◌/◌, ◌%◌, List, [], ◌∷◌, ◌++◌, Bool, not, false, ◌&&◌, nat_eq, nat_le, codes}
 use Rattle.std.specs.Prelude.{if◌then◌else◌}
 use Rattle.std.specs.Fmt.{decimal, digit_glyph}
@@ -7,11 +7,11 @@ use Rattle.ly_base.specs.Bytes.{backslash, double_quote, newline, single_quote, 
 use Rattle.ly_print.specs.declared.text.Terminal as code
 use Rattle.ly_print.specs.declared.text.Terminal.TheVariants.{Token, Literal}
 
--- bytes 32 to 126 stand for themselves, but not `\` and the quote in use
+-- bytes 32 to 126 are written as they are, but not `\` and the quote in use
 abbrev pub is_plain : ℕ → ℕ → Bool
 is_plain quote b = nat_le 32 b && nat_le b 126 && not (nat_eq b backslash) && not (nat_eq b quote)
 
--- a byte that doesn't stand for itself: `\n`, `\t`, a backslash before it, or `\x` and two hexadecimal digits
+-- the escape of a byte: `\n`, `\t`, a backslash before the byte, or `\x` and two hexadecimal digits
 abbrev pub escape_for : ℕ → List ℕ
 escape_for b = if nat_eq b newline then codes "\\n" else
     (if nat_eq b tab then codes "\\t" else
@@ -41,15 +41,15 @@ abbrev pub name_of : Terminal → List ℕ
 name_of (token name) = name
 name_of (literal b) = single_quote ∷ (escaped_byte single_quote b ++ single_quote ∷ [])
 
--- what stands before a leaf's text: the terminal's name and a double quote
+-- what precedes a leaf's text: the terminal's name and a double quote
 abbrev pub before_leaf : Terminal → List ℕ
 before_leaf terminal = name_of terminal ++ double_quote ∷ []
 
--- a text behind a label, as it stands between double quotes, with the quote that closes it
+-- a label, then a text as the inside of a double-quoted string with the closing quote
 abbrev pub quoted : List ℕ → List ℕ → List ℕ
 quoted label text = label ++ (escaped double_quote text ++ double_quote ∷ [])
 
--- a line of that alone
+-- a line of such a label and text
 abbrev pub quoted_line : List ℕ → List ℕ → List ℕ
 quoted_line label text = quoted label text ++ newline ∷ []
 
@@ -57,10 +57,10 @@ quoted_line label text = quoted label text ++ newline ∷ []
 abbrev pub leaf_of : Terminal → List ℕ → List ℕ
 leaf_of terminal text = name_of terminal ++ double_quote ∷ (escaped double_quote text ++ double_quote ∷ [])
 
--- a line of a leaf alone
+-- a line of a leaf
 abbrev pub leaf_line : Terminal → List ℕ → List ℕ
 leaf_line terminal text = leaf_of terminal text ++ newline ∷ []
 
--- the line that says where no rule matches
+-- the line that reports where no rule matches
 abbrev pub no_rule_line : ℕ → List ℕ
 no_rule_line byte = codes "no rule matches at byte " ++ decimal byte ++ newline ∷ []

@@ -1,8 +1,8 @@
-/// How an answer is written.
+/// The format of the output.
 #[derive(Clone, Copy, Debug, PartialEq, Eq)]
 pub enum AnswerForm {
-    /// As plain text, a term as `Add(NUM"1",NUM"2")`.
+    /// Plain text, with a term as `Add(NUM"1",NUM"2")`.
     Plain,
-    /// As JSON, one text a line.
+    /// JSON, one text a line.
     Json,
 }

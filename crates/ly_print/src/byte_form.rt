@@ -5,21 +5,21 @@ use crate::json::{put_other_number, put_string_byte};
 use crate::room::{put, put_escape};
 use crate::text::is_plain;
 
-/// How many bytes are written for one at most.
+/// The greatest number of bytes that are written for one byte.
 pub(crate) const BYTE_ROOM: usize = 6;
 
-/// How a byte is written behind others.
+/// How a byte of a list of bytes is printed.
 #[derive(Clone, Copy)]
 pub(crate) enum ByteForm {
-    /// As it stands between double quotes.
+    /// As in a string between double quotes.
     Quoted,
-    /// As it stands in a JSON string.
+    /// As in a JSON string.
     InString,
-    /// As its number, behind a comma.
+    /// As its number, after a comma.
     OtherNumber,
 }
 
-/// Writes what is written for a byte from a place on, and answers where it ends.
+/// Writes a byte in the given form into `room` at `at`. Returns the position after it.
 pub(crate) fn put_byte(room: &mut [u8], at: usize, form: ByteForm, byte: u8) -> usize
     requires { at + 6 ≤ length room.old }
     ensures bytes { take result room.new ≡ take at room.old ++ written_as form byte }

@@ -9,7 +9,7 @@ use std::io::{Read, Write};
 pub struct Counted<T> {
     /// The reader or the writer.
     inner: T,
-    /// How many calls failed.
+    /// The number of calls that failed.
     failures: u64,
 }
 
@@ -24,7 +24,7 @@ impl<T> Counted<T> {
         Counted { inner, failures: 0 }
     }
 
-    /// The reader or the writer, whose failures are counted no more.
+    /// Returns the reader or the writer. Its failures are no longer counted.
     pub fn into_inner(self) -> T
         ensures { result ≡ device_of self }
     {

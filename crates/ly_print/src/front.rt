@@ -2,16 +2,16 @@ ghost use Rattle.std.specs.Prelude.{◌≡◌, ◌≤◌, length, take, IfSome};
 
 use std::marker::Model;
 
-/// How many bytes are copied at once: those that one vector holds.
+/// The number of bytes that are copied at once, as many as one vector register holds.
 pub(crate) const BLOCK: usize = 16;
 
-/// The front of bytes. Those behind it may be looked at too, so that a short front is copied as a whole block, and a
-/// processor has no length to guess.
+/// A prefix of some bytes. The bytes after it can be read too, so that a short prefix is copied as one whole block,
+/// without a branch on its length.
 #[derive(Drop)]
 pub struct Front<'a> {
     /// The bytes.
     pub(crate) bytes: &'a [u8],
-    /// How many of them are its own.
+    /// The length of the prefix.
     pub(crate) count: usize,
 }
 
@@ -26,7 +26,7 @@ impl<'a> Model for Front<'a> {
 }
 
 impl<'a> Front<'a> {
-    /// The first so many of these bytes.
+    /// Returns the first `count` of these bytes.
     pub fn new(bytes: &'a [u8], count: usize) -> Self
         requires { count ≤ length bytes.now }
         ensures { result ≡ take count bytes.now }
@@ -34,21 +34,21 @@ impl<'a> Front<'a> {
         Front { bytes, count }
     }
 
-    /// How many bytes it has.
+    /// The length of the prefix in bytes.
     pub fn len(&self) -> usize
         ensures { result ≡ length self.now }
     {
         self.count
     }
 
-    /// Its bytes, without those behind it.
+    /// The bytes of the prefix.
     pub fn bytes(&self) -> &'a [u8]
         ensures { result.now ≡ self.now }
     {
         &self.bytes[..self.count]
     }
 
-    /// A block of 16 bytes that begins with it, where it has no more and there are so many.
+    /// Returns the first 16 bytes, if the prefix is no longer than that and there are so many bytes.
     pub fn block(&self) -> Option<&'a [u8]>
         ensures block { IfSome result (λ b. length b.now ≡ 16) }
         ensures front { IfSome result (λ b. take (length self.now) b.now ≡ self.now) }

@@ -11,19 +11,19 @@ use itoa::Buffer;
 use ly_base::Location;
 use std::alloc::AllocError;
 
-/// How many bytes of a string are written at a time.
+/// The number of bytes of a string that are written at a time.
 const STRETCH: usize = 64;
 
-/// How much room so many bytes of a string take at most, with a block behind them.
+/// The greatest number of bytes that `STRETCH` bytes of a string take, with a block after them.
 const STRETCH_ROOM: usize = 400;
 
-/// How many bytes an offset with its location takes at most.
+/// The greatest number of bytes that an offset with its location takes.
 pub(crate) const LOCATION_ROOM: usize = 64;
 
-/// Appends a name as a JSON string. Each of its bytes is the character of that number: one above 127 is two bytes of
-/// UTF-8.
+/// Appends a name as a JSON string. Each of its bytes becomes the character with that number: a byte above 127 is
+/// written as two bytes of UTF-8.
 ///
-/// It fails where memory runs out. How much was appended by then is left open.
+/// Fails if memory runs out. How much is appended by then is unspecified.
 pub fn push_json_name(out: &mut Vec<u8>, name: &[u8]) -> Result<(), AllocError>
     ensures { OnOk result (out.new.items ≡ out.old.items ++ json_name name.now) }
 {
@@ -36,9 +36,9 @@ pub fn push_json_name(out: &mut Vec<u8>, name: &[u8]) -> Result<(), AllocError>
     Ok(())
 }
 
-/// Appends bytes as a JSON string, which is a text where they are UTF-8.
+/// Appends bytes as a JSON string. The string is valid Unicode if the bytes are UTF-8.
 ///
-/// It fails where memory runs out. How much was appended by then is left open.
+/// Fails if memory runs out. How much is appended by then is unspecified.
 pub fn push_json_string(out: &mut Vec<u8>, bytes: &[u8]) -> Result<(), AllocError>
     ensures { OnOk result (out.new.items ≡ out.old.items ++ json_string bytes.now) }
 {
@@ -48,10 +48,10 @@ pub fn push_json_string(out: &mut Vec<u8>, bytes: &[u8]) -> Result<(), AllocErro
     Ok(())
 }
 
-/// Appends what a token consists of as a member of a JSON object: `"text":` and a string where it is UTF-8, or else
-/// `"bytes":` and a list of its bytes' numbers.
+/// Appends the text of a token as a member of a JSON object. If the text is UTF-8, the member is `"text":` and a
+/// string. Otherwise it is `"bytes":` and a list of the bytes' numbers.
 ///
-/// It fails where memory runs out. How much was appended by then is left open.
+/// Fails if memory runs out. How much is appended by then is unspecified.
 pub fn push_json_content(out: &mut Vec<u8>, text: &[u8]) -> Result<(), AllocError>
     ensures { OnOk result (out.new.items ≡ out.old.items ++ json_content text.now) }
 {
@@ -66,9 +66,9 @@ pub fn push_json_content(out: &mut Vec<u8>, text: &[u8]) -> Result<(), AllocErro
     Ok(())
 }
 
-/// Appends an offset of a text with its location, as `[4,1,5]`.
+/// Appends an offset of a text with its line and column, as `[4,1,5]`.
 ///
-/// It fails where memory runs out, and then nothing is appended.
+/// Fails if memory runs out. Then nothing is appended.
 pub fn push_json_location(
     out: &mut Vec<u8>,
     offset: u64,
@@ -83,14 +83,14 @@ pub fn push_json_location(
     out.extend_from_slice(&room[..end])
 }
 
-/// Whether bytes are UTF-8.
+/// Whether the bytes are UTF-8.
 pub fn is_utf8(bytes: &[u8]) -> bool
     ensures { result ≡ is_utf8 bytes.now }
 {
     str::from_utf8(bytes).is_ok()
 }
 
-/// Whether a text is UTF-8. Most texts are told by one block, without being gone through.
+/// Whether a text is UTF-8. For most texts the check of one block decides it.
 #[inline(always)] // so that the block is loaded once
 pub(crate) fn is_utf8_front(text: &Front<'_>) -> bool
     ensures { result ≡ is_utf8 text.now }
@@ -98,7 +98,7 @@ pub(crate) fn is_utf8_front(text: &Front<'_>) -> bool
     is_plain_block(text) || is_utf8(text.bytes())
 }
 
-/// Appends bytes as they stand in a JSON string.
+/// Appends bytes as the inside of a JSON string.
 fn push_string_body(out: &mut Vec<u8>, bytes: &[u8]) -> Result<(), AllocError>
     ensures { OnOk result (out.new.items ≡ out.old.items ++ string_body bytes.now) }
 {
@@ -113,7 +113,7 @@ fn push_string_body(out: &mut Vec<u8>, bytes: &[u8]) -> Result<(), AllocError>
     Ok(())
 }
 
-/// Appends numbers, with commas between them.
+/// Appends numbers, separated by commas.
 fn push_numbers(out: &mut Vec<u8>, bytes: &[u8]) -> Result<(), AllocError>
     ensures { OnOk result (out.new.items ≡ out.old.items ++ numbers bytes.now) }
 {
@@ -130,15 +130,15 @@ fn push_numbers(out: &mut Vec<u8>, bytes: &[u8]) -> Result<(), AllocError>
     Ok(())
 }
 
-/// Whether so many bytes are room for so many of a JSON string. It may say no where they are.
+/// Whether `left` bytes hold `count` bytes of a JSON string. It may return false if they do.
 pub(crate) fn fits_in_string(left: usize, count: usize) -> bool
     ensures { OnTrue result (6 * count + 16 ≤ left) }
 {
     STRETCH_ROOM <= left && count <= (left - BLOCK) / 6
 }
 
-/// Writes the first so many bytes from a place on as they stand in a JSON string, run after run of those that stand for
-/// themselves, and answers where they end.
+/// Writes the first `count` bytes as the inside of a JSON string into `room` at `at`. Bytes without an escape are
+/// copied run by run. Returns the position after them.
 pub(crate) fn put_string_body(room: &mut [u8], at: usize, bytes: &[u8], count: usize) -> usize
     requires within { count ≤ length bytes.now }
     requires room { at + 6 * count + 16 ≤ length room.old }
@@ -160,7 +160,7 @@ pub(crate) fn put_string_body(room: &mut [u8], at: usize, bytes: &[u8], count: u
     end
 }
 
-/// Writes a byte from a place on as it stands in a JSON string, and answers where it ends.
+/// Writes a byte as the inside of a JSON string into `room` at `at`. Returns the position after it.
 pub(crate) fn put_string_byte(room: &mut [u8], at: usize, byte: u8) -> usize
     requires { at + 6 ≤ length room.old }
     ensures bytes { take result room.new ≡ take at room.old ++ string_byte byte }
@@ -174,7 +174,7 @@ pub(crate) fn put_string_byte(room: &mut [u8], at: usize, byte: u8) -> usize
     }
 }
 
-/// Writes a control byte from a place on as it stands in a JSON string, and answers where it ends.
+/// Writes a control byte as the inside of a JSON string into `room` at `at`. Returns the position after it.
 #[cold]
 fn put_control(room: &mut [u8], at: usize, byte: u8) -> usize
     requires control { byte < 32 }
@@ -198,7 +198,7 @@ fn put_control(room: &mut [u8], at: usize, byte: u8) -> usize
     put_bytes(room, at, &[b'\\', letter])
 }
 
-/// Writes the number of a byte from a place on, and answers where it ends.
+/// Writes the number of a byte into `room` at `at`. Returns the position after it.
 pub(crate) fn put_number(room: &mut [u8], at: usize, byte: u8) -> usize
     requires { at + 3 ≤ length room.old }
     ensures bytes { take result room.new ≡ take at room.old ++ decimal byte }
@@ -209,7 +209,7 @@ pub(crate) fn put_number(room: &mut [u8], at: usize, byte: u8) -> usize
     put_bytes(room, at, digits.format(byte).as_bytes())
 }
 
-/// Writes the number of a byte from a place on, behind a comma, and answers where it ends.
+/// Writes a comma and the number of a byte into `room` at `at`. Returns the position after them.
 pub(crate) fn put_other_number(room: &mut [u8], at: usize, byte: u8) -> usize
     requires { at + 4 ≤ length room.old }
     ensures bytes { take result room.new ≡ take at room.old ++ other_number byte }
@@ -220,7 +220,8 @@ pub(crate) fn put_other_number(room: &mut [u8], at: usize, byte: u8) -> usize
     put_number(room, end, byte)
 }
 
-/// Writes an offset of a text with its location from a place on, as `[4,1,5]`, and answers where it ends.
+/// Writes an offset of a text with its line and column, as `[4,1,5]`, into `room` at `at`. Returns the position after
+/// it.
 pub(crate) fn put_location(room: &mut [u8], at: usize, offset: u64, location: Location) -> usize
     requires { at + 64 ≤ length room.old }
     ensures bytes { take result room.new
@@ -234,7 +235,7 @@ pub(crate) fn put_location(room: &mut [u8], at: usize, offset: u64, location: Lo
     put(room, columned, b']')
 }
 
-/// Writes a mark and a number behind it from a place on, and answers where they end.
+/// Writes a mark and a number into `room` at `at`. Returns the position after them.
 fn put_marked(room: &mut [u8], at: usize, mark: u8, number: u64) -> usize
     requires { at + 21 ≤ length room.old }
     ensures bytes { take result room.new ≡ take at room.old ++ mark ∷ decimal number }

@@ -6,13 +6,13 @@ use crate::text::{Terminal, push_name};
 use std::alloc::{AllocError, Global};
 use std::marker::Model;
 
-/// A short text that is printed again and again, as what stands before a leaf's text. It has room behind, so that it is
-/// copied as a block.
+/// A short text that is printed often, as the text before a leaf's token. Padding follows it, so that it is copied as
+/// one block.
 #[derive(Drop)]
 pub struct Label {
-    /// The text, and behind it as many bytes as a block has.
+    /// The text, followed by a block of padding.
     bytes: Vec<u8>,
-    /// How many bytes the text has.
+    /// The length of the text in bytes.
     count: usize,
 }
 
@@ -27,7 +27,7 @@ impl Model for Label {
 }
 
 impl Label {
-    /// The label of a text. It fails where memory runs out.
+    /// Makes the label of a text. Fails if memory runs out.
     pub fn new(text: Vec<u8>) -> Result<Label, AllocError>
         ensures { IfOk result (λ l. l ≡ text.items) }
     {
@@ -37,7 +37,8 @@ impl Label {
         Ok(Label { bytes, count })
     }
 
-    /// What stands before the text of a leaf: the terminal's name and a double quote. It fails where memory runs out.
+    /// Makes the label that precedes the text of a leaf: the terminal's name and a double quote. Fails if memory runs
+    /// out.
     pub fn before_leaf(alloc: Global, terminal: Terminal<'_>) -> Result<Label, AllocError>
         ensures { IfOk result (λ l. l ≡ before_leaf (named terminal.entry)) }
     {
@@ -47,21 +48,21 @@ impl Label {
         Label::new(text)
     }
 
-    /// How many bytes it has.
+    /// The length in bytes.
     pub fn len(&self) -> usize
         ensures { result ≡ length self.now }
     {
         self.count
     }
 
-    /// Its bytes.
+    /// The bytes of the text.
     pub fn bytes(&self) -> &[u8]
         ensures { result.now ≡ self.now }
     {
         &self.bytes[..self.count]
     }
 
-    /// A block of 16 bytes that begins with it, where it has no more.
+    /// Returns a block of 16 bytes that begins with the text, if the text is no longer than that.
     pub(crate) fn block(&self) -> Option<&[u8]>
         ensures block { IfSome result (λ b. length b.now ≡ 16) }
         ensures front { IfSome result (λ b. take (length self.now) b.now ≡ self.now) }
@@ -74,7 +75,7 @@ impl Label {
         }
     }
 
-    /// Its bytes, with the room behind them.
+    /// The text as a prefix of its bytes and padding.
     pub(crate) fn front(&self) -> Front<'_>
         ensures { result ≡ self.now }
     {

@@ -11,19 +11,19 @@ use crate::device::{Sink, Source};
 use crate::memory::{MemSink, MemSource};
 use std::io::{Read, Write};
 
-/// What is known of a reader or a writer is known where its failures are counted.
+/// If the bytes of a reader or a writer are known, they are known after it is wrapped to count its failures.
 pub fn counting_keeps_what_is_known<R: Read, W: Write>()
     ensures remaining { (c : Counted R) → ⟦<Counted<R> as Source>⟧.remaining c ≡ R.remaining (device_of c) }
     ensures contents { (c : Counted W) → ⟦<Counted<W> as Sink>⟧.contents c ≡ W.contents (device_of c) }
 {}
 
-/// Over memory all bytes are known: those that are left to read, and those that were written.
+/// For memory all bytes are known: those that are left to read, and those that were written.
 pub fn memory_is_known()
     ensures remaining { (s : MemSource) → ⟦<MemSource<'static> as Source>⟧.remaining s ≡ Some (unread s) }
     ensures contents { (s : MemSink) → ⟦<MemSink as Sink>⟧.contents s ≡ Some (written s) }
 {}
 
-/// Bytes are numbers below 256, as their type says.
+/// Bytes are numbers below 256, by their type.
 pub fn are_bytes(bytes: &[u8])
     ensures { All (λ byte. byte < 256) bytes.now }
 {}

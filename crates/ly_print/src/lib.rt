@@ -1,10 +1,15 @@
-//! From values to the bytes that are printed of them, and from bytes to devices and back.
+//! Printing: from values to printed bytes, and from bytes to devices and back.
 //!
-//! `write_whole` and `read_whole` carry bytes to and from devices that count their failures: at Ok all of them, at a
-//! fault a stated beginning, and a device is named only where it failed. `push_leaf` and its like print the tokens of
-//! a text, and `TextWriter` writes many pieces while they are printed, short ones by blocks (`Front`, `Label`).
+//! `write_whole` and `read_whole` write and read all bytes of a device that counts its failures. On success all bytes
+//! were transferred; on an error exactly a stated prefix was. A device error is reported only if the device failed.
+//! `push_leaf` and its like print the tokens of a text. `TextWriter` writes a long text while it is printed, and copies
+//! short parts of it as blocks (`Front`, `Label`).
 //!
-//! Left out: what a real file or terminal does. That is the word of its reads and writes.
+//! A `push_` function that appends to a vector leaves open how much it has appended when memory runs out: the caller
+//! drops the buffer. A token that is UTF-8 is printed in JSON as `"text"`, and any other as `"bytes"`, a list of
+//! numbers, so JSON output is always valid Unicode.
+//!
+//! Not covered: what a real file or terminal does with the bytes. Its reads and writes are trusted.
 #![tactic(auto)]
 
 mod answer_form;

@@ -6,21 +6,21 @@ ghost use Rattle.ly_print.specs.Device.{CountsFailure, allowed, left_after, read
 use crate::device::{DeviceFailed, Sink, Source};
 use std::alloc::{AllocError, Global};
 
-/// A source over bytes in memory, which can fail after a number of them.
+/// A source over bytes in memory. It can be set to fail after a number of bytes.
 #[derive(Drop)]
 pub struct MemSource<'a> {
     /// The bytes that are not read yet.
     rest: &'a [u8],
-    /// How many bytes it gives before it fails, if it will.
+    /// The number of bytes that it gives before it fails, if it is set to fail.
     left: Option<usize>,
-    /// How many calls failed.
+    /// The number of calls that failed.
     failures: u64,
 }
 
 impl<'a> MemSource<'a> {
     ghost use Rattle.ly_print.specs.MemSource.{gives_at_most, read_failures, unread};
 
-    /// Gives all of `bytes`, and then the end.
+    /// Makes a source that gives all of `bytes` and then the end.
     pub fn new(bytes: &'a [u8]) -> Self
         ensures bytes { unread result ≡ bytes.now }
         ensures never_fails { gives_at_most result ≡ None }
@@ -33,7 +33,7 @@ impl<'a> MemSource<'a> {
         }
     }
 
-    /// Gives the first `count` of `bytes`, and then fails at each read.
+    /// Makes a source that gives the first `count` of `bytes` and then fails at each read, also at the end of `bytes`.
     pub fn failing_after(bytes: &'a [u8], count: usize) -> Self
         ensures bytes { unread result ≡ bytes.now }
         ensures fails { gives_at_most result ≡ Some count }
@@ -59,7 +59,7 @@ impl Source for MemSource<'_> {
         ensures bytes { ReadConsumes (Some (unread self.old)) (Some (unread self.new)) result buf.new }
         ensures counted { CountsFailure (read_failed result) (read_failures self.old) (read_failures self.new) }
 
-        // As many bytes as there are and as fit, and it fails once no more is left before the failure.
+        // It gives as many bytes as there are and as fit. It fails once it has given all bytes before its failure.
         ensures fails { IsErr result ↔ (gives_at_most self.old ≡ Some 0) }
         ensures count { IfOk result
             (λ n. n ≡ allowed (gives_at_most self.old) (min (length buf.old) (length (unread self.old)))) }
@@ -79,21 +79,21 @@ impl Source for MemSource<'_> {
     }
 }
 
-/// A sink into a vector, which can fail after a number of bytes, and fails when memory runs out.
+/// A sink into a vector. It fails when memory runs out, and can be set to fail after a number of bytes.
 #[derive(Drop)]
 pub struct MemSink {
     /// The bytes that were written.
     bytes: Vec<u8>,
-    /// How many bytes it takes before it fails, if it will.
+    /// The number of bytes that it takes before it fails, if it is set to fail.
     left: Option<usize>,
-    /// How many calls failed.
+    /// The number of calls that failed.
     failures: u64,
 }
 
 impl MemSink {
     ghost use Rattle.ly_print.specs.MemSink.{room, takes_at_most, write_failures, written};
 
-    /// Takes all bytes, while there is memory.
+    /// Makes a sink that takes all bytes while memory lasts.
     pub fn new(alloc: Global) -> Self
         ensures empty { written result ≡ [] }
         ensures never_fails { takes_at_most result ≡ None }
@@ -106,7 +106,7 @@ impl MemSink {
         }
     }
 
-    /// Takes `count` bytes, and then fails at each write of one or more.
+    /// Makes a sink that takes `count` bytes and then fails at each write of one or more bytes.
     pub fn failing_after(alloc: Global, count: usize) -> Self
         ensures empty { written result ≡ [] }
         ensures fails { takes_at_most result ≡ Some count }
@@ -119,7 +119,7 @@ impl MemSink {
         }
     }
 
-    /// Takes all bytes, while there is memory; for the first `count` the room is made here, or refused.
+    /// Makes a sink that takes all bytes while memory lasts. It allocates `count` bytes now; fails if memory runs out.
     pub fn with_room(alloc: Global, count: usize) -> Result<Self, AllocError>
         ensures empty { IfOk result (λ s. written s ≡ []) }
         ensures never_fails { IfOk result (λ s. takes_at_most s ≡ None) }
@@ -140,7 +140,7 @@ impl MemSink {
         self.bytes.as_slice()
     }
 
-    /// The bytes that were written, which are given away.
+    /// Returns the bytes that were written, as an owned vector.
     pub fn into_bytes(self) -> Vec<u8>
         ensures { result.items ≡ written self }
     {
@@ -155,15 +155,14 @@ impl Sink for MemSink {
 
     ghost failures = { write_failures };
 
-    /// It fails where no byte is left before the failure, and where memory runs out: only where the room that it has
-    /// is too short.
+    /// Fails if no byte is left before its failure, and if memory runs out, which can only happen beyond its capacity.
     fn push(&mut self, buf: &[u8]) -> Result<usize, DeviceFailed>
         ensures bound { WritesAtMost result buf.now }
         ensures bytes { WriteAppends (Some (written self.old)) (Some (written self.new)) result buf.now }
         ensures counted { CountsFailure (write_failed result (length buf.now)) (write_failures self.old)
             (write_failures self.new) }
 
-        // As many bytes as there are and as are left before the failure.
+        // It takes as many bytes as there are and as are left before its failure.
         ensures fails { takes_at_most self.old ≡ Some 0 → 0 < length buf.now → IsErr result }
         ensures only { OnErr result (((takes_at_most self.old ≡ Some 0) × (0 < length buf.now))
             ⊎ (room self.old < length (written self.old) + allowed (takes_at_most self.old) (length buf.now))) }
@@ -183,7 +182,7 @@ impl Sink for MemSink {
     }
 }
 
-/// At most `count` bytes, and no more than are left before the failure.
+/// Returns `count`, or the number of bytes left before the failure if that is less.
 fn allowed(left: Option<usize>, count: usize) -> usize
     ensures { result ≡ allowed left count }
 {
@@ -193,7 +192,7 @@ fn allowed(left: Option<usize>, count: usize) -> usize
     }
 }
 
-/// How many bytes are left before the failure, `count` bytes later.
+/// The number of bytes left before the failure, after `count` more bytes.
 fn left_after(left: Option<usize>, count: usize) -> Option<usize>
     ensures { result ≡ left_after left count }
 {

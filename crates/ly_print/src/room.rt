@@ -14,24 +14,23 @@ use crate::text::is_plain;
 use itoa::Buffer;
 use std::simd::prelude::*;
 
-/// How many bytes a label and a text take at most that are printed as a block each, with a quote and a newline.
+/// The greatest number of bytes of a label and a text that are printed as one block each, with a quote and a newline.
 pub(crate) const SHORT_ROOM: usize = 34;
 
-/// How many bytes the line has at most that says at which byte no rule matches.
+/// The greatest length in bytes of the line that reports at which byte no rule matches.
 pub(crate) const NO_RULE_ROOM: usize = 45;
 
-/// How many bytes a label or a text has at most that is printed into a room at once.
+/// The greatest length in bytes of a label or a text that is printed into a buffer at once.
 const SHORT: usize = 512;
 
-/// Whether so many bytes are room for a label and a text behind it, each of so many bytes, and for a byte behind both.
-/// It may say no where they are.
+/// Whether `left` bytes hold a label and a text of these lengths and one more byte. It may return false if they do.
 pub(crate) fn fits(left: usize, label: usize, text: usize) -> bool
     ensures { OnTrue result (quoted_room label text + 1 ≤ left) }
 {
     label <= SHORT && text <= SHORT && 5 * SHORT + BLOCK + 2 <= left
 }
 
-/// Writes a label and a text behind it from a place on, and answers where they end.
+/// Writes a label and a text into `room` at `at`. Returns the position after them.
 #[inline(always)] // a call would cost a tenth of a short text
 pub(crate) fn put_quoted(room: &mut [u8], at: usize, label: &Front<'_>, text: &Front<'_>) -> usize
     requires { at + quoted_room (length label.now) (length text.now) ≤ length room.old }
@@ -44,9 +43,9 @@ pub(crate) fn put_quoted(room: &mut [u8], at: usize, label: &Front<'_>, text: &F
     put(room, end, b'"')
 }
 
-/// Writes a label and a text behind it from a place on, where the label is short and there is room for the text, and
-/// answers where they end. A short text whose bytes all stand for themselves is one block. Otherwise what stands before
-/// the place is kept.
+/// Writes a label and a text into `room` at `at`, if the label is short and the text fits. Returns the position after
+/// them. A short text without escapes is copied as one block. If nothing is written, the bytes before `at` are
+/// unchanged.
 #[inline(always)] // so that the loop that prints has the registers
 pub(crate) fn put_short(
     room: &mut [u8],
@@ -81,7 +80,7 @@ pub(crate) fn put_short(
     Some(put(room, end, b'"'))
 }
 
-/// Writes a front from a place on as it is, and answers where it ends. A short one is one block.
+/// Writes a prefix as it is into `room` at `at`. Returns the position after it. A short one is copied as one block.
 #[inline(always)]
 fn put_front(room: &mut [u8], at: usize, front: &Front<'_>) -> usize
     requires { at + length front.now + 16 ≤ length room.old }
@@ -95,8 +94,8 @@ fn put_front(room: &mut [u8], at: usize, front: &Front<'_>) -> usize
     put_front_of(room, at, block, front.len())
 }
 
-/// Writes a text from a place on as it stands between double quotes, and answers where it ends. So that a short text is
-/// one block, a processor has no length to guess.
+/// Writes a text as the inside of a double-quoted string into `room` at `at`. Returns the position after it. A short
+/// text is copied as one block, without a branch on its length.
 #[inline(always)]
 fn put_text(room: &mut [u8], at: usize, text: &Front<'_>) -> usize
     requires { at + 4 * length text.now + 16 ≤ length room.old }
@@ -111,8 +110,8 @@ fn put_text(room: &mut [u8], at: usize, text: &Front<'_>) -> usize
     put_runs(room, at + run, &text.bytes[run..], text.count - run)
 }
 
-/// Writes the first so many bytes from a place on as they stand between double quotes, run after run of those that
-/// stand for themselves, and answers where they end.
+/// Writes the first `count` bytes as the inside of a double-quoted string into `room` at `at`. Bytes without an escape
+/// are copied run by run. Returns the position after them.
 #[inline(never)] // so that a text without an escape has the registers
 fn put_runs(room: &mut [u8], at: usize, bytes: &[u8], count: usize) -> usize
     requires within { count ≤ length bytes.now }
@@ -133,7 +132,7 @@ fn put_runs(room: &mut [u8], at: usize, bytes: &[u8], count: usize) -> usize
     end
 }
 
-/// Writes a byte from a place on as it stands between double quotes, and answers where it ends.
+/// Writes a byte as the inside of a double-quoted string into `room` at `at`. Returns the position after it.
 #[inline(always)]
 fn put_one(room: &mut [u8], at: usize, byte: u8) -> usize
     requires { at + 4 ≤ length room.old }
@@ -151,8 +150,8 @@ fn put_one(room: &mut [u8], at: usize, byte: u8) -> usize
     put_escape(room, at, byte)
 }
 
-/// Copies those of the first bytes that stand for themselves between double quotes to a place, so many at most and no
-/// more than a block has, and answers how many they are. They are none where no block is left.
+/// Copies the first bytes that need no escape between double quotes into `room` at `at`, at most `most` and at most a
+/// block. Returns how many. It copies none if less than a block is left.
 #[inline(always)]
 pub(crate) fn put_plain(room: &mut [u8], at: usize, bytes: &[u8], most: usize) -> usize
     requires { at + 16 ≤ length room.old }
@@ -165,13 +164,13 @@ pub(crate) fn put_plain(room: &mut [u8], at: usize, bytes: &[u8], most: usize) -
     if bytes.len() < BLOCK {
         return 0;
     }
-    // looked at before it is copied, the block is loaded once
+    // checking before copying loads the block only once
     let run = plain_run(bytes);
     put_block(room, at, bytes);
     run.min(most)
 }
 
-/// Copies a block to a place, and answers where so many of its bytes end.
+/// Copies a block into `room` at `at`. Returns the position after the first `count` of its bytes.
 pub(crate) fn put_front_of(room: &mut [u8], at: usize, block: &[u8], count: usize) -> usize
     requires block { length block.now ≡ 16 }
     requires within { at + 16 ≤ length room.old }
@@ -184,7 +183,7 @@ pub(crate) fn put_front_of(room: &mut [u8], at: usize, block: &[u8], count: usiz
     at + count
 }
 
-/// Copies a block to a place.
+/// Copies a block into `room` at `at`.
 fn put_block(room: &mut [u8], at: usize, bytes: &[u8])
     requires block { 16 ≤ length bytes.now }
     requires within { at + 16 ≤ length room.old }
@@ -193,7 +192,7 @@ fn put_block(room: &mut [u8], at: usize, bytes: &[u8])
     u8x16::from_slice(bytes).copy_to_slice(&mut room[at..]);
 }
 
-/// How many bytes at the front of a block stand for themselves between double quotes.
+/// The number of bytes at the start of a block that need no escape between double quotes.
 fn plain_run(bytes: &[u8]) -> usize
     requires { 16 ≤ length bytes.now }
     ensures { result ≡ prefix_len (is_plain double_quote) (take 16 bytes.now) }
@@ -206,15 +205,15 @@ fn plain_run(bytes: &[u8]) -> usize
     BLOCK.min(special.to_bitmask().trailing_zeros() as usize)
 }
 
-/// Whether a text is no longer than a block and all of its bytes stand for themselves between double quotes, so that it
-/// is ASCII. It may say no where they do.
+/// Whether a text is no longer than a block and needs no escape between double quotes, which implies that it is ASCII.
+/// It may return false if this holds.
 pub(crate) fn is_plain_block(text: &Front<'_>) -> bool
     ensures { OnTrue result (IsAscii text.now) }
 {
     BLOCK <= text.bytes.len() && text.count <= plain_run(text.bytes)
 }
 
-/// Writes a byte that doesn't stand for itself from a place on, and answers where it ends.
+/// Writes the escape of a byte into `room` at `at`. Returns the position after it.
 #[cold]
 pub(crate) fn put_escape(room: &mut [u8], at: usize, byte: u8) -> usize
     requires { at + 4 ≤ length room.old }
@@ -246,7 +245,8 @@ pub(crate) fn hex_digit(value: u8) -> u8
     }
 }
 
-/// Writes the line that says at which byte no rule matches, counted from 0, from a place on, and answers where it ends.
+/// Writes the line that reports at which byte no rule matches into `room` at `at`. The byte is counted from 0. Returns
+/// the position after the line.
 pub(crate) fn put_no_rule_line(room: &mut [u8], at: usize, byte: u64) -> usize
     requires { at + 45 ≤ length room.old }
     ensures bytes { take result room.new ≡ take at room.old ++ no_rule_line byte }
@@ -259,7 +259,7 @@ pub(crate) fn put_no_rule_line(room: &mut [u8], at: usize, byte: u64) -> usize
     put(room, counted, b'\n')
 }
 
-/// Writes bytes from a place on as they are, and answers where they end.
+/// Writes bytes as they are into `room` at `at`. Returns the position after them.
 pub(crate) fn put_bytes(room: &mut [u8], at: usize, bytes: &[u8]) -> usize
     requires { at + length bytes.now ≤ length room.old }
     ensures bytes { take result room.new ≡ take at room.old ++ bytes.now }
@@ -271,7 +271,7 @@ pub(crate) fn put_bytes(room: &mut [u8], at: usize, bytes: &[u8]) -> usize
     end
 }
 
-/// Writes a byte at a place, and answers the next one.
+/// Writes a byte into `room` at `at`. Returns the next position.
 pub(crate) fn put(room: &mut [u8], at: usize, byte: u8) -> usize
     requires { at + 1 ≤ length room.old }
     ensures byte { take result room.new ≡ take at room.old ++ byte ∷ [] }

@@ -9,14 +9,14 @@ use std::alloc::AllocError;
 pub enum Terminal<'a> {
     /// A token, by its name.
     Token(&'a [u8]),
-    /// A byte that stands for itself.
+    /// A literal byte of the grammar.
     Literal(u8),
 }
 
-/// Appends a leaf: the terminal's name, then the token's text in double quotes, as `NUM"12"`. The
-/// name of a literal is its byte in single quotes, as `'+'`.
+/// Appends a leaf: the terminal's name, then the token's text in double quotes, as `NUM"12"`. The name of a literal is
+/// its byte in single quotes, as `'+'`.
 ///
-/// It fails where memory runs out. How much was appended by then is left open.
+/// Fails if memory runs out. How much is appended by then is unspecified.
 pub fn push_leaf(out: &mut Vec<u8>, terminal: Terminal<'_>, text: &[u8]) -> Result<(), AllocError>
     ensures { OnOk result (out.new.items ≡ out.old.items ++ leaf_of (named terminal.entry) text.now) }
 {
@@ -29,7 +29,7 @@ pub fn push_leaf(out: &mut Vec<u8>, terminal: Terminal<'_>, text: &[u8]) -> Resu
 
 /// Appends a terminal's name.
 ///
-/// It fails where memory runs out. How much was appended by then is left open.
+/// Fails if memory runs out. How much is appended by then is unspecified.
 pub fn push_name(out: &mut Vec<u8>, terminal: Terminal<'_>) -> Result<(), AllocError>
     ensures { OnOk result (out.new.items ≡ out.old.items ++ name_of (named terminal.entry)) }
 {
@@ -44,15 +44,15 @@ pub fn push_name(out: &mut Vec<u8>, terminal: Terminal<'_>) -> Result<(), AllocE
     }
 }
 
-/// Appends bytes as they stand between quotes. Bytes 32 to 126 stand for themselves, but `\` and
-/// `quote` have a backslash before them; byte 10 is `\n`, byte 9 is `\t`, and any other is `\x` with
-/// two lower-case hexadecimal digits.
+/// Appends bytes as the inside of a quoted string. Bytes 32 to 126 are written as they are, but `\` and `quote` have a
+/// backslash before them. Byte 10 is `\n`, byte 9 is `\t`, and any other byte is `\x` with two lower-case hexadecimal
+/// digits.
 ///
-/// It fails where memory runs out. How much was appended by then is left open.
+/// Fails if memory runs out. How much is appended by then is unspecified.
 pub fn push_escaped(out: &mut Vec<u8>, quote: u8, bytes: &[u8]) -> Result<(), AllocError>
     ensures { OnOk result (out.new.items ≡ out.old.items ++ escaped quote bytes.now) }
 {
-    // Bytes that stand for themselves are copied a run at a time.
+    // Bytes without an escape are copied a run at a time.
     let mut start = 0;
     for (at, byte) in bytes.iter().enumerate() {
         if !is_plain(quote, *byte) {
@@ -64,14 +64,14 @@ pub fn push_escaped(out: &mut Vec<u8>, quote: u8, bytes: &[u8]) -> Result<(), Al
     out.extend_from_slice(&bytes[start..])
 }
 
-/// Whether the byte stands for itself between these quotes.
+/// Whether the byte needs no escape between these quotes.
 pub(crate) fn is_plain(quote: u8, byte: u8) -> bool
     ensures { result ≡ is_plain quote byte }
 {
     (32..=126).contains(&byte) && byte != b'\\' && byte != quote
 }
 
-/// Appends a byte that doesn't stand for itself.
+/// Appends the escape of a byte.
 fn push_escape(out: &mut Vec<u8>, byte: u8) -> Result<(), AllocError>
     ensures { OnOk result (out.new.items ≡ out.old.items ++ escape_for byte) }
 {
@@ -80,9 +80,9 @@ fn push_escape(out: &mut Vec<u8>, byte: u8) -> Result<(), AllocError>
     out.extend_from_slice(&room[..end])
 }
 
-/// Appends the line that says at which byte no rule matches, counted from 0.
+/// Appends the line that reports at which byte no rule matches. The byte is counted from 0.
 ///
-/// It fails where memory runs out. How much was appended by then is left open.
+/// Fails if memory runs out. How much is appended by then is unspecified.
 pub fn push_no_rule_line(out: &mut Vec<u8>, byte: u64) -> Result<(), AllocError>
     ensures { OnOk result (out.new.items ≡ out.old.items ++ no_rule_line byte) }
 {

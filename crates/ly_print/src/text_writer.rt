@@ -24,18 +24,18 @@ use ly_base::Location;
 use std::alloc::{AllocError, Global};
 use std::marker::Model;
 
-/// How many bytes the room has.
+/// The size of the buffer in bytes.
 const ROOM: usize = 65_536;
 
-/// Printed text on its way to a writer. The last of it is held back in a room of fixed length, and goes out when that
-/// is full. So printing takes no memory once the room is made, and what was printed before takes none.
+/// Writes printed text through a buffer of fixed size, which is flushed when it is full. Printing therefore allocates
+/// nothing after `new`, and text that was written takes no memory.
 #[derive(Drop)]
 pub struct TextWriter {
-    /// The text that is held back stands in its first `used` bytes.
+    /// The buffer. Its first `used` bytes are text that isn't written yet.
     room: Vec<u8>,
-    /// How many bytes of the room are text.
+    /// The number of bytes of text in the buffer.
     used: usize,
-    /// How many bytes went out.
+    /// The number of bytes that were written.
     sent: usize,
 }
 
@@ -51,7 +51,7 @@ impl Model for TextWriter {
 }
 
 impl TextWriter {
-    /// No text, or that the room is refused.
+    /// Makes a writer of the empty text. Fails if memory runs out.
     pub fn new(alloc: Global) -> Result<Self, AllocError>
         ensures { IfOk result (λ w. w ≡ record { sent = 0; held = [] }) }
     {
@@ -64,7 +64,7 @@ impl TextWriter {
 
     /// Appends a byte.
     ///
-    /// It fails where the writer does.
+    /// Fails if the writer fails.
     #[inline(always)] // a call would cost more than the store
     pub fn push<W: Sink>(&mut self, writer: &mut W, byte: u8) -> Result<(), WriteFault>
         requires countable { bytes_of self.old + 1 < 2 ^ 64 }
@@ -80,9 +80,9 @@ impl TextWriter {
         Ok(())
     }
 
-    /// Appends bytes, which are best a short run.
+    /// Appends bytes, preferably a short run.
     ///
-    /// It fails where the writer does.
+    /// Fails if the writer fails.
     pub fn push_bytes<W: Sink>(&mut self, writer: &mut W, bytes: &[u8]) -> Result<(), WriteFault>
         requires countable { bytes_of self.old + length bytes.now < 2 ^ 64 }
         ensures text { IsAppended self.old self.new (W.contents writer.old) (W.contents writer.new) bytes.now result }
@@ -99,7 +99,7 @@ impl TextWriter {
 
     /// Appends a label.
     ///
-    /// It fails where the writer does.
+    /// Fails if the writer fails.
     #[inline(always)] // so that the loop that prints has the registers
     pub fn push_label<W: Sink>(&mut self, writer: &mut W, label: &Label) -> Result<(), WriteFault>
         requires countable { bytes_of self.old + length label.now < 2 ^ 64 }
@@ -117,10 +117,10 @@ impl TextWriter {
         self.push_long_label(writer, label)
     }
 
-    /// Appends a label and a text behind it, as it stands between double quotes, with the quote that closes it: a
-    /// leaf, if the label is what stands before its text.
+    /// Appends a label and a text as the inside of a double-quoted string, with the closing quote. This prints a leaf
+    /// if the label is made by `Label::before_leaf`.
     ///
-    /// It fails where the writer does.
+    /// Fails if the writer fails.
     #[inline(always)] // so that the loop that prints has the registers
     pub fn push_quoted<W: Sink>(
         &mut self,
@@ -144,10 +144,10 @@ impl TextWriter {
         self.push_long(writer, label, text.bytes, text.count)
     }
 
-    /// Appends a line: a label and a text behind it, as it stands between double quotes, with the quote that closes
-    /// it. It is a leaf's line, if the label is what stands before its text.
+    /// Appends a line: a label and a text as the inside of a double-quoted string, with the closing quote. This prints
+    /// the line of a leaf if the label is made by `Label::before_leaf`.
     ///
-    /// It fails where the writer does.
+    /// Fails if the writer fails.
     #[inline(always)] // likewise
     pub fn push_quoted_line<W: Sink>(
         &mut self,
@@ -172,9 +172,9 @@ impl TextWriter {
         self.push_long_line(writer, label, text.bytes, text.count)
     }
 
-    /// Appends a label, and what a token consists of behind it, with the brace that closes an object.
+    /// Appends a label, the text of a token as `push_json_content` prints it, and the brace that closes an object.
     ///
-    /// It fails where the writer does.
+    /// Fails if the writer fails.
     pub fn push_json_leaf<W: Sink>(
         &mut self,
         writer: &mut W,
@@ -194,10 +194,10 @@ impl TextWriter {
         self.push(writer, b'}')
     }
 
-    /// Appends what a token consists of as a member of a JSON object: `"text":` and a string where it is UTF-8, or else
-    /// `"bytes":` and a list of its bytes' numbers.
+    /// Appends the text of a token as a member of a JSON object. If the text is UTF-8, the member is `"text":` and a
+    /// string. Otherwise it is `"bytes":` and a list of the bytes' numbers.
     ///
-    /// It fails where the writer does.
+    /// Fails if the writer fails.
     pub fn push_json_content<W: Sink>(
         &mut self,
         writer: &mut W,
@@ -217,9 +217,9 @@ impl TextWriter {
         }
     }
 
-    /// Appends an offset of a text with its location, as `[4,1,5]`.
+    /// Appends an offset of a text with its line and column, as `[4,1,5]`.
     ///
-    /// It fails where the writer does.
+    /// Fails if the writer fails.
     pub fn push_json_location<W: Sink>(
         &mut self,
         writer: &mut W,
@@ -239,9 +239,9 @@ impl TextWriter {
         self.push_bytes(writer, &room[..end])
     }
 
-    /// Appends the line that says at which byte no rule matches, counted from 0.
+    /// Appends the line that reports at which byte no rule matches. The byte is counted from 0.
     ///
-    /// It fails where the writer does.
+    /// Fails if the writer fails.
     pub fn push_no_rule_line<W: Sink>(
         &mut self,
         writer: &mut W,
@@ -259,9 +259,9 @@ impl TextWriter {
         self.push_bytes(writer, &room[..end])
     }
 
-    /// Writes what is held back: the end of the text.
+    /// Writes the rest of the buffer: the end of the text.
     ///
-    /// It fails where the writer does.
+    /// Fails if the writer fails.
     pub fn finish<W: Sink>(self, writer: &mut W) -> Result<(), WriteFault>
         requires countable { bytes_of self < 2 ^ 64 }
         ensures text { (before : Option (List ℕ)) (text : List ℕ)
@@ -275,7 +275,7 @@ impl TextWriter {
         send(&mut sent, writer, &self.room[..self.used])
     }
 
-    /// Appends a label, however long it is.
+    /// Appends a label of any length.
     #[inline(never)] // so that a short one has the registers
     fn push_long_label<W: Sink>(&mut self, writer: &mut W, label: &Label) -> Result<(), WriteFault>
         requires countable { bytes_of self.old + length label.now < 2 ^ 64 }
@@ -287,8 +287,7 @@ impl TextWriter {
         self.push_bytes(writer, label.bytes())
     }
 
-    /// Appends a label and the first so many of these bytes as `push_quoted` does, however long they are and whether or
-    /// not they stand for themselves.
+    /// Appends a label and the first `count` bytes as `push_quoted` does, of any length and with any escapes.
     #[inline(never)] // so that a short text has the registers
     fn push_long<W: Sink>(
         &mut self,
@@ -314,8 +313,8 @@ impl TextWriter {
         Ok(())
     }
 
-    /// Appends a line of a label and the first so many of these bytes as `push_quoted_line` does, however long they are
-    /// and whether or not they stand for themselves.
+    /// Appends a line of a label and the first `count` bytes as `push_quoted_line` does, of any length and with any
+    /// escapes.
     #[inline(never)] // so that a short text has the registers
     fn push_long_line<W: Sink>(
         &mut self,
@@ -337,8 +336,8 @@ impl TextWriter {
         self.push(writer, b'\n')
     }
 
-    /// Appends bytes for which the room has no place left. What is held back goes out, and the bytes are held back in
-    /// its place. They go out at once only where the whole room is too short for them.
+    /// Appends bytes that don't fit into the buffer. Flushes the buffer, then puts the bytes into it. Bytes that are
+    /// longer than the whole buffer are written at once.
     #[cold]
     fn push_behind<W: Sink>(&mut self, writer: &mut W, bytes: &[u8]) -> Result<(), WriteFault>
         requires countable { bytes_of self.old + length bytes.now < 2 ^ 64 }
@@ -356,7 +355,7 @@ impl TextWriter {
         Ok(())
     }
 
-    /// Appends a label and a text behind it, for which the room may have no place left.
+    /// Appends a label and a text that may not fit into the buffer.
     #[cold]
     fn push_quoted_behind<W: Sink>(
         &mut self,
@@ -371,7 +370,7 @@ impl TextWriter {
         ensures no_failure { OnOk result (W.failures writer.new ≡ W.failures writer.old) }
         ensures failed { OnErr result (W.failures writer.new ≡ next_count (W.failures writer.old)) }
     {
-        // the room holds the label at most then
+        // then the buffer holds at most the label
         self.push_behind(writer, label)?;
         self.push_each(writer, ByteForm::Quoted, text)?;
         self.push(writer, b'"')
@@ -410,7 +409,7 @@ impl TextWriter {
         self.push(writer, b']')
     }
 
-    /// Appends numbers, with commas between them.
+    /// Appends numbers, separated by commas.
     fn push_numbers<W: Sink>(&mut self, writer: &mut W, bytes: &[u8]) -> Result<(), WriteFault>
         requires countable { bytes_of self.old + length (numbers bytes.now) < 2 ^ 64 }
         ensures text { IsAppended self.old self.new (W.contents writer.old) (W.contents writer.new)
@@ -428,7 +427,7 @@ impl TextWriter {
         self.push_each(writer, ByteForm::OtherNumber, others)
     }
 
-    /// Appends a text as it stands in a JSON string.
+    /// Appends a text as the inside of a JSON string.
     fn push_string_body<W: Sink>(
         &mut self,
         writer: &mut W,
@@ -448,7 +447,7 @@ impl TextWriter {
         Ok(())
     }
 
-    /// Appends what is written for each byte.
+    /// Appends each byte in the given form.
     fn push_each<W: Sink>(
         &mut self,
         writer: &mut W,
@@ -472,7 +471,7 @@ impl TextWriter {
     }
 }
 
-/// Writes the bytes behind those that went out, and counts them.
+/// Writes bytes and adds their number to `sent`.
 fn send<W: Sink>(sent: &mut usize, writer: &mut W, bytes: &[u8]) -> Result<(), WriteFault>
     requires countable { sent.old + length bytes.now < 2 ^ 64 }
     ensures ok { OnOk result (Appends (W.contents writer.old) (W.contents writer.new) bytes.now) }

@@ -6,20 +6,20 @@ use crate::room::{put_bytes, put_front_of};
 use std::alloc::{AllocError, Global};
 use std::marker::Model;
 
-/// How many bytes of room are made at a time.
+/// The number of bytes that are allocated at a time.
 const ROOM: usize = 4_096;
 
-/// How many places have 32 bits.
+/// The number of offsets that fit into 32 bits.
 const MOST_PLACES: usize = 1 << 32;
 
-/// Texts, one behind another, with room behind them, so that a short one is copied as a block.
+/// Texts one after another, with padding after them, so that a short one is copied as one block.
 #[derive(Drop)]
 pub struct Texts {
-    /// The texts, and the room behind them.
+    /// The texts and the padding after them.
     bytes: Vec<u8>,
-    /// How many of the bytes are text.
+    /// The number of bytes that are text.
     used: usize,
-    /// Before this place a block has room, and where one begins there has 32 bits.
+    /// Before this offset a block fits, and the offset itself fits into 32 bits.
     blocks: usize,
 }
 
@@ -35,7 +35,7 @@ impl Model for Texts {
 }
 
 impl Texts {
-    /// No texts.
+    /// Returns no texts.
     pub fn new(alloc: Global) -> Self
         ensures { result ≡ [] }
     {
@@ -46,14 +46,14 @@ impl Texts {
         }
     }
 
-    /// How many bytes they have.
+    /// The number of bytes of all texts.
     pub fn len(&self) -> usize
         ensures { result ≡ length self.now }
     {
         self.used
     }
 
-    /// Appends a text. It fails where memory runs out, and then the texts are as they were.
+    /// Appends a text. Fails if memory runs out; then the texts are unchanged.
     pub fn push(&mut self, text: &Front<'_>) -> Result<(), AllocError>
         ensures ok { OnOk result (self.new ≡ self.old ++ text.now) }
         ensures err { OnErr result (self.new ≡ self.old) }
@@ -61,7 +61,7 @@ impl Texts {
         self.push_long(text.bytes, text.count)
     }
 
-    /// Appends a text as a block, if it has 16 bytes at most and there is room, and answers where it begins.
+    /// Appends a text as one block, if it has at most 16 bytes and fits. Returns the offset where it begins.
     #[inline(always)] // by a call a token takes a tenth more instructions
     pub fn push_block(&mut self, text: &Front<'_>) -> Option<u32>
         ensures begins { IfSome result (λ start. start ≡ length self.old) }
@@ -78,7 +78,7 @@ impl Texts {
         Some(start as u32)
     }
 
-    /// So many of the bytes that stand behind others.
+    /// Returns `count` bytes from the offset `start` on.
     pub fn front(&self, start: usize, count: usize) -> Front<'_>
         requires { start + count ≤ length self.now }
         ensures { result ≡ take count (drop start self.now) }
@@ -86,14 +86,14 @@ impl Texts {
         Front::new(&self.bytes[start..], count)
     }
 
-    /// What they consist of is bytes.
+    /// The contents are bytes.
     pub fn are_bytes(&self)
         ensures { All (λ byte. byte < 256) self.now }
     {
         are_bytes(&self.bytes[..self.used]);
     }
 
-    /// Appends the first so many of these bytes, however many they are.
+    /// Appends the first `count` bytes, however many they are.
     #[inline(never)] // so that a short text has the registers
     fn push_long(&mut self, bytes: &[u8], count: usize) -> Result<(), AllocError>
         requires { count ≤ length bytes.now }

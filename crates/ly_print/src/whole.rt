@@ -7,15 +7,15 @@ use crate::device::{Sink, Source};
 use std::alloc::{AllocError, Global};
 use thiserror::Error;
 
-/// A write failed. Only the first `written` bytes went out.
+/// A write failed. Exactly the first `written` bytes were written.
 #[derive(Clone, Copy, Debug, PartialEq, Eq, Error)]
 #[error("a write failed after {written} bytes")]
 pub struct WriteFault {
-    /// How many bytes went out.
+    /// The number of bytes that were written.
     pub written: usize,
 }
 
-/// Writes all of `bytes`, by as many writes as it takes. It stops at the first failure.
+/// Writes all of `bytes`, with as many calls as needed. Stops at the first failure.
 pub fn write_whole<W: Sink>(writer: &mut W, bytes: &[u8]) -> Result<(), WriteFault>
     ensures ok { OnOk result (Appends (W.contents writer.old) (W.contents writer.new) bytes.now) }
     ensures no_failure { OnOk result (W.failures writer.new ≡ W.failures writer.old) }
@@ -53,11 +53,11 @@ impl From<AllocError> for ReadFault {
     }
 }
 
-/// How many bytes are read at a time.
+/// The number of bytes that are read at a time.
 const ROOM: usize = 65_536;
 
-/// Reads all that is left, `ROOM` bytes at a time. It stops at the first failure; a failed read is
-/// never taken as the end. A source that doesn't end is `OutOfMemory`.
+/// Reads everything that is left, `ROOM` bytes at a time. Stops at the first failure; a failed read is never taken as
+/// the end. A source that doesn't end is `OutOfMemory`.
 pub fn read_whole<S: Source>(alloc: Global, source: &mut S) -> Result<Vec<u8>, ReadFault>
     ensures bytes { IfOk result (λ read. IfSome (S.remaining source.old) (λ bytes. read.items ≡ bytes)) }
     ensures ended { OnOk result (IsAtEnd (S.remaining source.new)) }
