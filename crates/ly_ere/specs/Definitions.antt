@@ -21,16 +21,16 @@ abbrev pub AreDistinct : List DefinedText → Type 0
 AreDistinct list = (n m : ℕ) (c d : DefinedText) → slice_get list n ≡ Some c → slice_get list m ≡ Some d
     → c.name ≡ d.name → n ≡ m
 
--- each text has elements
+-- each text consists of elements
 abbrev pub AreSpelled : List DefinedText → Type 0
 AreSpelled list = (n : ℕ) (d : DefinedText) → slice_get list n ≡ Some d → (ws : List Element) × AreElements d.text ws
 
--- A text can be placed behind definitions: its name isn't among them, and under them it is this expression.
+-- A text can be appended to definitions: its name isn't among them, and with them it is this expression.
 pub record CanFollow (placed : List Definition) (d : DefinedText) (e : Expression) : Type 0 where
   pub new : number_of placed d.name ≡ None
   pub is_expression : IsExpression placed d.text e
 
--- Text n is the first of the list that can be placed behind definitions.
+-- Text n is the first of the list that can be appended to these definitions.
 pub record IsPlacedNext (list : List DefinedText) (placed : List Definition) (n : ℕ) (d : DefinedText)
     (e : Expression) : Type 0
   where
@@ -39,13 +39,13 @@ pub record IsPlacedNext (list : List DefinedText) (placed : List Definition) (n 
     pub first : (k : ℕ) (c : DefinedText) (f : Expression) → k < n → slice_get list k ≡ Some c
         → CanFollow placed c f → ⊥
 
--- Definitions, each of the first text of the list that can be placed behind those before it.
+-- Definitions, each from the first text of the list that can be appended to those before it.
 pub data ArePlaced (list : List DefinedText) : List Definition → Type 0 where
   none : ArePlaced list []
   next : (placed : List Definition) (n : ℕ) (d : DefinedText) (e : Expression) → ArePlaced list placed
       → IsPlacedNext list placed n d e → ArePlaced list (placed ++ (d.name, e) ∷ [])
 
--- The texts are these definitions: all of them are placed.
+-- The texts are these definitions, and none is left over.
 pub record AreNames (list : List DefinedText) (names : List Definition) : Type 0 where
   pub placed : ArePlaced list names
   pub all : (n : ℕ) (d : DefinedText) → slice_get list n ≡ Some d → number_of names d.name ≢ None
@@ -54,7 +54,7 @@ pub record AreNames (list : List DefinedText) (names : List Definition) : Type 0
 abbrev pub AreLightNames : ℕ → List Definition → Type 0
 AreLightNames most names = (x : ℕ) → x < length names → named_weight (defined names) (length names) x ≤ most
 
--- Text n is placed where it weighs more than most, by the definitions that it uses.
+-- Text n is appended at some point, and weighs more than most with the definitions that it uses.
 pub record IsHeavyDefinition (most : ℕ) (list : List DefinedText) (n : ℕ) : Type 0 where
   pub placed : List Definition
   pub are_placed : ArePlaced list placed
@@ -63,8 +63,8 @@ pub record IsHeavyDefinition (most : ℕ) (list : List DefinedText) (n : ℕ) : 
   pub is_next : IsPlacedNext list placed n text expression
   pub is_heavy : most < weight_of (defined placed) expression
 
--- the names, as if each were defined as a byte: under them a text is an expression where it is one under any
--- definitions of all of them
+-- The names, each defined as some byte. With these a text is an expression exactly if it is one with any definitions of
+-- all its names.
 abbrev pub known_names : List DefinedText → List Definition
 known_names list = map (λ d. (d.name, set (0 ∷ []))) list
 
@@ -72,12 +72,12 @@ known_names list = map (λ d. (d.name, set (0 ∷ []))) list
 abbrev pub HasText : List Definition → List ℕ → Type 0
 HasText names text = (e : Expression) × IsExpression names text e
 
--- the text is none
+-- the text is no expression
 abbrev pub IsNoText : List Definition → List ℕ → Type 0
 IsNoText names text = (e : Expression) → IsExpression names text e → ⊥
 
--- The definition at a place is at fault: it can't be placed. Its text is an expression where it leads into a cycle of
--- names, and else it is none.
+-- The definition at this index is wrong: it can never be appended. If it leads into a cycle of names, its text is an
+-- expression; otherwise its text is none.
 pub record IsAtFault (list : List DefinedText) (place : ℕ) (fault : EreFault) : Type 0 where
   pub text : DefinedText
   pub is : slice_get list place ≡ Some text
@@ -85,8 +85,8 @@ pub record IsAtFault (list : List DefinedText) (place : ℕ) (fault : EreFault) 
   pub cyclic : ere_kind fault ≡ Some NameCycle → HasText (known_names list) text.text
   pub no_text : ere_kind fault ≢ Some NameCycle → IsNoText (known_names list) text.text
 
--- Why texts are refused, and the place of the one at fault: its text is no expression, it leads into a cycle of names,
--- or each has elements and this one is too heavy. The byte at fault is one of its text, or the end of that.
+-- Why texts are rejected, with the index of the erroneous one: its text is no expression, it leads into a cycle of
+-- names, or all texts consist of elements and this one is too heavy. The error is at a byte of its text or at its end.
 pub record AreRefused (most : ℕ) (list : List DefinedText) (place : ℕ) (fault : EreFault) : Type 0 where
   pub within : fault ≢ OutOfMemory → place < length list
   pub at : (d : DefinedText) → slice_get list place ≡ Some d → IsAtMost (length d.text) fault
@@ -98,14 +98,14 @@ pub record AreRefused (most : ℕ) (list : List DefinedText) (place : ℕ) (faul
   pub none_light : ere_kind fault ≡ Some TooHeavy → (names : List Definition) → AreNames list names
       → AreLightNames most names → ⊥
 
--- a definition as it stands in a lex file
+-- a definition of a lex file
 abbrev pub named_text : code.NamedText → DefinedText
 named_text d = record { name = d.name.now; text = d.text.now }
 
 abbrev pub named_texts : List code.NamedText → List DefinedText
 named_texts list = map named_text list
 
--- texts are at most one list of definitions
+-- texts have at most one list of definitions
 abbrev pub NamesAreOne : Type 0
 NamesAreOne = (list : List DefinedText) (names others : List Definition) → AreNames list names → AreNames list others
     → names ≡ others

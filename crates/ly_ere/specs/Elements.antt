@@ -1,5 +1,4 @@
--- The elements of an expression, its lexical units: how each is spelled (POSIX, XBD 9.4 and 9.3.5, as lex changes
--- them).
+-- The elements of an expression, its tokens, and how each is written (POSIX, XBD 9.4 and 9.3.5, as lex changes them).
 use Rattle.std.specs.Prelude.{◌≡◌, ◌≢◌, ℕ, zero, suc, ◌≤◌, List, [], ◌∷◌, ◌++◌, Bool, true, false, not, ◌||◌}
 use Rattle.std.specs.Prelude.{◌&&◌, nat_eq, nat_le, codes, Option, Some, None, if◌then◌else◌}
 use Rattle.ly_base.specs.Bytes.{backslash, circumflex, colon, double_quote, equals_sign, full_stop, hyphen}
@@ -26,7 +25,7 @@ pub data Element : Type 0 where
   dollar_sign : Element
   slash : Element
 
--- What stands behind a quote, up to the next, is these bytes, and then comes the rest.
+-- The text after a quote, up to the next quote, is these bytes, then comes the rest.
 pub data Quoted : List ℕ → List ℕ → List ℕ → Type 0 where
   closed : (rest : List ℕ) → Quoted (double_quote ∷ rest) [] rest
   byte : (b : ℕ) (t bs rest : List ℕ) → b ≢ double_quote → b ≢ backslash → b ≢ newline → Quoted t bs rest
@@ -46,17 +45,17 @@ same_text [] (c ∷ cs) = false
 same_text (b ∷ bs) [] = false
 same_text (b ∷ bs) (c ∷ cs) = nat_eq b c && same_text bs cs
 
--- the byte stands at the index
+-- the text has this byte at the index
 abbrev pub stands_at : List ℕ → ℕ → ℕ → Bool
 stands_at [] n b = false
 stands_at (c ∷ t) zero b = nat_eq c b
 stands_at (c ∷ t) (suc n) b = stands_at t n b
 
--- `[` with this mark stands at the front
+-- the text starts with `[` and this mark
 abbrev pub begins : List ℕ → ℕ → Bool
 begins t mark = stands_at t 0 left_bracket && stands_at t 1 mark
 
--- the classes of the POSIX locale, by name, and the ranges of each
+-- the classes of the POSIX locale, each name with its ranges
 abbrev pub classes : List (List ℕ × List (ℕ × ℕ))
 classes =
     (codes "upper", (65, 90) ∷ [])
@@ -73,20 +72,20 @@ classes =
     ∷ (codes "punct", (33, 47) ∷ (58, 64) ∷ (91, 96) ∷ (123, 126) ∷ [])
     ∷ []
 
--- what stands beside a name in a list
+-- the entry of a name in a list
 abbrev pub found_in : List (List ℕ × List (ℕ × ℕ)) → List ℕ → Option (List (ℕ × ℕ))
 found_in [] name = None
 found_in (c ∷ cs) name = if same_text c.0 name then Some c.1 else found_in cs name
 
--- the ranges of the class of a name
+-- the ranges of the class with this name
 abbrev pub class_of : List ℕ → Option (List (ℕ × ℕ))
 class_of name = found_in classes name
 
--- `[:`, `[.` or `[=` stands at the front
+-- the text starts with `[:`, `[.` or `[=`
 abbrev pub begins_named : List ℕ → Bool
 begins_named t = begins t colon || begins t full_stop || begins t equals_sign
 
--- What a byte of a bracket expression is spelled by: itself, an escape, or `[. .]`.
+-- A byte of a bracket expression, written as itself, as an escape, or as `[. .]`.
 pub data Point : List ℕ → ℕ → List ℕ → Type 0 where
   bare : (b : ℕ) (rest : List ℕ) → b ≢ newline → b ≢ backslash → begins_named (b ∷ rest) ≡ false
       → Point (b ∷ rest) b rest
@@ -105,12 +104,12 @@ pub data Points : List ℕ → List (ℕ × ℕ) → List ℕ → Type 0 where
       → begins_range (hyphen ∷ behind) ≡ true
       → Point behind high rest → low ≤ high → Points t ((low, high) ∷ []) rest
 
--- a class at the front, and the ranges that it adds
+-- the text starts with a class, which adds these ranges
 abbrev pub IsClass : List ℕ → List (ℕ × ℕ) → List ℕ → Type 0
 IsClass t rs rest = (name : List ℕ) × (class_of name ≡ Some rs)
     × (t ≡ left_bracket ∷ colon ∷ (name ++ colon ∷ right_bracket ∷ rest))
 
--- An item and the ranges that it adds. A `-` at its front is the first item, or the last.
+-- An item and the ranges that it adds. A `-` at its start is allowed only in the first item or the last.
 pub data Item : Bool → List ℕ → List (ℕ × ℕ) → List ℕ → Type 0 where
   class : (first : Bool) (t rest : List ℕ) (rs : List (ℕ × ℕ)) → IsClass t rs rest → Item first t rs rest
   equivalent : (first : Bool) (b : ℕ) (rest : List ℕ) → b ≢ newline
@@ -118,14 +117,15 @@ pub data Item : Bool → List ℕ → List (ℕ × ℕ) → List ℕ → Type 0 
   points : (first : Bool) (t rest : List ℕ) (rs : List (ℕ × ℕ)) → (first ≡ false → begins_range t ≡ false)
       → Points t rs rest → Item first t rs rest
 
--- Items up to the `]` that ends them, and all their ranges. There is at least one, and `]` is itself only as the first.
+-- Items up to the `]` that ends them, and all their ranges. There is at least one, and `]` denotes itself only as the
+-- first.
 pub data Items : Bool → List ℕ → List (ℕ × ℕ) → List ℕ → Type 0 where
   no_more : (rest : List ℕ) → Items false (right_bracket ∷ rest) [] rest
   more : (first : Bool) (t behind rest : List ℕ) (rs ss : List (ℕ × ℕ))
       → (first ≡ false → stands_at t 0 right_bracket ≡ false)
       → Item first t rs behind → Items false behind ss rest → Items first t (rs ++ ss) rest
 
--- What stands behind the `[` of a bracket expression: its bytes, of which there is one or more.
+-- The text after the `[` of a bracket expression: its bytes, one or more.
 pub data Bracketed : List ℕ → List ℕ → List ℕ → Type 0 where
   listed : (t rest : List ℕ) (rs : List (ℕ × ℕ)) → stands_at t 0 circumflex ≡ false → Items true t rs rest
       → bytes_where (in_ranges rs) ≢ [] → Bracketed t (bytes_where (in_ranges rs)) rest
@@ -137,7 +137,7 @@ abbrev pub byte_of : List ℕ → ℕ
 byte_of [] = 0
 byte_of (b ∷ bs) = b
 
--- the signs, each a byte
+-- the elements that are a single byte
 abbrev pub sign_of : ℕ → Option Element
 sign_of b = if nat_eq b (byte_of (codes "(")) then Some opening else
     (if nat_eq b (byte_of (codes ")")) then Some closing else
@@ -149,31 +149,31 @@ sign_of b = if nat_eq b (byte_of (codes "(")) then Some opening else
     (if nat_eq b (byte_of (codes "$")) then Some dollar_sign else
     (if nat_eq b (byte_of (codes "/")) then Some slash else None))))))))
 
--- the bytes with a meaning of their own: newline, tab, space and operators
+-- the bytes with a special meaning: newline, tab, space and operators
 abbrev pub own_meaning : List ℕ
 own_meaning = codes "\n\t \"\\[(){*+?|/^$."
 
--- the list has the byte
+-- the list contains the byte
 abbrev pub is_among : List ℕ → ℕ → Bool
 is_among [] b = false
 is_among (c ∷ cs) b = nat_eq b c || is_among cs b
 
--- the text is a decimal number of times, at most 255, and then the rest
+-- the text is a decimal number of repetitions, at most 255, then the rest
 abbrev pub Times : List ℕ → ℕ → List ℕ → Type 0
 Times t m rest = (ds : List ℕ) × DigitsBefore t ds rest × (m ≡ number 10 ds) × (m ≤ 255)
 
--- What stands behind the `{` of an interval: `m}`, `m,}` or `m,n}`, the last with m at most n.
+-- The text after the `{` of an interval: `m}`, `m,}` or `m,n}`, the last with m at most n.
 pub data Bounds : List ℕ → ℕ → Option ℕ → List ℕ → Type 0 where
   exactly : (t rest : List ℕ) (m : ℕ) → Times t m (codes "}" ++ rest) → Bounds t m (Some m) rest
   at_least : (t rest : List ℕ) (m : ℕ) → Times t m (codes ",}" ++ rest) → Bounds t m None rest
   between : (t behind rest : List ℕ) (m n : ℕ) → Times t m (codes "," ++ behind) → Times behind n (codes "}" ++ rest)
       → m ≤ n → Bounds t m (Some n) rest
 
--- the byte that opens a name in braces, and an interval
+-- the byte that opens a name in braces or an interval
 abbrev pub left_brace : ℕ
 left_brace = byte_of (codes "{")
 
--- A text that begins with an element, and what is behind it. A set is of one byte or more.
+-- A text that starts with an element, and the rest after it. A set has at least one byte.
 pub data IsElement : List ℕ → Element → List ℕ → Type 0 where
   plain : (b : ℕ) (rest : List ℕ) → is_among own_meaning b ≡ false → IsElement (b ∷ rest) (one_of (b ∷ [])) rest
   dot : (rest : List ℕ) → IsElement (full_stop ∷ rest) (one_of (bytes_where (λ b. not (nat_eq b newline)))) rest

@@ -1,4 +1,4 @@
--- Regular expressions over bytes, and the strings that belong to them (POSIX, XBD 9.4 as lex changes it).
+-- Regular expressions over bytes, and the strings that they match (POSIX, XBD 9.4 as lex changes it).
 use Rattle.std.specs.Prelude.{◌≡◌, ℕ, zero, suc, ◌≤◌, ◌<◌, List, [], ◌∷◌, ◌++◌, length, slice_get, Contains, Option}
 use Rattle.std.specs.Prelude.{Some, None, ◌⊎◌}
 
@@ -24,7 +24,7 @@ abbrev pub IsAtMost : ℕ → Option ℕ → Type 0
 IsAtMost k None = Unit {0}
 IsAtMost k (Some n) = k ≤ n
 
--- w belongs to the expression, where N says which strings belong to the name of a number
+-- The expression matches w, if N gives the strings of each name by its number.
 abbrev pub MatchesUnder : (ℕ → List ℕ → Type 0) → Expression → List ℕ → Type 0
 MatchesUnder N (set bytes) w = (b : ℕ) × Contains bytes b × (w ≡ b ∷ [])
 MatchesUnder N empty w = w ≡ []
@@ -36,12 +36,12 @@ MatchesUnder N (optional r) w = (w ≡ []) ⊎ MatchesUnder N r w
 MatchesUnder N (repeat m n r) w = (k : ℕ) × (m ≤ k) × IsAtMost k n × Concatenated (MatchesUnder N r) k w
 MatchesUnder N (name x) w = N x w
 
--- The strings of name x, by the first n definitions: each uses earlier ones only.
+-- The strings of name x, given the first n definitions: each uses earlier ones only.
 abbrev pub NamedUpTo : List Expression → ℕ → ℕ → List ℕ → Type 0
 NamedUpTo names zero x w = ⊥
 NamedUpTo names (suc n) x w = ((x ≡ n) × (d : Expression) × (slice_get names n ≡ Some d)
     × MatchesUnder (NamedUpTo names n) d w) ⊎ ((x < n) × NamedUpTo names n x w)
 
--- The byte string w belongs to the expression, where a name stands for its definition.
+-- The expression matches the byte string w. A name matches what its definition matches.
 abbrev pub Matches : List Expression → Expression → List ℕ → Type 0
 Matches names r w = MatchesUnder (NamedUpTo names (length names)) r w

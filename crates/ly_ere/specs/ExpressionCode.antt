@@ -1,15 +1,15 @@
--- A code of expressions: the parts in postfix order, which a stack of expressions reads back.
+-- An encoding of expressions in postfix order, which is decoded with a stack of expressions.
 use Rattle.std.specs.Prelude.{◌≡◌, ℕ, zero, suc, ◌⊎◌, List, [], ◌∷◌, ◌++◌, Option, refl}
 use mathlib.Core.Logic.{inl, inr}
 use mathlib.Core.Path.{ap, ◌∙◌}
 use Rattle.std.specs.Coded.{Coded, code_by, coded×, coded⊎, coded_ℕ, coded_list, coded_option}
 use Rattle.ly_ere.specs.Expression.{Expression, set, empty, concat, either, star, plus, optional, repeat, name}
 
--- an item in postfix order: a set, a name, a repetition, or the operator of a number
+-- an item in postfix order: a set, a name, a repetition, or an operator by its number
 abbrev pub PostfixItem : Type 0
 PostfixItem = List ℕ ⊎ (ℕ ⊎ ((ℕ × Option ℕ) ⊎ ℕ))
 
--- the operator of a number
+-- the operator with this number
 abbrev pub operator : ℕ → PostfixItem
 operator k = inr (inr (inr k))
 
@@ -52,7 +52,7 @@ abbrev pub take_items : List PostfixItem → List Expression → List Expression
 take_items [] st = st
 take_items (p ∷ ps) st = take_items ps (take_item p st)
 
--- what is on top of the stack
+-- the top of the stack
 abbrev pub topmost : List Expression → Expression
 topmost [] = empty
 topmost (r ∷ st) = r
@@ -85,7 +85,7 @@ reads (name x) st = refl
 pub from_items-to_items : (r : Expression) → from_items (to_items r) ≡ r
 from_items-to_items r = ap topmost (reads r [])
 
--- an expression is stored as its items in postfix order
+-- an expression is encoded as its items in postfix order
 abbrev pub expression_code : Coded Expression
 expression_code =
     code_by (List PostfixItem)

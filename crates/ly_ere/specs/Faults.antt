@@ -1,4 +1,4 @@
--- The faults of expressions: their numbers and names, and where they stand.
+-- The errors of expressions: their numbers, names and offsets.
 use Rattle.std.specs.Prelude.{ℕ, ◌≤◌, List, Option, Some, None, codes}
 use Rattle.ly_ere.specs.declared.fault.EreFault.{EreFault}
 use Rattle.ly_ere.specs.declared.fault.EreFault.TheVariants.{Refused, OutOfMemory}
@@ -9,7 +9,7 @@ use Rattle.ly_ere.specs.declared.fault.EreFaultKind.TheVariants.{BadInterval, Es
 use Rattle.ly_ere.specs.declared.fault.EreFaultKind.TheVariants.{AnchorInside, TrailingTwice, TrailingBothVary}
 use Rattle.ly_ere.specs.declared.fault.EreFaultKind.TheVariants.{TrailingHeadEmpty, TooHeavy}
 
--- the number of a kind of faults
+-- the number of a kind of error
 abbrev pub kind_number : EreFaultKind → ℕ
 kind_number Empty = 1
 kind_number UnclosedQuote = 2
@@ -29,7 +29,7 @@ kind_number TrailingBothVary = 15
 kind_number TrailingHeadEmpty = 16
 kind_number TooHeavy = 17
 
--- the name of a kind of faults
+-- the name of a kind of error
 abbrev pub kind_name : EreFaultKind → List ℕ
 kind_name Empty = codes "Empty"
 kind_name UnclosedQuote = codes "UnclosedQuote"
@@ -49,22 +49,22 @@ kind_name TrailingBothVary = codes "TrailingBothVary"
 kind_name TrailingHeadEmpty = codes "TrailingHeadEmpty"
 kind_name TooHeavy = codes "TooHeavy"
 
--- a fault's number; want of memory has none
+-- the error number; OutOfMemory has none
 abbrev pub ere_number : EreFault → Option ℕ
 ere_number (Refused kind offset) = Some (kind_number kind)
 ere_number OutOfMemory = None
 
--- a fault's name
+-- the name of an error
 abbrev pub ere_name : EreFault → List ℕ
 ere_name (Refused kind offset) = kind_name kind
 ere_name OutOfMemory = codes "OutOfMemory"
 
--- a fault's kind; want of memory has none
+-- the kind of an error; OutOfMemory has none
 abbrev pub ere_kind : EreFault → Option EreFaultKind
 ere_kind (Refused kind offset) = Some kind
 ere_kind OutOfMemory = None
 
--- so many bytes or fewer stand before the one at fault
+-- the error is at this offset or before
 abbrev pub IsAtMost : ℕ → EreFault → Type 0
 IsAtMost n (Refused kind offset) = offset ≤ n
 IsAtMost n OutOfMemory = Unit {0}

@@ -1,4 +1,4 @@
--- The phrases of expressions and patterns: which lists of elements are one, and which (POSIX, XBD 9.5.3, as lex changes
+-- The grammar of expressions and patterns: which lists of elements are one, and which (POSIX, XBD 9.5.3, as lex changes
 -- it).
 use Rattle.std.specs.Prelude.{◌≡◌, ℕ, List, [], ◌∷◌, ◌++◌, Option, Some, None, Bool, true, false}
 use Rattle.ly_base.specs.Bytes.{newline}
@@ -35,7 +35,7 @@ mutual
     left_open : {ws : List Element} {e : Expression} → Piece names ws e
         → Piece names (ws ++ question_mark ∷ []) (optional e)
 
-  -- pieces one after another; an interval repeats all that stands before it
+  -- pieces one after another; an interval repeats everything before it
   pub data Branch (names : List Definition) : List Element → Expression → Type 0 where
     piece : {ws : List Element} {e : Expression} → Piece names ws e → Branch names ws e
     joined : {ws vs : List Element} {e f : Expression} → Branch names ws e → Piece names vs f
@@ -49,13 +49,13 @@ mutual
     parted : {ws vs : List Element} {e f : Expression} → Alternation names ws e → Branch names vs f
         → Alternation names (ws ++ bar ∷ vs) (either e f)
 
--- What a pattern is but for its cut: whether it matches only where a line begins, its head, and its tail if it has one.
+-- A pattern without its cut: whether it matches only at the start of a line, its head, and its tail if it has one.
 pub record Sides : Type 0 where
   pub line_start : Bool
   pub head : Expression
   pub tail : Option Expression
 
--- a head, and perhaps what has to follow it: `$` stands for a newline
+-- a head with an optional trailing context; `$` stands for a newline
 pub data Tailed (names : List Definition) : List Element → Expression → Option Expression → Type 0 where
   whole : {ws : List Element} {e : Expression} → Alternation names ws e → Tailed names ws e None
   line_end : {ws : List Element} {e : Expression} → Alternation names ws e
@@ -63,7 +63,7 @@ pub data Tailed (names : List Definition) : List Element → Expression → Opti
   followed : {ws vs : List Element} {e f : Expression} → Alternation names ws e → Alternation names vs f
       → Tailed names (ws ++ slash ∷ vs) e (Some f)
 
--- the words of a whole pattern: `^` stands in front of all others
+-- the elements of a whole pattern; `^` comes before all others
 pub data AreSides (names : List Definition) : List Element → Sides → Type 0 where
   anywhere : {ws : List Element} {e : Expression} {t : Option Expression} → Tailed names ws e t
       → AreSides names ws (record { line_start = false; head = e; tail = t })

@@ -1,11 +1,11 @@
--- How long the strings of an expression are.
+-- The lengths of the strings of an expression.
 use Rattle.std.specs.Prelude.{◌≡◌, ◌≢◌, ℕ, ◌<◌, ◌≤◌, ◌^◌, min, List, [], length, slice_get, slice_index_or, Some}
 use Rattle.ly_ere.specs.Expression.{Expression, set, empty, concat, either, star, plus, optional, repeat, name}
 use Rattle.ly_ere.specs.Expression.{IsAtMost, Matches}
 use Rattle.ly_ere.specs.Weight.{named_weight}
 use Rattle.ly_ere.specs.declared.length.Lengths.{Lengths}
 
--- each name in the expression is below n, each set has a member, and each repetition a number of times
+-- each name in the expression is below n, each set has a member, and each repetition has possible bounds
 abbrev pub IsSound : ℕ → Expression → Type 0
 IsSound n (set bytes) = bytes ≢ []
 IsSound n empty = Unit {0}
@@ -17,15 +17,15 @@ IsSound n (optional r) = IsSound n r
 IsSound n (repeat k m r) = IsAtMost k m × IsSound n r
 IsSound n (name x) = x < n
 
--- each definition is sound, with the names before it
+-- each definition is sound with the names before it
 abbrev pub AreSound : List Expression → Type 0
 AreSound names = (x : ℕ) (d : Expression) → slice_get names x ≡ Some d → IsSound x d
 
--- from here on lengths aren't told apart; no weight that is accepted is as great
+-- counting stops at this length; every accepted weight is less
 abbrev pub far : ℕ
 far = 2 ^ 32
 
--- These are the least and the greatest length of the strings of L, counted up to c. L weighs w, and has a string.
+-- These are the least and the greatest length of the strings of L, counted up to c. L weighs w and has a string.
 pub record AreLengthsUpTo (c w : ℕ) (L : List ℕ → Type 0) (l : Lengths) : Type 0 where
   pub light : l.least ≤ w
   pub short : List ℕ
@@ -37,15 +37,15 @@ pub record AreLengthsUpTo (c w : ℕ) (L : List ℕ → Type 0) (l : Lengths) : 
   pub not_below : (u : List ℕ) → L u → l.least ≤ min (length u) c
   pub not_above : (u : List ℕ) → L u → min (length u) c ≤ l.most
 
--- they are, counted as far as lengths are told apart
+-- the same, counted up to far
 abbrev pub AreLengths : ℕ → (List ℕ → Type 0) → Lengths → Type 0
 AreLengths w L l = AreLengthsUpTo far w L l
 
--- the lengths of the definition of a number
+-- the lengths of the definition with this number
 abbrev pub lengths_at : List Lengths → ℕ → Lengths
 lengths_at ls x = slice_index_or ls x (record { least = 0; most = 0 })
 
--- These are the lengths of the definitions, by their numbers.
+-- These are the lengths of the definitions, in order of their numbers.
 pub record AreNamedLengths (names : List Expression) (ls : List Lengths) : Type 0 where
   pub counted : length ls ≡ length names
   pub measured : (x : ℕ) → x < length names

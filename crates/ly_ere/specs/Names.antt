@@ -1,4 +1,4 @@
--- Definitions, and an order in which each uses earlier ones only.
+-- Definitions, ordered so that each uses earlier ones only.
 use Rattle.std.specs.Prelude.{◌≡◌, ◌↔◌, ℕ, ◌<◌, List, map, position, slice_get, Option, Some}
 use Rattle.std.specs.Str.{bytes_eq}
 use Rattle.ly_ere.specs.Expression.{Expression, set, empty, concat, either, star, plus, optional, repeat, name, Matches}
@@ -31,7 +31,7 @@ UsesBelow n (name x) = x < n
 abbrev pub AreOrdered : List Expression → Type 0
 AreOrdered names = (n : ℕ) (d : Expression) → slice_get names n ≡ Some d → UsesBelow n d
 
--- a name stands for its definition
+-- a name matches what its definition matches
 abbrev pub NameIsDefinition : Type 0
 NameIsDefinition = (names : List Expression) (x : ℕ) (d : Expression) (w : List ℕ) → AreOrdered names
     → slice_get names x ≡ Some d → Matches names (name x) w ↔ Matches names d w

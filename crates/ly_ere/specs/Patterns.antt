@@ -1,4 +1,4 @@
--- What the text of a pattern stands for.
+-- The meaning of a pattern's text.
 use Rattle.std.specs.Prelude.{◌≡◌, ◌≢◌, ◌⊎◌, ℕ, ◌<◌, ◌≤◌, List, [], ◌∷◌, take, drop, length, Option, None, Some, IsTrue}
 use Rattle.std.specs.Prelude.{IsSome}
 use Rattle.ly_base.specs.Blank.{is_blank}
@@ -16,7 +16,7 @@ use Rattle.ly_ere.specs.declared.fault.EreFault.TheVariants.{OutOfMemory}
 use Rattle.ly_ere.specs.declared.fault.EreFaultKind.TheVariants.{TooHeavy, TrailingBothVary, TrailingHeadEmpty}
 use Rattle.ly_ere.specs.declared.pattern.Pattern.{Pattern}
 
--- the text's elements are the expression, where names stand for these definitions
+-- the text's elements are the expression, with these definitions of names
 abbrev pub IsExpression : List Definition → List ℕ → Expression → Type 0
 IsExpression names text e = (ws : List Element) × AreElements text ws × Alternation names ws e
 
@@ -24,7 +24,7 @@ IsExpression names text e = (ws : List Element) × AreElements text ws × Altern
 abbrev pub SpellsSides : List Definition → List ℕ → Sides → Type 0
 SpellsSides names text s = (ws : List Element) × AreElements text ws × AreSides names ws s
 
--- some string belongs to the expression, and each that does has this length
+-- the expression matches some string, and each that it matches has this length
 pub record HasOneLength (names : List Expression) (e : Expression) (n : ℕ) : Type 0 where
   pub string : List ℕ
   pub belongs : Matches names e string
@@ -34,34 +34,34 @@ pub record HasOneLength (names : List Expression) (e : Expression) (n : ℕ) : T
 abbrev pub Varies : List Expression → Expression → Type 0
 Varies names e = (n : ℕ) → HasOneLength names e n → ⊥
 
--- the cut of a head and a tail: where the head has one length, that, and else the tail's
+-- the cut of a head and a tail: Head if the head has one length, else Tail
 abbrev pub IsCutOf : List Expression → Expression → Option Expression → Cut → Type 0
 IsCutOf names head None cut = cut ≡ Whole
 IsCutOf names head (Some tail) cut = ((n : ℕ) × HasOneLength names head n × (cut ≡ Head n))
     ⊎ (Varies names head × (n : ℕ) × HasOneLength names tail n × (cut ≡ Tail n))
 
--- a pattern but for its cut
+-- a pattern without its cut
 abbrev pub sides_of : Pattern → Sides
 sides_of p = record { line_start = p.line_start; head = p.head; tail = p.tail }
 
--- The text is the pattern. The empty string is no head that a tail follows.
+-- The text is the pattern. A head before a tail doesn't match the empty string.
 pub record IsPattern (names : List Definition) (text : List ℕ) (p : Pattern) : Type 0 where
   pub sides : SpellsSides names text (sides_of p)
   pub is_cut : IsCutOf (defined names) p.head p.tail p.cut
   pub some_head : IsSome p.tail → Matches (defined names) p.head [] → ⊥
 
--- what may stand behind a pattern on its line: nothing, or a blank in front
+-- what may follow a pattern on its line: nothing, or a text that starts with a blank
 abbrev pub IsBehind : List ℕ → Type 0
 IsBehind [] = Unit {0}
 IsBehind (b ∷ line) = IsTrue (is_blank b)
 
--- The first n bytes of the line are the sides of a pattern, and behind them stands what may stand there.
+-- The first n bytes of the line are the sides of a pattern, and what follows them may follow a pattern.
 pub record HasFrontSides (names : List Definition) (line : List ℕ) (s : Sides) (n : ℕ) : Type 0 where
   pub within : n ≤ length line
   pub sides : SpellsSides names (take n line) s
   pub follows : IsBehind (drop n line)
 
--- The first n bytes of the line are the pattern, and behind them stands what may stand there.
+-- The first n bytes of the line are the pattern, and what follows them may follow a pattern.
 pub record IsFrontPattern (names : List Definition) (line : List ℕ) (p : Pattern) (n : ℕ) : Type 0 where
   pub within : n ≤ length line
   pub is_pattern : IsPattern names (take n line) p
@@ -79,13 +79,13 @@ pattern_weight names p = sides_weight names (sides_of p)
 abbrev pub BothVary : List Expression → Sides → Type 0
 BothVary names s = (t : Expression) × (s.tail ≡ Some t) × Varies names s.head × Varies names t
 
--- a tail follows a head that has the empty string
+-- a tail follows a head that matches the empty string
 abbrev pub HasEmptyHead : List Expression → Sides → Type 0
 HasEmptyHead names s = IsSome s.tail × Matches names s.head []
 
--- Why there is no answer, where Have says which sides are spelled, and Is which patterns they are: there is none, or
--- what
--- is spelled weighs more than most. Where the cut or an empty head is at fault, sides are spelled that have that fault.
+-- Why a pattern is rejected. Have gives the sides that the text spells, and Is the patterns that it is. The text is no
+-- pattern, or what it spells weighs more than most. For an error of the cut or an empty head, the text spells sides
+-- with that error.
 pub record IsRefused (most : ℕ) (names : List Definition) (Have : Sides → Type 0) (Is : Pattern → Type 0)
     (fault : EreFault) : Type 0 where
   pub refused : fault ≢ OutOfMemory → ere_kind fault ≢ Some TooHeavy → (p : Pattern) → Is p → ⊥

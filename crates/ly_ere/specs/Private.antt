@@ -1,5 +1,5 @@
--- What contracts of private functions cite: what the reader of expressions finds on its way. No public contract rests
--- on it.
+-- Definitions for contracts of private functions: the intermediate results of the reader of expressions. No public
+-- contract depends on them.
 pub mod Brackets
 pub mod Cuts
 pub mod Definitions

@@ -1,16 +1,17 @@
--- How heavy an expression is: how many sets of bytes and empty strings it has, written out.
+-- The weight of an expression: the number of its byte sets and empty strings, with repetitions and definitions
+-- expanded.
 use Rattle.std.specs.Prelude.{◌≡◌, ℕ, zero, suc, ◌+◌, ◌*◌, max, List, length, slice_index_or, Option, Some, None}
 use Rattle.std.specs.Prelude.{nat_eq}
 use Rattle.std.specs.Prelude.{if◌then◌else◌}
 use Rattle.ly_ere.specs.Expression.{Expression, set, empty, concat, either, star, plus, optional, repeat, name}
 
--- how often the part of a repetition stands in it, written out; one that is left out altogether weighs 1
+-- how often the operand of a repetition counts; one that is repeated 0 times weighs 1
 abbrev pub repeated_weight : ℕ → Option ℕ → ℕ → ℕ
 repeated_weight m None w = max m 1 * w
 repeated_weight m (Some zero) w = 1
 repeated_weight m (Some (suc n)) w = suc n * w
 
--- the weight of an expression, by those of the definitions
+-- the weight of an expression, given those of the definitions
 abbrev pub weight_under : (ℕ → ℕ) → Expression → ℕ
 weight_under named (set bytes) = 1
 weight_under named empty = 1
@@ -22,7 +23,7 @@ weight_under named (optional r) = weight_under named r
 weight_under named (repeat m n r) = repeated_weight m n (weight_under named r)
 weight_under named (name x) = named x
 
--- the weight of definition x, of the first n
+-- the weight of definition x among the first n
 abbrev pub named_weight : List Expression → ℕ → ℕ → ℕ
 named_weight names zero x = 0
 named_weight names (suc n) x = if nat_eq x n then weight_under (named_weight names n) (slice_index_or names n empty)
@@ -37,11 +38,11 @@ abbrev pub weight_of_both : List Expression → Expression → Option Expression
 weight_of_both names head None = weight_of names head
 weight_of_both names head (Some tail) = weight_of names head + weight_of names tail
 
--- the weight of the definition of a number; 0 where there is none
+-- the weight of the definition with this number; 0 if there is none
 abbrev pub weight_at : List ℕ → ℕ → ℕ
 weight_at weights x = slice_index_or weights x 0
 
--- These are the weights of the definitions, by their numbers.
+-- These are the weights of the definitions, in order of their numbers.
 pub record AreWeights (names : List Expression) (weights : List ℕ) : Type 0 where
   pub counted : length weights ≡ length names
   pub weighed : (x : ℕ) → weight_at weights x ≡ named_weight names (length names) x

@@ -4,10 +4,10 @@ use crate::node::Node;
 use std::alloc::{AllocError, Global};
 use std::marker::Model;
 
-/// Expressions under construction: a list of nodes, seen as the list of their expressions.
+/// Expressions under construction. Contracts see the list of nodes as the list of their expressions.
 #[derive(Drop)]
 pub struct Arena {
-    /// The nodes, whose parts have smaller numbers.
+    /// The nodes. The operands of each have smaller numbers.
     nodes: Vec<Node>,
 }
 
@@ -31,7 +31,7 @@ impl Model for Arena {
 impl Arena {
     ghost use Rattle.ly_ere.specs.Arena.{expression_of, expressions, FitsAt, IsOrdered};
 
-    /// No expressions.
+    /// Returns an arena without expressions.
     pub fn new(alloc: Global) -> Self
         ensures { result ≡ [] }
     {
@@ -40,15 +40,15 @@ impl Arena {
         }
     }
 
-    /// How many expressions there are.
+    /// The number of expressions.
     pub fn len(&self) -> usize
         ensures { result ≡ length self.now }
     {
         self.nodes.len()
     }
 
-    /// Adds the expression of a node over earlier ones, and answers its number. A refused growth
-    /// leaves the arena as it was.
+    /// Adds the expression of a node over earlier ones and returns its number. If the allocation fails, the arena is
+    /// unchanged.
     pub fn push(&mut self, node: Node) -> Result<usize, AllocError>
         requires { FitsAt (length self.old) node }
         ensures ok { OnOk result (self.new ≡ self.old ++ expression_of self.old node ∷ []) }
@@ -60,14 +60,14 @@ impl Arena {
         Ok(number)
     }
 
-    /// Gives the room back that no expression takes.
+    /// Frees the unused capacity.
     pub(crate) fn fit(&mut self)
         ensures { self.new ≡ self.old }
     {
         self.nodes.shrink_to_fit();
     }
 
-    /// The nodes: the parts of each come before it, and every set has a member.
+    /// The nodes. The operands of each come before it, and every set has a member.
     pub fn nodes(&self) -> &[Node]
         ensures spelled { expressions result.now ≡ self.now }
         ensures counted { length result.now ≡ length self.now }

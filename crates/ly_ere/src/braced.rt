@@ -12,7 +12,7 @@ use crate::fault::{SyntaxFault, SyntaxKind};
 use crate::front::behind_byte;
 use ly_base::{Language, leading_digits, leading_name};
 
-/// The name or the interval at the front, whose first byte is `{`. A letter or `_` begins a name.
+/// Reads the name or the interval at the start, whose first byte is `{`. If a letter or `_` follows, it is a name.
 pub(crate) fn braced(text: &[u8]) -> Result<(Element<'_>, usize), SyntaxFault>
     requires some { 0 < length text.now }
     requires opening { slice_index text.now 0 ≡ 123 }
@@ -25,7 +25,7 @@ pub(crate) fn braced(text: &[u8]) -> Result<(Element<'_>, usize), SyntaxFault>
     }
 }
 
-/// The name at the front, if a `}` closes it; `behind` is what stands behind the name.
+/// Returns the name at the start if a `}` closes it. `behind` is the text after the name.
 fn closed_name<'t>(
     text: &'t [u8],
     name: &'t [u8],
@@ -43,7 +43,7 @@ fn closed_name<'t>(
     }
 }
 
-/// The interval at the front, whose first byte is `{`.
+/// Reads the interval at the start, whose first byte is `{`.
 fn interval(text: &[u8]) -> Result<(Element<'_>, usize), SyntaxFault>
     requires some { 0 < length text.now }
     requires opening { slice_index text.now 0 ≡ 123 }
@@ -60,7 +60,7 @@ fn interval(text: &[u8]) -> Result<(Element<'_>, usize), SyntaxFault>
     }
 }
 
-/// The bounds of an interval behind its `{`, and what stands behind its `}`.
+/// Reads the bounds of an interval after its `{`. Returns them and the text after its `}`.
 fn bounds(text: &[u8]) -> Option<(u8, Option<u8>, &[u8])>
     ensures shorter { IfSome result (λ found. length found.2.now ≤ length text.now) }
     ensures bounds { MatchOption result ((m : ℕ) (n : Option ℕ) (rest : List ℕ) → Bounds text.now m n rest → ⊥)
@@ -84,7 +84,8 @@ fn bounds(text: &[u8]) -> Option<(u8, Option<u8>, &[u8])>
     Some((least, Some(most), rest))
 }
 
-/// The second number of an interval, if it is at least the first one and a `}` follows, and what stands behind that.
+/// Reads the second number of an interval. Returns it and the text after the `}`, if the number is at least the first
+/// one and a `}` follows.
 fn upper_bound(text: &[u8], least: u8) -> Option<(u8, &[u8])>
     ensures { MatchOption result ((n : ℕ) (rest : List ℕ) → Times text.now n (125 ∷ rest) → least ≤ n → ⊥)
         (λ found. Times text.now found.0 (125 ∷ found.1.now) × (least ≤ found.0)) }
@@ -98,7 +99,7 @@ fn upper_bound(text: &[u8], least: u8) -> Option<(u8, &[u8])>
     }
 }
 
-/// The number of times at the front, if there is one that is at most 255, and what stands behind it.
+/// Reads the number at the start, if there is one and it is at most 255. Returns it and the text after it.
 fn times(text: &[u8]) -> Option<(u8, &[u8])>
     ensures { MatchOption result ((m : ℕ) (rest : List ℕ) → Times text.now m rest → ⊥)
         (λ found. Times text.now found.0 found.1.now) }
@@ -112,7 +113,7 @@ fn times(text: &[u8]) -> Option<(u8, &[u8])>
     Some((times, rest))
 }
 
-/// The number that decimal digits spell, if it is at most 255.
+/// The value of decimal digits, if it is at most 255.
 fn number(digits: &[u8]) -> Option<u8>
     requires { AllPass is_decimal digits.now }
     ensures { MatchOption result (255 < number 10 digits.now) (λ n. n ≡ number 10 digits.now) }

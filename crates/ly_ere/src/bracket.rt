@@ -13,8 +13,8 @@ use crate::fault::{SyntaxFault, SyntaxKind};
 use crate::front::{begins, leading_escape, stands_at};
 use ly_base::ByteSet;
 
-/// Reads the bracket expression at the front of a text, whose first byte is `[`: its bytes, of which there is at
-/// least one, and how many bytes of the text it takes (POSIX, XBD 9.3.5, in the POSIX locale).
+/// Reads the bracket expression at the start of a text, whose first byte is `[`. Returns its bytes, at least one, and
+/// the number of bytes read (POSIX, XBD 9.3.5, in the POSIX locale).
 pub(crate) fn bracket(text: &[u8]) -> Result<(ByteSet, usize), SyntaxFault>
     requires some { 0 < length text.now }
     ensures set { IfOk result (λ found. members found.0 ≢ []) }
@@ -32,7 +32,7 @@ pub(crate) fn bracket(text: &[u8]) -> Result<(ByteSet, usize), SyntaxFault>
     Ok((some_byte(set, text)?, length + 1))
 }
 
-/// A set that has a byte, of the bracket expression at the front of a text.
+/// Returns the set of the bracket expression at the start of `text`, or an error if it is empty.
 fn some_byte(set: ByteSet, text: &[u8]) -> Result<ByteSet, SyntaxFault>
     ensures same { IfOk result (λ same. same ≡ set) }
     ensures some { IfOk result (λ same. members same ≢ []) }
@@ -45,8 +45,8 @@ fn some_byte(set: ByteSet, text: &[u8]) -> Result<ByteSet, SyntaxFault>
     Ok(set)
 }
 
-/// Reads items up to the `]` that ends them, of which there is at least one: their bytes, and how many bytes they
-/// take with the `]`.
+/// Reads one or more items up to the `]` that ends them. Returns their bytes, and the number of bytes read including
+/// the `]`.
 fn items(text: &[u8]) -> Result<(ByteSet, usize), SyntaxFault>
     ensures within { IfOk result (λ found. found.1 ≤ length text.now) }
     ensures items { IfOk result (λ found. AreItems text.now (has found.0) (drop found.1 text.now)) }
@@ -61,8 +61,8 @@ fn items(text: &[u8]) -> Result<(ByteSet, usize), SyntaxFault>
     Ok((set, at + 1))
 }
 
-/// Adds the item at the front of a text to the set, and answers how many bytes it takes. A `-` stands for
-/// itself as the first item, the last one, or the end of a range.
+/// Adds the item at the start of a text to the set and returns the number of bytes read. A `-` denotes itself as the
+/// first item, as the last one, and as the end of a range.
 fn add_item(set: &mut ByteSet, text: &[u8], is_first: bool) -> Result<usize, SyntaxFault>
     ensures front { IfOk result (IsTaken text.now) }
     ensures item { IfOk result (λ taken. (rs : List (ℕ × ℕ)) × Item is_first text.now rs (drop taken text.now)
@@ -84,7 +84,7 @@ fn add_item(set: &mut ByteSet, text: &[u8], is_first: bool) -> Result<usize, Syn
     add_range(set, text)
 }
 
-/// Adds the class at the front of a text, and answers how many bytes it takes.
+/// Adds the class at the start of a text and returns the number of bytes read.
 fn add_class(set: &mut ByteSet, text: &[u8]) -> Result<usize, SyntaxFault>
     requires { begins text.now 58 ≡ true }
     ensures front { IfOk result (IsTaken text.now) }
@@ -101,14 +101,14 @@ fn add_class(set: &mut ByteSet, text: &[u8]) -> Result<usize, SyntaxFault>
     Ok(end + 2)
 }
 
-/// Whether a `-` stands at the front that isn't the last item.
+/// Whether the text starts with a `-` that isn't the last item.
 fn begins_range(text: &[u8]) -> bool
     ensures { result ≡ begins_range text.now }
 {
     stands_at(text, 0, b'-') && !stands_at(text, 1, b']')
 }
 
-/// Adds the byte or the range at the front of a text, and answers how many bytes it takes.
+/// Adds the byte or the range at the start of a text and returns the number of bytes read.
 fn add_range(set: &mut ByteSet, text: &[u8]) -> Result<usize, SyntaxFault>
     ensures front { IfOk result (IsTaken text.now) }
     ensures points { IfOk result (λ taken. (rs : List (ℕ × ℕ)) × Points text.now rs (drop taken text.now)
@@ -134,7 +134,7 @@ fn add_range(set: &mut ByteSet, text: &[u8]) -> Result<usize, SyntaxFault>
     Ok(low_length + 1 + high_length)
 }
 
-/// The byte, escape or `[. .]` at the front: its byte, and how many bytes it takes.
+/// Reads the byte, escape or `[. .]` at the start. Returns its byte and the number of bytes read.
 fn point(text: &[u8]) -> Result<(u8, usize), SyntaxFault>
     ensures front { IfOk result (λ found. IsTaken text.now found.1) }
     ensures point { IfOk result (λ found. Point text.now found.0 (drop found.1 text.now)) }
@@ -159,7 +159,7 @@ fn point(text: &[u8]) -> Result<(u8, usize), SyntaxFault>
     Ok((byte, 1))
 }
 
-/// The one byte that `[. .]` or `[= =]` at the front names, and how many bytes the form takes.
+/// Reads the `[. .]` or `[= =]` at the start. Returns the one byte that it names and the number of bytes read.
 fn named_byte(text: &[u8], mark: u8) -> Result<(u8, usize), SyntaxFault>
     ensures length { IfOk result (λ found. (found.1 ≡ 5) × (5 ≤ length text.now)) }
     ensures named { IfOk result (λ found. names text.now mark ≡ Some found.0) }
@@ -179,8 +179,7 @@ fn named_byte(text: &[u8], mark: u8) -> Result<(u8, usize), SyntaxFault>
     Err(SyntaxFault::at(kind, text))
 }
 
-/// Where the mark stands that ends the named form at the front of a text together with `]`; `None` where the
-/// line ends first.
+/// The offset of the mark that, with a `]`, ends the named form at the start of a text; `None` if the line ends before.
 fn named_end(text: &[u8], mark: u8) -> Option<usize>
     ensures within { IfSome result (λ end. (2 ≤ end) × (end + 2 ≤ length text.now)) }
     ensures ends { IfSome result (λ end. drop end text.now ≡ mark ∷ 93 ∷ drop (end + 2) text.now) }
@@ -199,7 +198,7 @@ fn named_end(text: &[u8], mark: u8) -> Option<usize>
     None
 }
 
-/// The character classes of the POSIX locale, by name, and the ranges of each.
+/// The character classes of the POSIX locale: each name with its ranges.
 static CLASSES: [(&[u8], &[(u8, u8)]); 12] = [
     (b"upper", &[(b'A', b'Z')]),
     (b"lower", &[(b'a', b'z')]),
@@ -215,7 +214,7 @@ static CLASSES: [(&[u8], &[(u8, u8)]); 12] = [
     (b"punct", &[(33, 47), (58, 64), (91, 96), (123, 126)]),
 ];
 
-/// The ranges of a character class, if there is one of this name.
+/// The ranges of the character class with this name, if there is one.
 fn class(name: &[u8]) -> Option<&'static [(u8, u8)]>
     ensures some { IfSome result (λ ranges. class_of name.now ≡ Some ranges.now) }
     ensures none { IfNone result (class_of name.now ≡ None) }
@@ -223,7 +222,7 @@ fn class(name: &[u8]) -> Option<&'static [(u8, u8)]>
     ranges_in(&CLASSES, name)
 }
 
-/// The ranges beside a name in a table.
+/// The ranges of a name in a table.
 fn ranges_in<'a>(table: &[(&[u8], &'a [(u8, u8)])], name: &[u8]) -> Option<&'a [(u8, u8)]>
     ensures some { IfSome result (λ ranges. found_in (as_classes table.now) name.now ≡ Some ranges.now) }
     ensures none { IfNone result (found_in (as_classes table.now) name.now ≡ None) }

@@ -19,7 +19,7 @@ use crate::weight::weigh;
 use ly_base::{Cut, Limits};
 use std::alloc::{AllocError, Global};
 
-/// The pattern of its sides, with their cut. One whose weight is above the limit is refused.
+/// Completes the sides of a pattern with their cut. Rejects a pattern whose weight is above the limit.
 pub(crate) fn with_cut(
     alloc: Global,
     sides: Uncut,
@@ -63,7 +63,7 @@ fn is_heavy(alloc: Global, sides: &Uncut, names: &Names, most: u32) -> Result<bo
     }
 }
 
-/// The cut of the sides of a pattern; sides that are too long for one weigh more than `most`.
+/// The cut of the sides of a pattern. Sides whose lengths are too large to count weigh more than `most`.
 fn cut_of_sides(alloc: Global, sides: &Uncut, names: &Names, most: u32) -> Result<Cut, EreFault>
     requires { AreSoundSides (length names.now) (sides_read sides.now) }
     ensures ok { IfOk result (IsCutOfSides (defined names.now) (sides_read sides.now)) }
@@ -84,7 +84,7 @@ fn cut_of_sides(alloc: Global, sides: &Uncut, names: &Names, most: u32) -> Resul
     }
 }
 
-/// The cut of a head and a tail, by their lengths.
+/// The cut of a head and a tail with these lengths.
 fn told_cut(head: Lengths, tail: Lengths) -> Result<Cut, EreFaultKind>
     ensures ok { IfOk result (IsToldBy head tail) }
     ensures refused { IfErr result (IsUntold head tail) }
@@ -101,7 +101,7 @@ fn told_cut(head: Lengths, tail: Lengths) -> Result<Cut, EreFaultKind>
     Ok(Cut::Head(counted(head.least)?))
 }
 
-/// A length that is counted; one that isn't is of what is too heavy.
+/// Returns a length that could be counted. A longer one means that the pattern is too heavy.
 fn counted(length: u64) -> Result<usize, EreFaultKind>
     ensures ok { IfOk result (λ n. (n ≡ length) × (length < far)) }
     ensures far { IfErr result (λ kind. (kind ≡ TooHeavy) × (far ≤ length)) }

@@ -25,7 +25,7 @@ use crate::uses::{renumber, uses};
 use ly_base::Limits;
 use std::alloc::{AllocError, Global};
 
-/// A definition as it stands in a lex file.
+/// A definition of a lex file.
 #[derive(Clone, Copy)]
 pub struct NamedText<'t> {
     /// The name.
@@ -34,12 +34,12 @@ pub struct NamedText<'t> {
     pub text: &'t [u8],
 }
 
-/// Reads definitions, which may use one another in any order. They are placed one behind another: again and again the
-/// first, as they stand, whose names are all placed.
+/// Reads definitions, which may use one another in any order. They are sorted so that each follows those that it uses:
+/// the next one is always the first in the file whose names are all defined by then.
 ///
-/// A fault comes with the place of the definition in the list; want of memory with any. It is the first definition's
-/// whose text is no expression or that leads into a cycle of names (`NameCycle`); where there is none, that of the
-/// first that is placed and weighs more than the limit (`TooHeavy`).
+/// An error comes with the index of the definition in the list; `OutOfMemory` comes with any index. The error is that
+/// of the first definition whose text is no expression or that leads into a cycle of names (`NameCycle`). If there is
+/// none, it is that of the first one, in the sorted order, whose weight is above the limit (`TooHeavy`).
 pub fn read_names(
     alloc: Global,
     list: &[NamedText<'_>],
@@ -56,12 +56,12 @@ pub fn read_names(
     }
 }
 
-/// Why definitions are refused.
+/// Why definitions are rejected.
 #[derive(Clone, Copy)]
 pub(crate) struct Refusal {
-    /// Where the one at fault stands in the list; 0 where memory is wanting.
+    /// The index of the erroneous definition in the list, or 0 if memory ran out.
     place: usize,
-    /// What is wrong with it.
+    /// The error of that definition.
     fault: EreFault,
 }
 
@@ -76,7 +76,7 @@ impl From<AllocError> for Refusal {
     }
 }
 
-/// Reads the texts, puts them in order, and places them.
+/// Reads the texts and sorts them.
 fn read_and_place(alloc: Global, list: &[NamedText<'_>], limits: &Limits) -> Result<Names, Refusal>
     requires distinct { AreDistinct (named_texts list.now) }
     ensures ok { IfOk result (AreNames (named_texts list.now)) }
@@ -91,7 +91,8 @@ fn read_and_place(alloc: Global, list: &[NamedText<'_>], limits: &Limits) -> Res
     place(alloc, list, &texts, &turns.order, limits)
 }
 
-/// The refusal of the text that stands first: one that is no expression, or the first that leads into a cycle.
+/// The error of whichever comes first in the list: the first text that is no expression, or the first that leads into a
+/// cycle.
 fn first_refusal(text: Option<Refusal>, cyclic: Option<usize>) -> Option<Refusal>
     ensures none { result ≡ None → (text ≡ None) × (cyclic ≡ None) }
     ensures some { ForSome result (λ r. (text ≡ Some r) ⊎ ((cyclic ≡ Some r.place) × (r.fault ≡ Refused NameCycle 0))) }
@@ -112,18 +113,18 @@ fn first_refusal(text: Option<Refusal>, cyclic: Option<usize>) -> Option<Refusal
     }
 }
 
-/// Texts that are read, where a name has the number of its place in the list.
+/// Texts that have been read. Names are numbered by their index in the list.
 #[derive(Drop)]
 pub(crate) struct DefinitionTexts {
-    /// The expressions of those that are one.
+    /// The expressions of the texts that are valid.
     expressions: Vec<Re>,
-    /// What each uses; nothing where it is no expression.
+    /// For each text the names that it uses; empty if it is no expression.
     uses: Vec<Vec<usize>>,
-    /// The first that is no expression.
+    /// The error of the first text that is no expression.
     refusal: Option<Refusal>,
 }
 
-/// Reads the texts, each under the names of all.
+/// Reads the texts. All names of the list are known in each.
 fn read_texts(alloc: Global, list: &[NamedText<'_>]) -> Result<DefinitionTexts, AllocError>
     requires distinct { AreDistinct (named_texts list.now) }
     ensures { IfOk result (AreRead (known_names (named_texts list.now)) (named_texts list.now)) }
@@ -152,7 +153,7 @@ fn read_each(
 }
 
 impl DefinitionTexts {
-    /// Reads a text behind those that are read.
+    /// Reads the next text.
     fn read_one(&mut self, alloc: Global, text: &[u8], known: &Names) -> Result<(), AllocError>
         ensures { (list : List DefinedText) (d : DefinedText) → AreRead known.now list self.old → d.text ≡ text.now
             → OnOk result (AreRead known.now (list ++ d ∷ []) self.new) }
@@ -175,7 +176,7 @@ impl DefinitionTexts {
         Ok(())
     }
 
-    /// Adds a text that is no expression, with its fault.
+    /// Adds a text that is no expression, with its error.
     fn push_fault(&mut self, alloc: Global, fault: EreFault) -> Result<(), AllocError>
         requires memory { fault ≢ OutOfMemory }
         requires weight { ere_kind fault ≢ Some TooHeavy }
@@ -193,8 +194,8 @@ impl DefinitionTexts {
     }
 }
 
-/// The names as if each were defined as a byte. Under them a text is an expression where it is one under any
-/// definitions of all its names.
+/// The names, each defined as some byte. With these a text is an expression exactly if it is one with any definitions
+/// of all its names.
 fn all_known(alloc: Global, list: &[NamedText<'_>]) -> Result<Names, AllocError>
     requires distinct { AreDistinct (named_texts list.now) }
     ensures { IfOk result (λ names. names ≡ known_names (named_texts list.now)) }
@@ -222,7 +223,7 @@ fn read_text(alloc: Global, text: &[u8], names: &Names) -> Result<Re, ReadFault>
     }
 }
 
-/// Places the texts in this order.
+/// Adds the definitions of these texts in this order.
 fn place(
     alloc: Global,
     list: &[NamedText<'_>],
@@ -258,8 +259,9 @@ fn place(
     Ok(names)
 }
 
-/// How many bytes the elements at the front of a line take, up to the line's end or the first blank outside strings,
-/// bracket expressions and escapes; all of the line where something there is no element.
+/// The number of bytes of the elements at the start of a line. They end at the end of the line or at the first blank
+/// outside strings, bracket expressions and escapes. If something before that is no element, returns the length of the
+/// line.
 pub fn expression_length(line: &[u8]) -> usize
     ensures within { result ≤ length line.now }
     ensures only { (n : ℕ) (ws : List Element) → n ≤ length line.now → AreElements (take n line.now) ws

@@ -11,12 +11,12 @@ use crate::node::Node;
 use crate::quoted::quoted_length;
 use ly_base::ByteSet;
 
-/// An element of an expression.
+/// An element of an expression: a token of its syntax.
 #[derive(Clone, Copy)]
 pub(crate) enum Element<'t> {
-    /// One byte of the set: a byte, an escape, `.` or a bracket expression.
+    /// One byte of the set: written as a byte, an escape, `.` or a bracket expression.
     OneOf(ByteSet),
-    /// A string: what stands behind its opening quote, not yet read.
+    /// A string: the text after its opening quote, not read yet.
     String(&'t [u8]),
     /// A name in braces.
     Name(&'t [u8]),
@@ -28,18 +28,18 @@ pub(crate) enum Element<'t> {
     Bar,
     /// An operator after its operand.
     Postfix(Postfix),
-    /// The bounds of an interval.
+    /// An interval.
     Interval {
-        /// The least number of times.
+        /// The smallest number of repetitions.
         least: u8,
-        /// The greatest number of times, if there is one.
+        /// The greatest number of repetitions, if it is bounded.
         most: Option<u8>,
     },
-    /// A mark of the whole pattern.
+    /// A mark that applies to the whole pattern.
     Mark(Mark),
 }
 
-/// What parts a pattern, or says where it matches.
+/// A mark that anchors a pattern or separates its trailing context.
 #[derive(Clone, Copy)]
 pub(crate) enum Mark {
     /// `^`
@@ -65,7 +65,7 @@ impl Postfix {
     ghost use Rattle.ly_ere.specs.Arena.{FitsAt, expression_of, part_of};
     ghost use Rattle.ly_ere.specs.Private.Levels.{operated};
 
-    /// The operator over a part.
+    /// Applies the operator to an operand.
     pub(crate) fn over(self, part: usize) -> Node
         ensures fits { (n : ℕ) → part < n → FitsAt n result }
         ensures operator { (done : _) → expression_of done result ≡ operated self (part_of done part) }
@@ -78,7 +78,7 @@ impl Postfix {
     }
 }
 
-/// Reads the element at the front of a text, and answers how many bytes it takes.
+/// Reads the element at the start of a text and returns the number of bytes read.
 pub(crate) fn next_element(text: &[u8]) -> Result<(Element<'_>, usize), SyntaxFault>
     requires { 0 < length text.now }
     ensures element { ReadsElement text.entry.now result }
@@ -104,7 +104,7 @@ pub(crate) fn next_element(text: &[u8]) -> Result<(Element<'_>, usize), SyntaxFa
     }
 }
 
-/// The string at the front, whose first byte is the opening quote.
+/// Reads the string at the start, whose first byte is the opening quote.
 fn string(text: &[u8]) -> Result<(Element<'_>, usize), SyntaxFault>
     requires some { 0 < length text.now }
     requires quote { slice_index text.now 0 ≡ 34 }
@@ -118,7 +118,7 @@ fn string(text: &[u8]) -> Result<(Element<'_>, usize), SyntaxFault>
     }
 }
 
-/// The bracket expression at the front, whose first byte is `[`.
+/// Reads the bracket expression at the start, whose first byte is `[`.
 fn list(text: &[u8]) -> Result<(Element<'_>, usize), SyntaxFault>
     requires some { 0 < length text.now }
     requires opening { slice_index text.now 0 ≡ 91 }
@@ -131,7 +131,7 @@ fn list(text: &[u8]) -> Result<(Element<'_>, usize), SyntaxFault>
     }
 }
 
-/// The escape at the front, whose first byte is the backslash.
+/// Reads the escape at the start, whose first byte is the backslash.
 fn escaped(text: &[u8]) -> Result<(Element<'_>, usize), SyntaxFault>
     requires some { 0 < length text.now }
     requires backslash { slice_index text.now 0 ≡ 92 }
@@ -142,7 +142,7 @@ fn escaped(text: &[u8]) -> Result<(Element<'_>, usize), SyntaxFault>
     Ok((Element::OneOf(ByteSet::of(byte)), length))
 }
 
-/// What `.` stands for.
+/// The bytes that `.` matches.
 fn all_but_newline() -> ByteSet
     ensures { members result ≡ bytes_where (λ b. not (nat_eq b 10)) }
 {

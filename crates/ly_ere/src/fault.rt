@@ -7,76 +7,76 @@ ghost use Rattle.ly_ere.specs.declared.fault.StepFault.TheVariants as step;
 use std::alloc::{AllocError, AllocFailed};
 use thiserror::Error;
 
-/// Why an expression is refused. Nothing is handed out then. It is printed in words, without its offset.
+/// Why an expression is rejected. It is displayed as a message without the offset.
 #[derive(Clone, Copy, Debug, PartialEq, Eq, Error)]
 pub enum EreFault {
-    /// The text is at fault.
+    /// The text has an error.
     #[error("{kind}")]
     Refused {
-        /// What is wrong.
+        /// The kind of error.
         kind: EreFaultKind,
-        /// Which byte of the text is at fault; all its bytes, where it ends too early.
+        /// The offset of the error in the text; its length if the text ends too early.
         offset: usize,
     },
-    /// A growth was refused.
+    /// An allocation failed.
     #[error("out of memory")]
     OutOfMemory,
 }
 
-/// What is wrong with an expression, and which byte is at fault. It is printed in words.
+/// The errors of expressions. Each variant says which byte the error is reported at. It is displayed as a message.
 #[derive(Clone, Copy, Debug, PartialEq, Eq, Error)]
 pub enum EreFaultKind {
-    /// An empty pattern, branch, group, head or tail: where an expression was to stand.
+    /// A pattern, branch, group, head or tail is empty. Reported at the byte where an expression is missing.
     #[error("something is empty that has to hold an expression")]
     Empty,
-    /// A string that is open where the line ends: its opening quote.
+    /// A string isn't closed by the end of the line. Reported at its opening quote.
     #[error("the closing quote is missing")]
     UnclosedQuote,
-    /// A bracket expression that is open where the line ends: its `[`.
+    /// A bracket expression isn't closed by the end of the line. Reported at its `[`.
     #[error("the closing bracket is missing")]
     UnclosedBracket,
-    /// A group that is open where the line ends: its `(`, that of the innermost of them.
+    /// A group isn't closed by the end of the line. Reported at the `(` of the innermost one.
     #[error("the closing parenthesis is missing")]
     UnclosedGroup,
-    /// An operator without operand, `*`, `+` or `?` after an interval, `)` without `(`, a backslash at
-    /// the end, or `/` where no trailing context may stand.
+    /// An operator without operand, `*`, `+` or `?` after an interval, `)` without `(`, a backslash at the end, or `/`
+    /// where no trailing context is allowed. Reported at this byte.
     #[error("an operator where none may stand")]
     StrayOperator,
-    /// A range that runs backwards, ends in a class or `[=c=]`, or follows a range or class at once: where it
-    /// begins.
+    /// A range that runs backwards, ends in a class or `[=c=]`, or directly follows a range or class. Reported at its
+    /// start.
     #[error("not a range")]
     BadRange,
-    /// A bracket expression that leaves no byte: its `[`.
+    /// A bracket expression that matches no byte. Reported at its `[`.
     #[error("a bracket expression without a byte")]
     EmptySet,
-    /// No such class, or not one character in `[. .]` or `[= =]`: its `[`.
+    /// An unknown class, or `[. .]` or `[= =]` with other than one character. Reported at its `[`.
     #[error("not a character class")]
     UnknownClass,
-    /// An interval that is none of the three forms, above 255, or with its bounds the wrong way round: its `{`.
+    /// An interval that has none of the three forms, a bound above 255, or a greater lower bound. Reported at its `{`.
     #[error("not an interval")]
     BadInterval,
-    /// An escape above 255: its backslash.
+    /// An escape with a value above 255. Reported at its backslash.
     #[error("an escape above 255")]
     EscapeTooLarge,
-    /// A name in braces that isn't defined, or isn't closed by `}`: the `{`.
+    /// A name in braces that is undefined, or that no `}` closes. Reported at its `{`.
     #[error("a name that isn't defined")]
     UnknownName,
-    /// A definition that leads into a cycle of names: where its expression begins.
+    /// A definition that leads into a cycle of names. Reported at the start of its expression.
     #[error("a cycle of names")]
     NameCycle,
-    /// `^` that isn't at the start, or `$` that isn't at the end.
+    /// A `^` that isn't at the start, or a `$` that isn't at the end. Reported at this byte.
     #[error("an anchor inside the pattern")]
     AnchorInside,
-    /// A second `/`, or `/` with `$`: the second of them.
+    /// A second `/`, or a `/` and a `$`. Reported at the second of them.
     #[error("a second trailing context")]
     TrailingTwice,
-    /// A `/` or `$` where neither the head nor the tail has one length.
+    /// Neither the head nor the tail has one length. Reported at the `/` or `$`.
     #[error("neither side of the trailing context has one length")]
     TrailingBothVary,
-    /// A `/` or `$` behind a head that has the empty string.
+    /// The head before a `/` or `$` matches the empty string. Reported at the `/` or `$`.
     #[error("the trailing context follows what may be empty")]
     TrailingHeadEmpty,
-    /// The weight is above the limit: where the pattern or the expression begins.
+    /// The weight is above the limit. Reported at the start of the pattern or expression.
     #[error("too heavy")]
     TooHeavy,
 }
@@ -84,7 +84,7 @@ pub enum EreFaultKind {
 impl EreFault {
     ghost use Rattle.ly_ere.specs.Faults.{ere_name, ere_number};
 
-    /// The fault's number; want of memory has none.
+    /// The error number. `OutOfMemory` has none.
     pub fn number(&self) -> Option<u8>
         ensures { result ≡ ere_number self.now }
     {
@@ -94,7 +94,7 @@ impl EreFault {
         }
     }
 
-    /// The fault's name.
+    /// The name of the error.
     pub fn name(&self) -> &'static str
         ensures { result.now ≡ ere_name self.now }
     {
@@ -108,7 +108,7 @@ impl EreFault {
 impl EreFaultKind {
     ghost use Rattle.ly_ere.specs.Faults.{kind_name, kind_number};
 
-    /// The number that a fault of this kind has.
+    /// The number of this kind of error.
     pub fn number(&self) -> u8
         ensures { result ≡ kind_number self.now }
     {
@@ -133,7 +133,7 @@ impl EreFaultKind {
         }
     }
 
-    /// The name that a fault of this kind has.
+    /// The name of this kind of error.
     pub fn name(&self) -> &'static str
         ensures { result.now ≡ kind_name self.now }
     {
@@ -197,17 +197,17 @@ impl From<SyntaxKind> for EreFaultKind {
     }
 }
 
-/// Why an expression can't be read, whatever it weighs: its text is at fault, or a growth was refused.
+/// Why an expression can't be read, whatever its weight: its text has an error, or an allocation failed.
 #[derive(Clone, Copy)]
 pub(crate) enum ReadFault {
-    /// The text is at fault.
+    /// The text has an error.
     Syntax(SyntaxFault),
-    /// A growth was refused.
+    /// An allocation failed.
     OutOfMemory,
 }
 
 impl ReadFault {
-    /// The fault of the expression whose text this is.
+    /// Converts to the error of the expression with this text.
     pub(crate) fn in_text(self, text: &[u8]) -> EreFault
         requires { IsReadIn text.now self }
         ensures { result ≡ fault_in text.now self }
@@ -235,17 +235,17 @@ impl From<AllocError> for ReadFault {
     }
 }
 
-/// Why an element can't stand where it stands: the element is at fault, or a growth was refused.
+/// Why an element isn't allowed where it is: it is wrong there, or an allocation failed.
 #[derive(Clone, Copy)]
 pub(crate) enum StepFault {
-    /// The element is at fault.
+    /// The element is wrong here.
     Syntax(SyntaxKind),
-    /// A growth was refused.
+    /// An allocation failed.
     OutOfMemory,
 }
 
 impl StepFault {
-    /// The fault of a text, of which this is what is left from the element on.
+    /// Converts to the error of a text. `rest` is the end of the text from the element on.
     pub(crate) fn at(self, rest: &[u8]) -> ReadFault
         ensures memory { result ≢ read.OutOfMemory → self ≢ step.OutOfMemory }
         ensures within { IsReadIn rest.now result }
@@ -289,17 +289,17 @@ impl<T: Drop> From<AllocFailed<T>> for StepFault {
     }
 }
 
-/// What is wrong with the text of an expression, and where.
+/// An error in the text of an expression and where it is.
 #[derive(Clone, Copy)]
 pub(crate) struct SyntaxFault {
-    /// What is wrong.
+    /// The kind of error.
     pub(crate) kind: SyntaxKind,
-    /// How many bytes are left of the text from the byte at fault on.
+    /// The number of bytes of the text from the error on.
     pub(crate) left: usize,
 }
 
 impl SyntaxFault {
-    /// That of a text of which this is left from the byte at fault on.
+    /// Makes the error of a text. `rest` is the end of the text from the error on.
     pub(crate) fn at(kind: SyntaxKind, rest: &[u8]) -> SyntaxFault
         ensures { IsLeftIn rest.now result }
     {
@@ -309,7 +309,7 @@ impl SyntaxFault {
         }
     }
 
-    /// The fault of the expression whose text this is.
+    /// Converts to the error of the expression with this text.
     pub(crate) fn in_text(self, text: &[u8]) -> EreFault
         requires { IsLeftIn text.now self }
         ensures { result ≡ fault_in text.now (read.Syntax self) }
@@ -320,7 +320,8 @@ impl SyntaxFault {
         }
     }
 
-    /// The same; but one of this kind stands where this text begins, as what isn't closed is at fault where it opens.
+    /// Returns the same error, but moves one of this kind to the start of `rest`, since an unclosed construct is
+    /// reported where it opens.
     pub(crate) fn begun_at(self, kind: SyntaxKind, rest: &[u8]) -> SyntaxFault
         requires { IsLeftIn rest.now self }
         ensures { IsLeftIn rest.now result }
@@ -333,33 +334,33 @@ impl SyntaxFault {
     }
 }
 
-/// What is wrong with the text of an expression: the kinds of `EreFaultKind` that a text alone decides.
+/// The kinds of `EreFaultKind` that depend on the text alone.
 #[derive(Clone, Copy, PartialEq, Eq)]
 pub(crate) enum SyntaxKind {
     /// An empty pattern, branch, group, head or tail.
     Empty,
-    /// A string is open where the line ends.
+    /// A string isn't closed by the end of the line.
     UnclosedQuote,
-    /// A bracket expression is open where the line ends.
+    /// A bracket expression isn't closed by the end of the line.
     UnclosedBracket,
-    /// A group is open where the line ends.
+    /// A group isn't closed by the end of the line.
     UnclosedGroup,
-    /// An operator where none may stand.
+    /// An operator where none is allowed.
     StrayOperator,
-    /// No range, or one that runs backwards.
+    /// Not a range, or one that runs backwards.
     BadRange,
-    /// A bracket expression that leaves no byte.
+    /// A bracket expression that matches no byte.
     EmptySet,
-    /// No such class, or not one character in `[. .]` or `[= =]`.
+    /// An unknown class, or `[. .]` or `[= =]` with other than one character.
     UnknownClass,
-    /// No interval.
+    /// Not an interval.
     BadInterval,
-    /// An escape above 255.
+    /// An escape with a value above 255.
     EscapeTooLarge,
-    /// A name that isn't defined.
+    /// An undefined name.
     UnknownName,
-    /// `^` that isn't at the start, or `$` that isn't at the end.
+    /// A `^` that isn't at the start, or a `$` that isn't at the end.
     AnchorInside,
-    /// A second `/`, or `/` with `$`.
+    /// A second `/`, or a `/` and a `$`.
     TrailingTwice,
 }

@@ -6,7 +6,7 @@ ghost use Rattle.ly_ere.specs.Private.Faults.{IsLeftIn};
 use crate::fault::{SyntaxFault, SyntaxKind};
 use ly_base::{EscapeFault, escape};
 
-/// Whether this byte stands at an index of a text.
+/// Whether a text has this byte at an index.
 pub(crate) fn stands_at(text: &[u8], at: usize, byte: u8) -> bool
     ensures { result ≡ stands_at text.now at byte }
 {
@@ -16,14 +16,14 @@ pub(crate) fn stands_at(text: &[u8], at: usize, byte: u8) -> bool
     }
 }
 
-/// Whether `[` with this mark stands at the front of a text.
+/// Whether a text starts with `[` and this mark.
 pub(crate) fn begins(text: &[u8], mark: u8) -> bool
     ensures { result ≡ begins text.now mark }
 {
     stands_at(text, 0, b'[') && stands_at(text, 1, mark)
 }
 
-/// What stands behind this byte at the front of a text, if it stands there.
+/// The text after this byte, if the text starts with it.
 pub(crate) fn behind_byte(text: &[u8], byte: u8) -> Option<&[u8]>
     ensures { MatchOption result ((rest : List ℕ) → text.now ≢ byte ∷ rest) (λ rest. text.now ≡ byte ∷ rest.now) }
 {
@@ -33,7 +33,8 @@ pub(crate) fn behind_byte(text: &[u8], byte: u8) -> Option<&[u8]>
     }
 }
 
-/// Reads the escape at the front of a text, whose first byte is the backslash: its byte, and how many bytes it takes.
+/// Reads the escape at the start of a text, whose first byte is the backslash. Returns its byte and the number of bytes
+/// read.
 pub(crate) fn leading_escape(text: &[u8]) -> Result<(u8, usize), SyntaxFault>
     ensures first { IfOk result (λ found. 2 ≤ found.1) }
     ensures within { IfOk result (λ found. found.1 ≤ length text.now) }

@@ -1,6 +1,6 @@
-// The least and the greatest length of an expression's strings, by those of its parts. They tell whether all strings
-// have one length, and whether the empty string is among them. They are counted up to a number that no accepted weight
-// reaches: the least length is at most the weight.
+// Computes the least and the greatest length of an expression's strings from those of its operands. They decide whether
+// all strings have one length, and whether the empty string is among them. Counting stops at a number that no accepted
+// weight reaches: the least length is at most the weight.
 ghost use Rattle.std.specs.Prelude.{◌≡◌, ℕ, ◌+◌, ◌*◌, min, max, Some, None, ◌<◌, ◌≤◌, List, length, slice_index_or};
 ghost use Rattle.std.specs.Prelude.{IfOk};
 ghost use Rattle.ly_ere.specs.Arena.{expression_of, expressions, part_of, FitsAt, IsOrdered};
@@ -15,19 +15,19 @@ use crate::node::Node;
 use crate::re::Re;
 use std::alloc::{AllocError, Global};
 
-/// Lengths from here on aren't told apart.
+/// Lengths from here on count as this one.
 pub(crate) const FAR: u64 = 1 << 32;
 
-/// How long the strings of an expression are, up to `FAR`.
+/// The lengths of the strings of an expression, up to `FAR`.
 #[derive(Clone, Copy)]
 pub(crate) struct Lengths {
-    /// The length of a shortest one.
+    /// The length of the shortest string.
     pub(crate) least: u64,
-    /// The length of a longest one; `FAR` where there is none.
+    /// The length of the longest string; `FAR` if there is no longest one.
     pub(crate) most: u64,
 }
 
-/// How long the strings of an expression are.
+/// The lengths of the strings of an expression.
 pub(crate) fn lengths_of(alloc: Global, re: &Re, names: &Names) -> Result<Lengths, AllocError>
     ensures { IfOk result (λ l. IsSound (length names.now) re.now
         → AreLengths (weight_of (defined names.now) re.now) (Matches (defined names.now) re.now) l) }
@@ -56,7 +56,7 @@ fn node_lengths(
     Ok(lengths)
 }
 
-/// The lengths of a node's expression, by those of the nodes before it.
+/// The lengths of a node's expression, computed from those of the nodes before it.
 fn lengths_at(node: Node, lengths: &[Lengths], named: &[Lengths]) -> Lengths
     requires fits { FitsAt (length lengths.now) node }
     requires near { AreNear lengths.now }
@@ -96,7 +96,7 @@ fn of_name(named: &[Lengths], number: usize) -> Lengths
 }
 
 impl Lengths {
-    /// Of strings with others behind them.
+    /// The lengths of a concatenation.
     fn then(self, next: Lengths) -> Lengths
         requires near { IsNear self }
         requires next_near { IsNear next }
@@ -112,7 +112,7 @@ impl Lengths {
         }
     }
 
-    /// The lengths of the strings of either.
+    /// The lengths of an alternation.
     fn either(self, other: Lengths) -> Lengths
         ensures { result ≡ record { least = min self.least other.least; most = max self.most other.most } }
     {
@@ -122,7 +122,7 @@ impl Lengths {
         }
     }
 
-    /// With the empty string besides.
+    /// The lengths with the empty string added.
     fn optional(self) -> Lengths
         ensures { result ≡ record { least = 0; most = self.most } }
     {
@@ -132,7 +132,7 @@ impl Lengths {
         }
     }
 
-    /// Of so many strings, one after another.
+    /// The lengths of a repetition.
     fn repeated(self, least: u8, most: Option<u8>) -> Lengths
         requires near { IsNear self }
         ensures { IsRepeated least most self result }

@@ -12,8 +12,8 @@ use crate::fault::{StepFault, SyntaxKind};
 use crate::node::Node;
 use std::alloc::AllocError;
 
-/// A group that is being read, or the whole expression: its finished branches, and of the open branch
-/// the last piece, which an operator may follow, and all before it. Each is the number of a node.
+/// A group that is being read, or the whole expression. It has the finished branches and the open branch. The last
+/// piece of the open branch is kept apart, since an operator may follow it. Each part is the number of a node.
 #[derive(Clone, Copy)]
 pub(crate) struct Level {
     /// The finished branches.
@@ -25,7 +25,7 @@ pub(crate) struct Level {
 }
 
 impl Level {
-    /// A group of which nothing is read.
+    /// Returns a group without contents.
     pub(crate) fn new() -> Self
         ensures parts { (n : ℕ) → ArePartsBelow n result }
         ensures empty { (arena : _) → group_of arena result ≡ new_group }
@@ -37,7 +37,7 @@ impl Level {
         }
     }
 
-    /// The group with one more atom.
+    /// Returns the group with one more atom.
     pub(crate) fn with_atom(self, arena: &mut Arena, atom: usize) -> Result<Level, AllocError>
         requires parts { ArePartsBelow (length arena.old) self }
         requires within { atom < length arena.old }
@@ -54,7 +54,7 @@ impl Level {
         })
     }
 
-    /// The group with an operator over its last piece.
+    /// Returns the group with an operator applied to its last piece.
     pub(crate) fn with_postfix(
         self,
         arena: &mut Arena,
@@ -77,7 +77,7 @@ impl Level {
         })
     }
 
-    /// The group with an interval over all of its open branch.
+    /// Returns the group with an interval applied to its whole open branch.
     pub(crate) fn with_interval(
         self,
         arena: &mut Arena,
@@ -105,7 +105,7 @@ impl Level {
         })
     }
 
-    /// The group with its open branch finished, and a new one begun.
+    /// Returns the group with its open branch finished and a new one begun.
     pub(crate) fn with_bar(self, arena: &mut Arena) -> Result<Level, StepFault>
         requires parts { ArePartsBelow (length arena.old) self }
         ensures parts { IfOk result (ArePartsBelow (length arena.new)) }
@@ -121,7 +121,7 @@ impl Level {
         })
     }
 
-    /// The expression of the whole group.
+    /// Returns the expression of the whole group.
     pub(crate) fn whole(self, arena: &mut Arena) -> Result<usize, StepFault>
         requires parts { ArePartsBelow (length arena.old) self }
         ensures within { IfOk result (λ n. n < length arena.new) }
@@ -136,7 +136,7 @@ impl Level {
         }
     }
 
-    /// The open branch with its last piece, if it has any.
+    /// Returns the open branch with its last piece, if it has any.
     fn open_branch(self, arena: &mut Arena) -> Result<Option<usize>, AllocError>
         requires parts { ArePartsBelow (length arena.old) self }
         ensures within { IfOk result (λ branch. ForSome branch (λ n. n < length arena.new)) }

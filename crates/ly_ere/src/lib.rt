@@ -1,14 +1,22 @@
-//! From the text of an extended regular expression of a lex file to what it means.
+//! The reader of extended regular expressions of lex files, and the definition of what they match.
 //!
-//! `read_names` reads definitions, which may use one another in any order: its answer is the one list of definitions
-//! that their texts are (`names_are_one`). `read_front` reads the pattern at the front of a line, `read_pattern` the
-//! text of a whole pattern. Each answers exactly the pattern that the grammar gives its text (`pattern_is_one`,
-//! `front_pattern_is_one`), and refuses only what is no pattern or is too heavy. A pattern with trailing context has
-//! the cut that the lengths of its head and its tail decide. What a pattern matches, and which rule wins at a place of
-//! a text, is defined here too, and determined (`winner_is_one`, `split_is_one`, `cut_is_true`,
-//! `expression_has_string`).
+//! `read_names` reads the definitions of a lex file, which may use one another in any order. `read_front` reads the
+//! pattern at the start of a line, and `read_pattern` the text of a whole pattern. Proved: each returns exactly the
+//! expressions that the grammar assigns to the text, and rejects a text only if it is no pattern or too heavy. The
+//! meaning of a text is unique (`names_are_one`, `pattern_is_one`, `front_pattern_is_one`).
 //!
-//! Left out: locales but POSIX's, and any automaton: what a pattern matches is said, not looked for.
+//! The crate also defines which strings a pattern matches and which rule wins at an offset of a text: the longest
+//! match, and the first rule among equals. Proved: the winner is unique, and so is the length of its token
+//! (`winner_is_one`, `split_is_one`, `cut_is_true`, `expression_has_string`).
+//!
+//! A pattern `r/x` has a head `r` and a tail `x`, its trailing context. Its cut is `Head` if all strings of `r` have
+//! one length, and else `Tail`. With this rule `a/b`, where both have one length, has one cut.
+//!
+//! An expression is a list of nodes whose operands have smaller numbers. So nothing recurses over it, and deep nesting
+//! can't overflow the stack. `Names` keeps each name twice: in a list in the order of definition and in a `HashMap`.
+//!
+//! Not covered: locales other than POSIX. The crate builds no automaton; it defines matches and doesn't search for
+//! them.
 #![tactic(auto)]
 
 mod arena;

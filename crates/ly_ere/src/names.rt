@@ -15,18 +15,18 @@ use std::alloc::{AllocError, Global};
 use std::collections::HashMap;
 use std::marker::Model;
 
-/// The definitions of a lex file, in an order in which each uses earlier ones only: names with their expressions.
+/// The definitions of a lex file: names with their expressions. Each uses earlier ones only.
 #[derive(Drop)]
 pub struct Names {
     /// The names.
     names: Vec<Vec<u8>>,
-    /// The number of each.
+    /// The number of each name.
     numbers: HashMap<Vec<u8>, usize>,
-    /// The expression of each.
+    /// The expression of each name.
     definitions: Vec<Re>,
-    /// The weight of each.
+    /// The weight of each expression.
     weights: Vec<u32>,
-    /// How long the strings of each are.
+    /// The lengths of the strings of each expression.
     lengths: Vec<Lengths>,
 }
 
@@ -53,7 +53,7 @@ impl Model for Names {
 impl Names {
     ghost use Rattle.ly_ere.specs.Names.{AreOrdered};
 
-    /// No definitions.
+    /// Returns an empty list of definitions.
     pub fn new(alloc: Global) -> Self
         ensures { result ≡ [] }
     {
@@ -74,15 +74,15 @@ impl Names {
         &self.definitions
     }
 
-    /// The number of the definition of a name, if there is one.
+    /// The number of the definition of a name, if it is defined.
     pub(crate) fn find(&self, name: &[u8]) -> Option<usize>
         ensures { result ≡ number_of self.now name.now }
     {
         self.numbers.get(name).copied()
     }
 
-    /// The definitions with one more, which uses earlier ones only, of a name that has none. One whose weight is above
-    /// the limit is refused.
+    /// Adds the definition of a new name, which uses earlier names only. Rejects an expression whose weight is above
+    /// the limit.
     pub(crate) fn with_definition(
         self,
         alloc: Global,
@@ -108,7 +108,7 @@ impl Names {
         Ok(self.with_weighed(alloc, name, definition, weight)?)
     }
 
-    /// The definitions with one more, whose weight is known.
+    /// Adds a definition whose weight is known.
     pub(crate) fn with_weighed(
         mut self,
         alloc: Global,
@@ -138,7 +138,7 @@ impl Names {
         &self.weights
     }
 
-    /// How long the strings of each definition are.
+    /// The lengths of the strings of each definition.
     pub(crate) fn lengths(&self) -> &[Lengths]
         ensures { AreNamedLengths (defined self.now) result.now }
     {

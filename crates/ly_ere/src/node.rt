@@ -1,29 +1,29 @@
 use ly_base::ByteSet;
 
-/// One operator of an expression. Its parts are numbers of earlier nodes of the same list.
+/// One operator of an expression. Its operands are numbers of earlier nodes of the same list.
 #[derive(Clone, Copy, Debug, PartialEq, Eq)]
 pub enum Node {
     /// One byte of the set.
     Set(ByteSet),
     /// The empty string.
     Empty,
-    /// The first part, then the second.
+    /// The first operand, then the second.
     Concat(usize, usize),
-    /// One of the two parts.
+    /// One of the two operands.
     Either(usize, usize),
-    /// The part any number of times: `*`.
+    /// The operand any number of times: `*`.
     Star(usize),
-    /// The part once or more: `+`.
+    /// The operand one or more times: `+`.
     Plus(usize),
-    /// The part or nothing: `?`.
+    /// The operand or nothing: `?`.
     Optional(usize),
-    /// The part `least` times or more, and `most` times at most if there is a bound: `{m,n}`.
+    /// The operand at least `least` times, and at most `most` times if there is a bound: `{m,n}`.
     Repeat {
-        /// The least number of times, 0 to 255.
+        /// The smallest number of repetitions, 0 to 255.
         least: u8,
-        /// The greatest number of times, if there is one.
+        /// The greatest number of repetitions, if it is bounded.
         most: Option<u8>,
-        /// The part.
+        /// The operand.
         part: usize,
     },
     /// The definition of this number: `{name}`.

@@ -5,21 +5,21 @@ use std::rc::RcSlice;
 /// What a rule matches.
 #[derive(Drop)]
 pub struct Pattern {
-    /// Whether it matches only where a line begins: `^`.
+    /// Whether it matches only at the start of a line: `^`.
     pub line_start: bool,
-    /// What the token is.
+    /// The expression that the token matches.
     pub head: Re,
-    /// What has to follow the token, if anything: `/`, and `$` for a newline.
+    /// The trailing context, which has to follow the token: after `/`, or a newline for `$`.
     pub tail: Option<Re>,
-    /// Which part of a match is the token: `Head` where the head has one length, and else `Tail`.
+    /// Which part of a match is the token: `Head` if all strings of the head have one length, else `Tail`.
     pub cut: Cut,
 }
 
 /// A rule of a lex file.
 #[derive(Drop)]
 pub struct Rule {
-    /// What it matches.
+    /// The pattern that it matches.
     pub pattern: Pattern,
-    /// The numbers of the conditions in which it is active. The list may be held in common with other rules.
+    /// The numbers of the conditions in which it is active. Rules may share the list.
     pub active: RcSlice<u32>,
 }

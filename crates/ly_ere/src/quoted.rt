@@ -8,8 +8,7 @@ ghost use Rattle.ly_ere.specs.Private.Front.{IsQuotedByte};
 use crate::fault::{SyntaxFault, SyntaxKind};
 use crate::front::leading_escape;
 
-/// How many bytes a string takes, of which this is what stands behind its opening quote: up to the closing quote,
-/// with it.
+/// The length of a string, up to and including the closing quote. `behind` is the text after the opening quote.
 pub(crate) fn quoted_length(behind: &[u8]) -> Result<usize, SyntaxFault>
     ensures front { IfOk result (IsTaken behind.now) }
     ensures quoted { IfOk result (λ end. (bs : List ℕ) × Quoted behind.now bs (drop end behind.now)) }
@@ -23,8 +22,8 @@ pub(crate) fn quoted_length(behind: &[u8]) -> Result<usize, SyntaxFault>
     Ok(at + 1)
 }
 
-/// Reads the byte or escape at the front of what stands behind a string's opening quote: its byte, and how many
-/// bytes it takes; `None` where the string ends.
+/// Reads the next byte or escape inside a string. Returns its byte and the number of bytes read, or `None` at the end
+/// of the string.
 pub(crate) fn quoted_byte(text: &[u8]) -> Result<Option<(u8, usize)>, SyntaxFault>
     ensures end { IfOk result (λ found. IfNone found (slice_get text.now 0 ≡ Some 34)) }
     ensures front { IfOk result (λ found. IfSome found (λ part. IsTaken text.now part.1)) }

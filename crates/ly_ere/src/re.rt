@@ -7,8 +7,8 @@ use ly_base::ByteSet;
 use std::alloc::{AllocError, Global};
 use std::marker::Model;
 
-/// An expression, kept as a list of nodes whose parts have smaller numbers, and seen as the
-/// expression that its root stands for.
+/// An expression, stored as a list of nodes whose operands have smaller numbers. Contracts see it as the expression of
+/// its root.
 #[derive(Drop)]
 pub struct Re {
     /// The nodes.
@@ -34,7 +34,7 @@ impl Model for Re {
 impl Re {
     ghost use Rattle.ly_ere.specs.Arena.{expressions, IsOrdered};
 
-    /// The expression that a number names in an arena. No room is kept for more.
+    /// Returns the expression of a node of an arena. Frees the unused capacity.
     pub fn of(mut arena: Arena, root: usize) -> Self
         requires { root < length arena }
         ensures { result ≡ slice_index_or arena root empty }
@@ -43,7 +43,7 @@ impl Re {
         Re { arena, root }
     }
 
-    /// The expression of one byte.
+    /// Returns the expression that matches this byte.
     pub(crate) fn of_byte(alloc: Global, byte: u8) -> Result<Re, AllocError>
         ensures { IfOk result (λ re. re ≡ set (byte ∷ [])) }
     {
@@ -52,7 +52,7 @@ impl Re {
         Ok(Re::of(arena, root))
     }
 
-    /// The nodes, whose parts come before them, and the number of the whole expression's node.
+    /// The nodes, each after its operands, and the number of the root.
     pub fn nodes(&self) -> (&[Node], usize)
         ensures within { result.1 < length result.0.now }
         ensures spelled { slice_index_or (expressions result.0.now) result.1 empty ≡ self.now }

@@ -29,8 +29,9 @@ use crate::sides::read_sides;
 use ly_base::{ByteSet, Limits, is_blank};
 use std::alloc::{AllocError, Global};
 
-/// Reads the pattern at the front of a line, up to the line's end or the first blank outside strings, bracket
-/// expressions and escapes, and answers how many bytes it takes. One whose weight is above the limit is refused.
+/// Reads the pattern at the start of a line and returns the number of bytes read. The pattern ends at the end of the
+/// line or at the first blank outside strings, bracket expressions and escapes. Rejects one whose weight is above the
+/// limit.
 pub fn read_front(
     alloc: Global,
     line: &[u8],
@@ -52,7 +53,7 @@ pub fn read_front(
     Ok((pattern, length))
 }
 
-/// Reads the text of a pattern, and refuses one whose weight is above the limit.
+/// Reads the text of a pattern. Rejects one whose weight is above the limit.
 pub fn read_pattern(
     alloc: Global,
     text: &[u8],
@@ -78,8 +79,8 @@ pub fn read_pattern(
     with_cut(alloc, sides, names, limits)
 }
 
-/// Reads the expression at the front of a line, and answers how many bytes it takes. Open groups stand on a stack
-/// of the reader's own.
+/// Reads the expression at the start of a line and returns the number of bytes read. Open groups are kept on an
+/// explicit stack.
 pub(crate) fn read_expression(
     alloc: Global,
     line: &[u8],
@@ -112,7 +113,7 @@ pub(crate) fn read_expression(
     }
 }
 
-/// Whether this is what may stand behind a side of a pattern.
+/// Whether a side of a pattern may end before this text.
 fn can_end(rest: &[u8]) -> bool
     ensures { MatchBool result (CanEnd rest.now) (CanEnd rest.now → ⊥) }
 {
@@ -122,8 +123,8 @@ fn can_end(rest: &[u8]) -> bool
     }
 }
 
-/// What groups that are open at the end of a side are refused for, by what stands there: where nothing else is at
-/// fault, the last of them that opens is.
+/// The error of groups that are still open at the end of a side. It depends on the byte there. If the byte is allowed,
+/// the error is that the innermost group isn't closed.
 fn open_fault(line: &[u8], end: usize, groups: usize) -> SyntaxFault
     requires { end ≤ length line.now }
     ensures { IsLeftIn line.now result }
@@ -139,8 +140,8 @@ fn open_fault(line: &[u8], end: usize, groups: usize) -> SyntaxFault
     }
 }
 
-/// How many bytes stand before the `(` that opens the innermost group, where so many groups are open at the end of a
-/// side: no later one leads from one group fewer to so many.
+/// The offset of the `(` that opens the innermost group, if `groups` groups are open at the end of a side. It is the
+/// last one that increases the depth to this number.
 fn opening_of(line: &[u8], groups: usize) -> usize
     ensures { result ≤ length line.now }
 {
@@ -166,7 +167,7 @@ fn opening_of(line: &[u8], groups: usize) -> usize
     opening
 }
 
-/// Whether this is what may stand behind a pattern on its line.
+/// Whether a pattern may end before this text on its line.
 pub(crate) fn is_behind(rest: &[u8]) -> bool
     ensures { MatchBool result (IsBehind rest.now) (IsBehind rest.now → ⊥) }
 {
@@ -176,7 +177,7 @@ pub(crate) fn is_behind(rest: &[u8]) -> bool
     }
 }
 
-/// The innermost group after one more element; `outer` holds the groups round it.
+/// Returns the innermost group after one more element. `outer` has the groups around it.
 fn with_element(
     arena: &mut Arena,
     outer: &mut Vec<Level>,
@@ -220,7 +221,7 @@ fn with_element(
     }
 }
 
-/// What a mark is refused for where none may stand.
+/// The error of a mark where none is allowed.
 fn mark_fault(mark: Mark) -> SyntaxKind {
     match mark {
         Mark::Caret | Mark::DollarSign => SyntaxKind::AnchorInside,
@@ -228,7 +229,7 @@ fn mark_fault(mark: Mark) -> SyntaxKind {
     }
 }
 
-/// The group round a group that ends, with that group as its next atom.
+/// Ends a group and returns the enclosing group, with the ended one as its next atom.
 fn close(arena: &mut Arena, outer: &mut Vec<Level>, level: Level) -> Result<Level, StepFault>
     requires parts { ArePartsBelow (length arena.old) level }
     requires outer_parts { All (ArePartsBelow (length arena.old)) outer.old.items }
@@ -246,7 +247,7 @@ fn close(arena: &mut Arena, outer: &mut Vec<Level>, level: Level) -> Result<Leve
     Ok(around.with_atom(arena, atom)?)
 }
 
-/// Adds a string's bytes, one after another; `behind` is what stands behind its opening quote.
+/// Adds a string's bytes one after another. `behind` is the text after its opening quote.
 fn push_string(arena: &mut Arena, behind: &[u8]) -> Result<usize, StepFault>
     ensures within { IfOk result (λ n. n < length arena.new) }
     ensures grown { IsExtended arena.old arena.new }

@@ -14,21 +14,21 @@ use crate::re::Re;
 use crate::read::{is_behind, read_expression};
 use std::alloc::Global;
 
-/// A pattern but for its cut.
+/// A pattern without its cut.
 #[derive(Drop)]
 pub(crate) struct Uncut {
-    /// Whether it matches only where a line begins.
+    /// Whether it matches only at the start of a line.
     pub(crate) line_start: bool,
-    /// What the token is.
+    /// The expression that the token matches.
     pub(crate) head: Re,
-    /// What has to follow the token, if anything.
+    /// The trailing context, if there is one.
     pub(crate) tail: Option<Re>,
-    /// How many bytes of the text stand before what follows the head.
+    /// The offset of the end of the head.
     pub(crate) head_end: usize,
 }
 
 impl Uncut {
-    /// Which byte is at fault where the sides have no cut: the `/` or the `$`, but the first of what is too heavy.
+    /// The offset of an error that concerns the sides together: that of the `/` or `$`, but 0 for `TooHeavy`.
     pub(crate) fn offset_of(&self, kind: EreFaultKind) -> usize
         ensures { result ≤ self.now.head_end }
     {
@@ -39,20 +39,20 @@ impl Uncut {
     }
 }
 
-/// A head and what has to follow it.
+/// A head and its trailing context.
 #[derive(Drop)]
 struct Tailed {
-    /// What the token is.
+    /// The expression that the token matches.
     head: Re,
-    /// What has to follow the token, if anything.
+    /// The trailing context, if there is one.
     tail: Option<Re>,
-    /// How many bytes the head takes.
+    /// The length of the head's text in bytes.
     head_length: usize,
-    /// How many bytes both take.
+    /// The length of both in bytes.
     length: usize,
 }
 
-/// Reads the sides of the pattern at the front of a line, and answers how many bytes they take.
+/// Reads the sides of the pattern at the start of a line and returns the number of bytes read.
 pub(crate) fn read_sides(
     alloc: Global,
     line: &[u8],
@@ -84,7 +84,7 @@ pub(crate) fn read_sides(
     Ok((sides, found.length))
 }
 
-/// Reads a head and what has to follow it.
+/// Reads a head and its trailing context.
 fn read_tailed(alloc: Global, line: &[u8], names: &Names) -> Result<Tailed, ReadFault>
     ensures within { IfOk result (λ found. found.length ≤ length line.now) }
     ensures head { IfOk result (λ found. found.head_length ≤ length line.now) }
@@ -103,7 +103,7 @@ fn read_tailed(alloc: Global, line: &[u8], names: &Names) -> Result<Tailed, Read
     })
 }
 
-/// Reads what stands behind a head: nothing, `$`, or `/` and a tail.
+/// Reads what follows a head: nothing, `$`, or `/` and a tail.
 fn read_tail(alloc: Global, line: &[u8], names: &Names) -> Result<(Option<Re>, usize), ReadFault>
     requires { CanEnd line.now }
     ensures within { IfOk result (λ found. found.1 ≤ length line.now) }
@@ -128,7 +128,7 @@ fn read_tail(alloc: Global, line: &[u8], names: &Names) -> Result<(Option<Re>, u
     Ok((Some(Re::of_byte(alloc, b'\n')?), 1))
 }
 
-/// What a `/` or `$` behind a tail is refused for: a `$` that isn't at the end is an anchor inside.
+/// The error of a `/` or `$` after a tail. A `$` that isn't at the end is `AnchorInside`.
 fn second_fault(rest: &[u8]) -> SyntaxFault
     ensures { IsLeftIn rest.now result }
 {

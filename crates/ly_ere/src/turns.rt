@@ -1,5 +1,5 @@
-// Things that use one another are taken in turn: again and again the least whose uses are all taken (topological
-// sorting, Kahn 1962). A thing waits for one use at a time, the first that isn't taken, so each use is looked at once.
+// Topological sort (Kahn 1962) of items that use one another: the next item is always the least one whose uses have all
+// been taken. An item waits for one use at a time, the first that isn't taken, so each use is visited once.
 ghost use Rattle.std.specs.Prelude.{◌≡◌, ◌<◌, ◌≤◌, ℕ, List, ◌∷◌, [], All, false, length, map, IfOk, OnOk};
 ghost use Rattle.std.specs.BTreeSet.{contains};
 ghost use Rattle.std.specs.Ordering.{nat_cmp};
@@ -10,8 +10,8 @@ use std::alloc::{AllocError, Global};
 use std::collections::BTreeSet;
 use std::mem;
 
-/// Numbers of things in an order in which each stands behind those that it uses: again and again the least whose uses
-/// all stand there. A thing that leads into a cycle isn't among them.
+/// Sorts items so that each follows those that it uses. The next one is always the least possible. An item that leads
+/// into a cycle is left out.
 pub(crate) fn in_turn(alloc: Global, uses: &[Vec<usize>]) -> Result<InTurn, AllocError>
     requires { AreThere (map (λ v. v.items) uses.now) }
     ensures { IfOk result (ArePut (map (λ v. v.items) uses.now)) }
@@ -26,34 +26,34 @@ pub(crate) fn in_turn(alloc: Global, uses: &[Vec<usize>]) -> Result<InTurn, Allo
     Ok(turns.in_order())
 }
 
-/// An order of things, and the least that isn't among them.
+/// A sorted list of items, and the least item that isn't in it.
 #[derive(Drop)]
 pub(crate) struct InTurn {
-    /// The numbers of things.
+    /// The numbers of the items in order.
     pub(crate) order: Vec<usize>,
-    /// The least number that isn't among them.
+    /// The least number that isn't in the list.
     pub(crate) left: Option<usize>,
 }
 
-/// Things that are taken in turn.
+/// The state of the sort.
 #[derive(Drop)]
 struct Turns<'u> {
-    /// What each uses.
+    /// The items that each item uses.
     uses: &'u [Vec<usize>],
-    /// How many of the uses of each, from the first on, are known to be taken.
+    /// For each item the number of its first uses that are known to be taken.
     passed: Vec<usize>,
-    /// For each thing those that wait for it.
+    /// For each item those that wait for it.
     waiting: Vec<Vec<usize>>,
-    /// Whether each is taken.
+    /// Whether each item is taken.
     taken: Vec<bool>,
-    /// Those that aren't taken and whose uses all are.
+    /// The items that aren't taken and whose uses all are.
     ready: BTreeSet<usize>,
-    /// Those that are taken, in that order.
+    /// The taken items, in that order.
     order: Vec<usize>,
 }
 
 impl<'u> Turns<'u> {
-    /// Nothing is taken, and of each thing it is to be found out what it waits for.
+    /// Begins the sort: nothing is taken, and the next use of each item is still to be found.
     fn new(alloc: Global, uses: &'u [Vec<usize>]) -> Result<Self, AllocError>
         requires { AreThere (map (λ v. v.items) uses.now) }
         ensures same { IfOk result (λ t. t.uses.now ≡ uses.now) }
@@ -73,7 +73,7 @@ impl<'u> Turns<'u> {
         })
     }
 
-    /// Finds the next use that a thing waits for. It is ready if there is none.
+    /// Finds the next use that an item waits for. If there is none, the item is ready.
     fn settle(&mut self, number: usize) -> Result<(), AllocError>
         requires { (rest : List ℕ) × AreTurns self.old (number ∷ rest) }
         ensures same { self.new.uses.now ≡ self.old.uses.now }
@@ -92,7 +92,7 @@ impl<'u> Turns<'u> {
         Ok(())
     }
 
-    /// Takes a thing that is ready, and settles those that waited for it.
+    /// Takes a ready item, and settles those that waited for it.
     fn take(&mut self, alloc: Global, number: usize) -> Result<(), AllocError>
         requires turns { AreTurns self.old (number ∷ []) }
         requires through { IsThrough (uses_in self.old) self.old.passed.items number }
@@ -110,7 +110,7 @@ impl<'u> Turns<'u> {
         Ok(())
     }
 
-    /// The order, and the least thing that isn't taken.
+    /// Returns the sorted list, and the least item that isn't taken.
     fn in_order(self) -> InTurn
         requires turns { AreTurns self [] }
         requires none { (n : ℕ) → contains nat_cmp self.ready n ≡ false }
@@ -124,7 +124,7 @@ impl<'u> Turns<'u> {
     }
 }
 
-/// The place of the first of a thing's uses, from one on, that isn't taken; their number where all are.
+/// The index of the first use, from `from` on, that isn't taken; the number of uses if all are.
 fn next_use(uses: &[usize], taken: &[bool], from: usize) -> usize
     requires within { from ≤ length uses.now }
     requires there { All (λ u. u < length taken.now) uses.now }

@@ -8,7 +8,7 @@ use crate::node::Node;
 use crate::re::Re;
 use std::alloc::{AllocError, Global};
 
-/// The numbers of the names that an expression uses, from left to right, as often as they stand in it.
+/// The numbers of the names in an expression, from left to right, each as often as it occurs.
 pub(crate) fn uses(alloc: Global, re: &Re) -> Result<Vec<usize>, AllocError>
     ensures { IfOk result (λ found. found.items ≡ uses_of re.now) }
 {
@@ -22,7 +22,7 @@ pub(crate) fn uses(alloc: Global, re: &Re) -> Result<Vec<usize>, AllocError>
     Ok(found)
 }
 
-/// Opens a node: its parts are to be opened next, the first before the second; a name is found.
+/// Visits a node: its operands are visited next, the first before the second, and a name is recorded.
 fn open_node(node: Node, pending: &mut Vec<usize>, found: &mut Vec<usize>) -> Result<(), AllocError>
     ensures within { (n : ℕ) → FitsAt n node → All (λ k. k < n) pending.old.items
         → OnOk result (All (λ k. k < n) pending.new.items) }
@@ -44,7 +44,7 @@ fn open_node(node: Node, pending: &mut Vec<usize>, found: &mut Vec<usize>) -> Re
     Ok(())
 }
 
-/// The expression with other numbers for its names: `numbers[x]` for x, if there is one.
+/// Returns the expression with its names renumbered: name x becomes `numbers[x]`, if there is one.
 pub(crate) fn renumber(alloc: Global, re: &Re, numbers: &[usize]) -> Result<Re, AllocError>
     ensures { IfOk result (λ r. r ≡ renumbered (number_for numbers.now) re.now) }
 {
@@ -56,7 +56,7 @@ pub(crate) fn renumber(alloc: Global, re: &Re, numbers: &[usize]) -> Result<Re, 
     Ok(Re::of(arena, root))
 }
 
-/// The node with another number, if it is a name's.
+/// Returns the node with its number replaced if it is a name.
 fn with_number(node: Node, numbers: &[usize]) -> Node
     ensures fits { (n : ℕ) → FitsAt n node → FitsAt n result }
     ensures expression { (done : List Expression) → expression_of (map (renumbered

@@ -10,8 +10,8 @@ use crate::node::Node;
 use crate::re::Re;
 use std::alloc::{AllocError, Global};
 
-/// The weight of an expression, if it is at most `most`: how many sets of bytes and empty strings it has,
-/// where repetitions and definitions are written out. It fails where memory runs out.
+/// The weight of an expression, if it is at most `most`: the number of its byte sets and empty strings, with
+/// repetitions and definitions expanded. Fails if memory runs out.
 pub fn weigh(alloc: Global, re: &Re, names: &Names, most: u32) -> Result<Option<u32>, AllocError>
     ensures { IfOk result (λ weight. MatchOption weight (most < weight_of (defined names.now) re.now)
         (λ w. (w ≡ weight_of (defined names.now) re.now) × (w ≤ most))) }
@@ -20,7 +20,7 @@ pub fn weigh(alloc: Global, re: &Re, names: &Names, most: u32) -> Result<Option<
     Ok(at_most(weight, most))
 }
 
-/// A weight that isn't above `most`.
+/// Returns the weight if it is at most `most`.
 fn at_most(weight: u64, most: u32) -> Option<u32>
     ensures { MatchOption result (most < weight) (λ w. (w ≡ weight) × (w ≤ most)) }
 {
@@ -30,7 +30,7 @@ fn at_most(weight: u64, most: u32) -> Option<u32>
     }
 }
 
-/// The weight of an expression by the weights of the definitions, or the cap if it is less.
+/// The weight of an expression, or `cap` if that is less, given the weights of the definitions.
 fn capped_weight(alloc: Global, re: &Re, named: &[u32], cap: u64) -> Result<u64, AllocError>
     requires cap { cap ≤ 2 ^ 32 }
     requires some { 0 < cap }
@@ -63,7 +63,7 @@ fn capped_weights(
     Ok(weights)
 }
 
-/// The capped weight of a node's expression, by those of the nodes before it.
+/// The capped weight of a node's expression, computed from those of the nodes before it.
 fn node_weight(node: Node, weights: &[u64], named: &[u32], cap: u64) -> u64
     requires fits { FitsAt (length weights.now) node }
     requires cap { cap ≤ 2 ^ 32 }
@@ -83,7 +83,7 @@ fn node_weight(node: Node, weights: &[u64], named: &[u32], cap: u64) -> u64
     }
 }
 
-/// The weight of a repetition, by that of its part.
+/// The weight of a repetition, computed from that of its operand.
 fn repeated(least: u8, most: Option<u8>, weight: u64) -> u64
     requires { weight ≤ 2 ^ 32 }
     ensures { result ≡ repeated_weight least most weight }
