@@ -5,7 +5,7 @@ use Rattle.std.specs.Prelude.{nat_eq}
 use Rattle.std.specs.Prelude.{if◌then◌else◌}
 use Rattle.ly_ere.specs.Expression.{Expression, set, empty, concat, either, star, plus, optional, repeat, name}
 
--- how often the operand of a repetition counts; one that is repeated 0 times weighs 1
+-- the weight of a repetition, given that of its operand; one of 0 times weighs 1
 abbrev pub repeated_weight : ℕ → Option ℕ → ℕ → ℕ
 repeated_weight m None w = max m 1 * w
 repeated_weight m (Some zero) w = 1

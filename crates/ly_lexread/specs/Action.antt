@@ -12,7 +12,7 @@ pub data Meaning : Type 0 where
   literal_of : ℕ → Meaning
   first_byte : Meaning
 
--- what is returned, whatever room its name has
+-- what is returned, whatever the capacity of its name
 abbrev pub meaning_of : Returned → Meaning
 meaning_of Nothing = nothing
 meaning_of (Token n) = token (rc_slice_items n)
@@ -24,19 +24,19 @@ pub record Effect : Type 0 where
   pub begin : Option ℕ
   pub returns : Meaning
 
--- that of a rule whose text is passed over
+-- the effect of a rule whose matches are skipped
 abbrev pub no_effect : Effect
 no_effect = record { begin = None; returns = nothing }
 
 abbrev pub effect_of : LexAction → Effect
 effect_of a = record { begin = a.begin; returns = meaning_of a.returns }
 
--- What a rule says of its action: it is its own, or that of the next rule.
+-- The action of a rule as it is written: its own, or that of the next rule.
 pub data Saying : Type 0 where
   own : Effect → Saying
   next : Saying
 
--- the effect of each rule, by what the rules say
+-- the effect of each rule, given the actions as they are written
 abbrev pub AreEffects : List Saying → List Effect → Type 0
 AreEffects [] [] = Unit {0}
 AreEffects (own d ∷ ss) (e ∷ es) = (e ≡ d) × AreEffects ss es

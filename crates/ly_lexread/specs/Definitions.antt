@@ -15,13 +15,13 @@ use Rattle.ly_lexread.specs.declared.directive.Directed.TheVariants.{Inclusive, 
 use Rattle.ly_lexread.specs.declared.kind.LineKind.{LineKind}
 use Rattle.ly_lexread.specs.declared.kind.LineKind.TheVariants.{Mark, Unused, Block, Comment, Directive, Plain}
 
--- one blank or more, as many as there are, and then the rest
+-- one or more blanks, as many as there are, then the rest
 abbrev pub BlanksBefore : List ℕ → List ℕ → Type 0
 BlanksBefore text rest = (blanks : List ℕ) × AllPass is_blank blanks × (blanks ≢ []) × Stops is_blank rest
     × (text ≡ blanks ++ rest)
 
--- Blanks and names by turns, up to the end of a line: each name is that of a further condition, exclusive or not, from
--- which as many bytes of the file are left as left says of what is left of the line.
+-- Blanks and names in turn, up to the end of a line. Each name declares a further condition, exclusive or not. left
+-- gives the number of bytes of the file from the rest of a line on.
 pub data DeclaresAll (exclusive : Bool) (left : List ℕ → ℕ) : List Condition → List ℕ → List Condition → Type 0 where
   end : (cs : List Condition) (text : List ℕ) → AllPass is_blank text → DeclaresAll exclusive left cs text cs
   more : (cs all : List Condition) (text behind n rest : List ℕ) → BlanksBefore text behind
@@ -29,7 +29,7 @@ pub data DeclaresAll (exclusive : Bool) (left : List ℕ → ℕ) : List Conditi
       → DeclaresAll exclusive left (cs ++ (n, (exclusive, left behind)) ∷ []) rest all
       → DeclaresAll exclusive left cs text all
 
--- the same, where there is a name at least
+-- the same with at least one name
 abbrev pub Declares : Bool → (List ℕ → ℕ) → List Condition → List ℕ → List Condition → Type 0
 Declares exclusive left cs text all = (AllPass is_blank text → ⊥) × DeclaresAll exclusive left cs text all
 
@@ -38,13 +38,14 @@ abbrev pub begins_among : List ℕ → List ℕ → Bool
 begins_among bytes [] = false
 begins_among bytes (b ∷ word) = list_any (nat_eq b) bytes
 
--- the byte of one that has no other
+-- the word is a single byte, one of these
 abbrev pub is_one_of : List ℕ → List ℕ → Bool
 is_one_of bytes [] = false
 is_one_of bytes (b ∷ []) = list_any (nat_eq b) bytes
 is_one_of bytes (b ∷ c ∷ word) = false
 
--- what the word behind a `%` begins: a word of letters and digits for conditions, a letter for a size of a table
+-- the kind of directive of the word after a `%`: a word of letters and digits for conditions, a letter for the size of
+-- a table
 abbrev pub directive_of : List ℕ → Directed
 directive_of word = if list_any (nat_eq 95) word then Unknown else
     (if begins_among (codes "sS") word then Inclusive else
@@ -52,24 +53,24 @@ directive_of word = if list_any (nat_eq 95) word then Unknown else
     (if is_one_of (codes "pnaeko") word then Size else
     (if bytes_eq word (codes "array") || bytes_eq word (codes "pointer") then TextKind else Unknown))))
 
--- blanks and a decimal number, perhaps with blanks behind it
+-- blanks, a decimal number, and perhaps blanks
 abbrev pub IsNumber : List ℕ → Type 0
 IsNumber text = (number digits rest : List ℕ) × BlanksBefore text number × DigitsBefore number digits rest
     × AllPass is_blank rest
 
--- what stands behind the word of a directive that isn't used
+-- what may follow the word of an ignored directive
 abbrev pub IsIdle : Directed → List ℕ → Type 0
 IsIdle Size text = IsNumber text
 IsIdle TextKind text = AllPass is_blank text
 IsIdle _ text = ⊥
 
--- what stands behind a directive's word, to the end of the line, makes of the conditions
+-- the conditions after a directive, given what follows its word up to the end of the line
 abbrev pub Directs : Directed → (List ℕ → ℕ) → List Condition → List ℕ → List Condition → Type 0
 Directs Inclusive left cs text all = Declares false left cs text all
 Directs Exclusive left cs text all = Declares true left cs text all
 Directs d left cs text all = (all ≡ cs) × IsIdle d text
 
--- A line with a `%` in front, and the conditions behind it.
+-- A line that starts with `%`, and the conditions after it.
 pub record DirectiveLine (left : List ℕ → ℕ) (cs : List Condition) (line : List ℕ) (all : List Condition) : Type 0
   where
     pub behind : List ℕ
@@ -79,12 +80,12 @@ pub record DirectiveLine (left : List ℕ → ℕ) (cs : List Condition) (line :
     pub named : NameBefore Lex behind word rest
     pub directs : Directs (directive_of word) left cs rest all
 
--- The line has a name at its beginning, then blanks, and then this, to its end.
+-- The line starts with a name, then come blanks, and then this, up to its end.
 abbrev pub DefinesName : List ℕ → List ℕ → List ℕ → Type 0
 DefinesName line name text = (behind : List ℕ) × NameBefore Lex line name behind × BlanksBefore behind text
     × (text ≢ [])
 
--- what a line defines: a name, what stands behind its blanks, and how many bytes of the file are left from the line on
+-- the definition on a line: a name, what follows it after blanks, and the number of bytes of the file from the line on
 abbrev pub DefinedLine : Type 0
 DefinedLine = List ℕ × (List ℕ × ℕ)
 
@@ -92,7 +93,7 @@ DefinedLine = List ℕ × (List ℕ × ℕ)
 abbrev pub defined_names : List DefinedLine → List (List ℕ)
 defined_names ds = map (λ d. d.0) ds
 
--- A line that defines a further name, from which so many bytes of the file are left, and the definitions with it.
+-- A line that defines a further name, from which so many bytes of the file are left, and the definitions including it.
 pub record DefinitionLine (left : ℕ) (ds : List DefinedLine) (line : List ℕ) (all : List DefinedLine) : Type 0 where
   pub name : List ℕ
   pub text : List ℕ
@@ -100,21 +101,22 @@ pub record DefinitionLine (left : ℕ) (ds : List DefinedLine) (line : List ℕ)
   pub is_new : Contains (defined_names ds) name → ⊥
   pub one_more : all ≡ ds ++ (name, (text, left)) ∷ []
 
--- a comment goes to its first `*/`, and the rest of that line isn't used
+-- a comment ends at its first `*/`, and the rest of that line is ignored
 abbrev pub CommentEnds : List ℕ → List ℕ → Type 0
 CommentEnds text rest = (inside behind line end : List ℕ) × (text ≡ codes "/*" ++ inside)
     × EndBefore (codes "*/") inside behind × LineOf behind line end × (rest ≡ drop 1 end)
 
--- What the definitions say: the conditions, and the lines that define names.
+-- The contents of the definitions section: the conditions, and the lines that define names.
 pub record Preamble : Type 0 where
   pub conditions : List Condition
   pub definitions : List DefinedLine
 
--- before the first line
+-- the contents before the first line
 abbrev pub at_first : Preamble
 at_first = record { conditions = initial ∷ []; definitions = [] }
 
--- the text has this line and then more: what a line of its kind makes of what was said before, and the rest
+-- The text starts with this line. Depending on its kind, the contents before it become those after it, and the rest
+-- follows.
 abbrev pub LineSays : LineKind → Preamble → List ℕ → List ℕ → List ℕ → Preamble → List ℕ → Type 0
 LineSays Mark p text line behind q rest = ⊥
 LineSays Unused p text line behind q rest = (q ≡ p) × (rest ≡ behind)
@@ -125,13 +127,13 @@ LineSays Directive p text line behind q rest = (rest ≡ behind) × (q.definitio
 LineSays Plain p text line behind q rest = (rest ≡ behind) × (q.conditions ≡ p.conditions)
     × DefinitionLine (length text) p.definitions line q.definitions
 
--- a line, with those that go with it
+-- a line, with the lines that belong to it
 abbrev pub Says : Preamble → List ℕ → Preamble → List ℕ → Type 0
 Says p text q rest =
     (line behind : List ℕ) × LineBefore text line behind × LineSays (kind_of line) p text line behind q rest
 
--- The definitions, up to the mark that begins the rules: from what was said before them to what is said in all, and
--- the rest.
+-- The definitions, up to the `%%` that begins the rules: from the contents before them to those after them, then the
+-- rest.
 pub data Definitions : Preamble → List ℕ → Preamble → List ℕ → Type 0 where
   mark : (p : Preamble) (text line rest : List ℕ) → LineBefore text line rest → kind_of line ≡ Mark
       → Definitions p text p rest

@@ -7,7 +7,7 @@ use Rattle.ly_ere.specs.Elements.{AreElements, Element}
 use Rattle.ly_ere.specs.Names.{Definition}
 use Rattle.ly_lexread.specs.Definitions.{DefinedLine}
 
--- What stands behind a name and its blanks is the text of an expression, and then nothing but blanks.
+-- What follows a name and blanks is the text of an expression, then nothing but blanks.
 pub record IsTextOf (behind text : List ℕ) : Type 0 where
   pub elements : List Element
   pub spelled : AreElements text elements
@@ -21,10 +21,10 @@ AreTextsOf [] [] = Unit {0}
 AreTextsOf (d ∷ ds) (t ∷ ts) = (t.name ≡ d.0) × IsTextOf d.1.0 t.text × AreTextsOf ds ts
 AreTextsOf _ _ = ⊥
 
--- the names are defined so
+-- the lines define these names
 abbrev pub AreDefinitions : List DefinedLine → List Definition → Type 0
 AreDefinitions ds names = (texts : List DefinedText) × AreTextsOf ds texts × AreNames texts names
 
--- one of the definitions weighs more than this where it is placed
+-- one of the definitions weighs more than this when it is appended
 abbrev pub HasHeavyDefinition : ℕ → List DefinedLine → Type 0
 HasHeavyDefinition most ds = (texts : List DefinedText) × (n : ℕ) × AreTextsOf ds texts × IsHeavyDefinition most texts n

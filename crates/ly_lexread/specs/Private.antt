@@ -1,5 +1,5 @@
--- What contracts of private functions cite: what the reader of lex files finds on its way. No public contract rests on
--- it.
+-- Definitions for contracts of private functions: the intermediate results of the reader of lex files. No public
+-- contract depends on them.
 pub mod Definitions
 pub mod File
 pub mod Names

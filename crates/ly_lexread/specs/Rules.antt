@@ -14,20 +14,20 @@ use Rattle.ly_lexread.specs.Statements.{SaysAction}
 use Rattle.ly_lexread.specs.declared.kind.LineKind.{LineKind}
 use Rattle.ly_lexread.specs.declared.kind.LineKind.TheVariants.{Mark, Unused, Block}
 
--- the text is the name of a condition, or `0`, and then the rest
+-- the text is the name of a condition, or `0`, then the rest
 abbrev pub ConditionBefore : List Condition → List ℕ → ℕ → List ℕ → Type 0
 ConditionBefore cs text n rest = ((s : List ℕ) × NameBefore Lex text s rest × (condition_of cs s ≡ Some n))
     ⊎ ((text ≡ codes "0" ++ rest) × (n ≡ 0))
 
--- Conditions with commas between them, up to the `>`: from the numbers so far to those of all, and the rest.
+-- Conditions separated by commas, up to the `>`: from the numbers so far to all of them, then the rest.
 pub data Listed (cs : List Condition) : List ℕ → List ℕ → List ℕ → List ℕ → Type 0 where
   last : (ns text rest : List ℕ) (n : ℕ) → ConditionBefore cs text n (codes ">" ++ rest)
       → Listed cs ns text (ns ++ n ∷ []) rest
   more : (ns text behind all rest : List ℕ) (n : ℕ) → ConditionBefore cs text n (codes "," ++ behind)
       → Listed cs (ns ++ n ∷ []) behind all rest → Listed cs ns text all rest
 
--- The conditions in which a rule is active, and the rest of its line: those that `<..>` lists in front, as they stand
--- there; of a rule without such a list the inclusive ones.
+-- The conditions in which a rule is active, and the rest of its line: those that `<..>` lists at the start, in this
+-- order; for a rule without such a list the inclusive ones.
 abbrev pub ActiveBefore : List Condition → List ℕ → List ℕ → List ℕ → Type 0
 ActiveBefore cs line active rest = ((behind : List ℕ) × (line ≡ codes "<" ++ behind) × Listed cs [] behind active rest)
     ⊎ (((s : List ℕ) → line ≢ codes "<" ++ s) × (active ≡ inclusive cs) × (rest ≡ line))
@@ -39,7 +39,7 @@ BeginsRule Unused = ⊥
 BeginsRule Block = ⊥
 BeginsRule _ = Unit {0}
 
--- The text has a line that begins a rule: its conditions, then what stands behind them, then what ends the line.
+-- The text starts with a line that begins a rule: its conditions, then what follows them, then what ends the line.
 pub record RuleLine (cs : List Condition) (text active body end : List ℕ) : Type 0 where
   pub line : List ℕ
   pub some : text ≢ []
@@ -47,7 +47,7 @@ pub record RuleLine (cs : List Condition) (text active body end : List ℕ) : Ty
   pub begins : BeginsRule (kind_of line)
   pub is_active : ActiveBefore cs line active body
 
--- The text begins with a rule, and then comes the rest.
+-- The text begins with a rule, then comes the rest.
 pub record RuleBefore (cs : List Condition) (names : List Definition) (text : List ℕ) (rule : Rule) (saying : Saying)
     (rest : List ℕ) : Type 0 where
   pub body : List ℕ
@@ -57,16 +57,16 @@ pub record RuleBefore (cs : List Condition) (names : List Definition) (text : Li
   pub is_pattern : IsFrontPattern names body rule.pattern taken
   pub says : SaysAction cs (drop taken body) end saying rest
 
--- a line that isn't used, or a block, and then the rest
+-- an ignored line or block, then the rest
 abbrev pub Skips : List ℕ → List ℕ → Type 0
 Skips text rest = (line more : List ℕ) × LineBefore text line more
     × (((kind_of line ≡ Unused) × (rest ≡ more)) ⊎ ((kind_of line ≡ Block) × BlockEnds more rest))
 
--- no rule stands there any more: the text is over, or a mark comes
+-- no more rules follow: the text ends, or a `%%` comes
 abbrev pub AreRulesOver : List ℕ → Type 0
 AreRulesOver text = (text ≡ []) ⊎ ((line rest : List ℕ) × LineBefore text line rest × (kind_of line ≡ Mark))
 
--- the rules, what each says of its action, and how many bytes are left from its first one on
+-- the rules, the action of each as it is written, and the number of bytes left from its first byte on
 pub data Rules (cs : List Condition) (names : List Definition) : List ℕ → List Rule → List Saying → List ℕ → Type 0
   where
     end : (text : List ℕ) → AreRulesOver text → Rules cs names text [] [] []
@@ -92,7 +92,7 @@ pub record IsHeavyRule (most : ℕ) (cs : List Condition) (names : List Definiti
   pub are_sides : HasFrontSides names body sides taken
   pub is_heavy : most < sides_weight names sides
 
--- one of the rules does
+-- one of the rules does so
 pub data HasHeavyRule (most : ℕ) (cs : List Condition) (names : List Definition) : List ℕ → Type 0 where
   here : (text : List ℕ) → IsHeavyRule most cs names text → HasHeavyRule most cs names text
   skip : (text rest : List ℕ) → Skips text rest → HasHeavyRule most cs names rest → HasHeavyRule most cs names text

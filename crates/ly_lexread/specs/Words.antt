@@ -40,12 +40,12 @@ close_brace = mark 125
 abbrev pub zero_digit : Word
 zero_digit = mark 48
 
--- the text is `yytext[0]` or `*yytext`, and then the rest
+-- the text is `yytext[0]` or `*yytext`, then the rest
 abbrev pub TextByteBefore : List ℕ → List ℕ → Type 0
 TextByteBefore text rest = NameBefore Lex text (codes "yytext") (codes "[0]" ++ rest)
     ⊎ ((behind : List ℕ) × (text ≡ codes "*" ++ behind) × NameBefore Lex behind (codes "yytext") rest)
 
--- the name with what is behind it is no `yytext[0]`
+-- the name and what follows it are no `yytext[0]`
 abbrev pub IsNoTextByte : List ℕ → List ℕ → Type 0
 IsNoTextByte n rest = n ≡ codes "yytext" → (s : List ℕ) → rest ≢ codes "[0]" ++ s
 
@@ -56,11 +56,11 @@ Begins text text_byte rest = TextByteBefore text rest
 Begins text (name n) rest = NameBefore Lex text n rest × IsNoTextByte n rest
 Begins text (literal b) rest = Literal text b rest
 
--- the text is a gap, a word and the rest
+-- the text is whitespace and comments, a word and the rest
 abbrev pub HasInFront : Language → List ℕ → Word → List ℕ → Type 0
 HasInFront l text x rest = WordBefore Begins l text x rest
 
--- the text is these words, with gaps before, between and behind them
+-- the text is these words, with whitespace and comments before, between and after them
 abbrev pub Wording : Language → List ℕ → List Word → Type 0
 Wording l text [] = Gap l text
 Wording l text (x ∷ xs) = (rest : List ℕ) × HasInFront l text x rest × Wording l rest xs

@@ -23,43 +23,44 @@ use std::rc::RcSlice;
 /// What a rule's action does.
 #[derive(Drop)]
 pub struct LexAction {
-    /// The condition that it sets, if it sets one.
+    /// The start condition to set, if any.
     pub begin: Option<u32>,
     /// The token that it returns.
     pub returns: Returned,
 }
 
-/// The token that an action returns.
+/// The token that an action returns, as it is written.
 #[derive(Drop)]
 pub enum Returned {
-    /// None: the text is passed over.
+    /// None: the match is skipped.
     Nothing,
-    /// The token of this name, which is held once for the rules that share the action.
+    /// The token with this name. Rules with the same action share the name.
     Token(RcSlice<u8>),
     /// The literal of this byte.
     Literal(u8),
-    /// The literal of the first byte of the text that was matched.
+    /// The literal of the first matched byte.
     FirstByte,
 }
 
-/// What a rule says of its action.
+/// The action of a rule, as it is written.
 #[derive(Drop)]
 pub(crate) enum Said {
-    /// It is this one.
+    /// The rule has this action.
     Own(LexAction),
-    /// It is that of the next rule: `|`, from which so many bytes of the file are left.
+    /// The rule has the action of the next rule, written `|`. The number is that of the bytes of the file from the `|`
+    /// on.
     Next(usize),
 }
 
 impl Returned {
-    /// Whether it is no token.
+    /// Whether no token is returned.
     fn is_nothing(&self) -> bool
         ensures { MatchBool result (meaning_of self.now ≡ nothing) (meaning_of self.now ≢ nothing) }
     {
         matches!(self, Returned::Nothing)
     }
 
-    /// The same.
+    /// Returns a copy that shares the name.
     fn share(&self) -> Result<Returned, AllocError>
         ensures { IfOk result (λ returned. meaning_of returned ≡ meaning_of self.now) }
     {
@@ -73,7 +74,7 @@ impl Returned {
 }
 
 impl Value<'_> {
-    /// The token, whose name has room of its own.
+    /// Returns the token with a name of its own.
     fn returned(self, alloc: Global) -> Result<Returned, AllocError>
         ensures { IfOk result (λ returned. meaning_of returned ≡ value_meaning self.entry) }
     {
@@ -86,7 +87,7 @@ impl Value<'_> {
 }
 
 impl LexAction {
-    /// That of a rule whose text is passed over.
+    /// Returns the action of a rule whose matches are skipped.
     fn none() -> LexAction
         ensures { effect_of result ≡ no_effect }
     {
@@ -96,7 +97,7 @@ impl LexAction {
         }
     }
 
-    /// The same, whose token's name is held in common.
+    /// Returns a copy that shares the name of the token.
     pub(crate) fn share(&self) -> Result<LexAction, AllocError>
         ensures { IfOk result (λ action. effect_of action ≡ effect_of self.now) }
     {
@@ -106,7 +107,7 @@ impl LexAction {
         })
     }
 
-    /// What a further statement makes of it; `None` where that statement can't follow.
+    /// Adds a statement to the action. `None` if the statement isn't allowed after those before it.
     fn with(self, alloc: Global, statement: Statement<'_>) -> Result<Option<LexAction>, AllocError>
         ensures { IfOk result (λ made. MatchOption made
             ((e : Effect) → Follows (effect_of self) (statement_of statement.entry) e → ⊥)
@@ -120,7 +121,7 @@ impl LexAction {
         }
     }
 
-    /// The action with a condition that it sets, where it did nothing.
+    /// Adds a condition to set, if the action did nothing so far.
     fn with_begin(self, condition: u32) -> Option<LexAction>
         ensures { MatchOption result (effect_of self ≢ no_effect)
             (λ action. (effect_of self ≡ no_effect)
@@ -135,7 +136,7 @@ impl LexAction {
         })
     }
 
-    /// The action with a token that it returns, where it returned none.
+    /// Adds a token to return, if the action returned none so far.
     fn with_return(self, alloc: Global, value: Value<'_>) -> Result<Option<LexAction>, AllocError>
         ensures { IfOk result (λ made. MatchOption made ((effect_of self).returns ≢ nothing)
             (λ action. ((effect_of self).returns ≡ nothing)
@@ -152,8 +153,9 @@ impl LexAction {
     }
 }
 
-/// Reads the action at the front of a text, where so many bytes stand on its line (POSIX, XCU lex, "Actions in lex"):
-/// statements, `|`, or statements in braces, which may go over lines. It answers what is left behind the last line.
+/// Reads the action at the start of a text (POSIX, XCU lex, "Actions in lex"), which has so many bytes on its line. It
+/// consists of statements, of `|`, or of statements in braces, which may span lines. Returns the action and what
+/// follows its last line.
 pub(crate) fn read_action<'t>(
     alloc: Global,
     text: Rest<'t>,
@@ -194,7 +196,7 @@ pub(crate) fn read_action<'t>(
     }
 }
 
-/// Reads statements up to a `}`, behind which its line has to end.
+/// Reads statements up to a `}`. The line has to end after it.
 fn read_braced<'t>(
     alloc: Global,
     text: Rest<'t>,
@@ -219,7 +221,7 @@ fn read_braced<'t>(
     }
 }
 
-/// Reads statements to their end, and answers what stands behind them.
+/// Reads statements to their end. Returns what follows them.
 fn read_statements<'t>(
     alloc: Global,
     text: &'t [u8],
@@ -246,7 +248,7 @@ fn read_statements<'t>(
     }
 }
 
-/// What stands behind the line at the front, where nothing but a gap stands on it.
+/// Returns what follows the first line, if that has only whitespace and comments.
 fn behind_gap_line(text: &[u8]) -> Option<&[u8]>
     ensures { MatchOption result ((rest : List ℕ) → LineEnds text.now rest → ⊥) (λ rest. LineEnds text.now rest.now) }
 {
@@ -254,7 +256,7 @@ fn behind_gap_line(text: &[u8]) -> Option<&[u8]>
     is_gap(line).then_some(behind_newline(end))
 }
 
-/// Whether nothing but blanks and comments stands there.
+/// Whether the text consists of blanks and comments.
 fn is_gap(text: &[u8]) -> bool
     ensures { MatchBool result (Gap Lex text.now) (Gap Lex text.now → ⊥) }
 {

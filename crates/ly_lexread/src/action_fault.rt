@@ -8,19 +8,19 @@ use crate::rest::{Line, Rest};
 use ly_base::{Language, after_gap};
 use std::alloc::{AllocError, AllocFailed};
 
-/// Why a text is no action, with what is left of the text where a word is at fault.
+/// Why a text is no action, with the text from the erroneous word on.
 #[derive(Clone, Copy)]
 pub(crate) enum ActionFault<'t> {
-    /// A word that can't stand there, or none.
+    /// A word that isn't allowed here, or no word at all.
     Word(&'t [u8]),
-    /// A name that is no condition.
+    /// A name that isn't a declared condition.
     Condition(&'t [u8]),
-    /// A growth was refused.
+    /// An allocation failed.
     OutOfMemory,
 }
 
 impl ActionFault<'_> {
-    /// The fault of a file, where the action is what is left of a line.
+    /// Converts to the error of a file, for an action that ends a line.
     pub(crate) fn on_line(self, line: Line<'_>) -> LexFault
         ensures memory { self.entry ≡ OutOfMemory → result ≡ lex.OutOfMemory }
         ensures light { IsTooHeavy result → ⊥ }
@@ -37,7 +37,7 @@ impl ActionFault<'_> {
         }
     }
 
-    /// The fault of a file, of which so much is left behind the brace that opens an action.
+    /// Converts to the error of a file, for an action in braces. `text` is the file after the opening brace.
     pub(crate) fn in_braces(self, text: Rest<'_>) -> LexFault
         ensures memory { self.entry ≡ OutOfMemory → result ≡ lex.OutOfMemory }
         ensures light { IsTooHeavy result → ⊥ }
@@ -57,8 +57,8 @@ impl ActionFault<'_> {
     }
 }
 
-/// Which byte of a file the word is that is at fault in braces. Where the file ends before it, or in a comment, the
-/// braces aren't closed, and it is the last one.
+/// The offset of the erroneous word in braces. If the file ends before it, or in a comment, the braces aren't closed,
+/// and it is the offset of the last byte.
 fn word_offset(at: &[u8], text: Rest<'_>) -> usize
     ensures { result ≤ text.entry.whole }
 {

@@ -9,17 +9,17 @@ use ly_ere::Rule;
 use std::alloc::{AllocError, Global};
 use std::rc::RcSlice;
 
-/// The lists of conditions that a rule may hold in common with others.
+/// The lists of conditions that a rule can share with other rules.
 #[derive(Clone, Copy)]
 pub(crate) struct Shared<'s> {
-    /// That of a rule without `<..>`.
+    /// The list of a rule without `<..>`.
     pub(crate) inclusive: &'s RcSlice<u32>,
-    /// The rules before it: its own list may be that of the last of them.
+    /// The rules before it. If the last of them has the same list, the rule shares it.
     pub(crate) before: &'s [Rule],
 }
 
-/// Reads the conditions in which the rule of a line is active, and answers what stands behind them: those that `<..>`
-/// lists in front, or the inclusive ones. `None` where a list isn't well formed, or names no condition.
+/// Reads the conditions in which the rule of a line is active: those that `<..>` lists at the start, or else the
+/// inclusive ones. Returns them and what follows. `None` if a list is malformed or names an undeclared condition.
 pub(crate) fn read_active<'t>(
     alloc: Global,
     line: &'t [u8],
@@ -41,7 +41,7 @@ pub(crate) fn read_active<'t>(
 }
 
 impl Shared<'_> {
-    /// A list to be kept: that of the last rule, where it is the same, and else this one.
+    /// Returns the list of the last rule if it has the same numbers, or else a new one.
     fn list(self, numbers: Vec<u32>) -> Result<RcSlice<u32>, AllocError>
         ensures { IfOk result (λ list. rc_slice_items list ≡ numbers.items) }
     {
@@ -52,8 +52,8 @@ impl Shared<'_> {
     }
 }
 
-/// What is left of the line of a rule from a name in its list on that is no condition; all of the line, where the list
-/// isn't well formed.
+/// The rest of a rule's line from the first undeclared condition of its list on, or the whole line if the list is
+/// malformed.
 pub(crate) fn fault_in_list<'t>(line: &'t [u8], conditions: &Conditions) -> &'t [u8] {
     let mut left = line.strip_prefix(b"<").unwrap_or(line);
     while let Some((_number, behind)) = leading_condition(left, conditions) {
@@ -68,7 +68,7 @@ pub(crate) fn fault_in_list<'t>(line: &'t [u8], conditions: &Conditions) -> &'t 
     }
 }
 
-/// Reads conditions with commas between them, up to the `>`, and answers what stands behind it.
+/// Reads conditions separated by commas, up to the `>`. Returns what follows it.
 fn read_list<'t>(
     alloc: Global,
     list: &'t [u8],
@@ -93,7 +93,7 @@ fn read_list<'t>(
     Ok(None)
 }
 
-/// The number of the condition whose name, or `0`, stands at the front, and what stands behind it.
+/// Reads the condition at the start, a name or `0`. Returns its number and what follows it.
 fn leading_condition<'t>(text: &'t [u8], conditions: &Conditions) -> Option<(u32, &'t [u8])>
     ensures these { MatchOption result
         ((n : ℕ) (rest : List ℕ) → ConditionBefore conditions.now text.now n rest → ⊥)

@@ -6,7 +6,7 @@ ghost use Rattle.ly_lexread.specs.Definitions.{BlanksBefore};
 
 use ly_base::is_blank;
 
-/// What stands behind the blanks at the front, where there are some.
+/// Returns what follows the blanks at the start, if there are any.
 pub(crate) fn behind_blanks(text: &[u8]) -> Option<&[u8]>
     ensures these { MatchOption result ((rest : List ℕ) → BlanksBefore text.now rest → ⊥)
         (λ rest. BlanksBefore text.now rest.now) }
@@ -20,14 +20,14 @@ pub(crate) fn behind_blanks(text: &[u8]) -> Option<&[u8]>
     Some(rest)
 }
 
-/// Whether nothing but blanks stands there.
+/// Whether the text consists of blanks.
 pub(crate) fn are_blanks(text: &[u8]) -> bool
     ensures { MatchBool result (AllPass is_blank text.now) (AllPass is_blank text.now → ⊥) }
 {
     blanks_length(text) == text.len()
 }
 
-/// How many blanks there are at the front.
+/// The number of blanks at the start.
 fn blanks_length(text: &[u8]) -> usize
     ensures within { result ≤ length text.now }
     ensures value { result ≡ prefix_len is_blank text.now }

@@ -8,14 +8,14 @@ use indexmap::IndexSet;
 use std::alloc::{AllocError, Global};
 use std::marker::Model;
 
-/// The start conditions of a lex file: the initial one, then the declared ones. A condition's number is its place.
+/// The start conditions of a lex file: the initial one, then the declared ones. A condition's number is its index.
 #[derive(Drop)]
 pub(crate) struct Conditions {
-    /// Their names.
+    /// The names.
     names: IndexSet<Vec<u8>>,
     /// Whether each is exclusive.
     exclusive: Vec<bool>,
-    /// How many bytes of the file are left from the name of each on, where it is declared; none for the initial one.
+    /// For each condition the number of bytes of the file from its name's declaration on; 0 for the initial one.
     lefts: Vec<usize>,
 }
 
@@ -35,7 +35,7 @@ impl Model for Conditions {
 }
 
 impl Conditions {
-    /// The initial condition alone.
+    /// Returns the initial condition alone.
     pub(crate) fn new(alloc: Global) -> Result<Self, AllocError>
         ensures { IfOk result (λ conditions. conditions ≡ initial ∷ []) }
     {
@@ -47,7 +47,7 @@ impl Conditions {
         none.with_condition(alloc, b"INITIAL", false, 0)
     }
 
-    /// These and one more, of a name that has none; so many bytes of the file are left from that name on.
+    /// Adds a condition with a new name. `left` bytes of the file remain from its name on.
     pub(crate) fn with_condition(
         mut self,
         alloc: Global,
@@ -67,7 +67,7 @@ impl Conditions {
         Ok(self)
     }
 
-    /// The number of the condition of a name.
+    /// The number of the condition with this name.
     pub(crate) fn find(&self, name: &[u8]) -> Option<u32>
         ensures { result ≡ condition_of self.now name.now }
     {
@@ -75,7 +75,7 @@ impl Conditions {
         Some(place as u32)
     }
 
-    /// The numbers of the inclusive ones, rising.
+    /// The numbers of the inclusive conditions, ascending.
     pub(crate) fn inclusive(&self, alloc: Global) -> Result<Vec<u32>, AllocError>
         ensures { IfOk result (λ numbers. numbers.items ≡ inclusive self.now) }
     {
@@ -88,7 +88,7 @@ impl Conditions {
         Ok(numbers)
     }
 
-    /// What they are in a file of so many bytes, in the order of their numbers.
+    /// Returns the conditions of a file of `whole` bytes, in the order of their numbers.
     pub(crate) fn named(
         &self,
         alloc: Global,
@@ -99,7 +99,7 @@ impl Conditions {
         named(alloc, &self.names, &self.lefts, whole)
     }
 
-    /// How many there are.
+    /// The number of conditions.
     pub(crate) fn count(&self) -> u32
         ensures { result ≡ length self.now }
     {
@@ -107,7 +107,7 @@ impl Conditions {
     }
 }
 
-/// The conditions of these names in a file of so many bytes, of which so many are left from each name on.
+/// Returns the conditions with these names. For each name it is given how many bytes of the file remain from it on.
 fn named(
     alloc: Global,
     names: &IndexSet<Vec<u8>>,
@@ -129,7 +129,7 @@ fn named(
     Ok(all)
 }
 
-/// Which byte of a file of so many is the first of a name from which so many are left; none where no byte is.
+/// The offset of a name from which `left` of `whole` bytes remain; `None` if no bytes remain.
 fn declared_at(whole: usize, left: usize) -> Option<usize>
     ensures { result ≡ declared_at whole left }
 {

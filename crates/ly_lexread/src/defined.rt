@@ -14,16 +14,16 @@ use std::marker::Model;
 /// A line that defines a name.
 #[derive(Clone, Copy)]
 pub(crate) struct NameLine<'t> {
-    /// The name, and all that stands behind its blanks.
+    /// The name, and what follows it after blanks.
     pub(crate) defined: NamedText<'t>,
-    /// How many bytes of the file are left from the line on.
+    /// The number of bytes of the file from the line on.
     pub(crate) left: usize,
-    /// How many are left from what stands behind the blanks on.
+    /// The number of bytes of the file from the definition's text on.
     pub(crate) text_left: usize,
 }
 
 impl<'t> NameLine<'t> {
-    /// A line that defines this.
+    /// Makes the entry of a line with this definition.
     pub(crate) fn of(defined: NamedText<'t>, line: Line<'_>) -> Self
         ensures defined { result.defined ≡ defined.entry }
         ensures left { result.left ≡ length line.entry.text.bytes.now }
@@ -36,7 +36,7 @@ impl<'t> NameLine<'t> {
     }
 }
 
-/// The name at the beginning of a line that defines one, and all that stands behind its blanks.
+/// Splits a line that defines a name into the name and what follows it after blanks.
 pub(crate) fn definition_on(line: &[u8]) -> Option<NamedText<'_>>
     ensures { MatchOption result ((name text : List ℕ) → DefinesName line.now name text → ⊥)
         (λ d. DefinesName line.now d.name.now d.text.now) }
@@ -49,8 +49,8 @@ pub(crate) fn definition_on(line: &[u8]) -> Option<NamedText<'_>>
     Some(NamedText { name, text })
 }
 
-/// Which byte of a line is the first that has no place in one that defines a name, where it defines none: the first of
-/// all, where it has no name, and else what stands behind the name and blanks.
+/// The rest of a line that should define a name, but doesn't, from the first wrong byte on: the whole line if it starts
+/// with no name, else what follows the name and blanks.
 pub(crate) fn misplaced_in(line: &[u8]) -> &[u8] {
     match leading_name(line, Language::Lex) {
         Some((_name, behind)) => behind_blanks(behind).unwrap_or(behind),
@@ -58,7 +58,7 @@ pub(crate) fn misplaced_in(line: &[u8]) -> &[u8] {
     }
 }
 
-/// Lines that define names, no two the same name.
+/// Lines that define names, each another name.
 #[derive(Drop)]
 pub(crate) struct NameLines<'t> {
     /// The names.
@@ -84,7 +84,7 @@ impl<'t> Model for NameLines<'t> {
 }
 
 impl<'t> NameLines<'t> {
-    /// No lines, and so no names.
+    /// Returns no lines.
     pub(crate) fn new(alloc: Global) -> Self
         ensures { result ≡ [] }
     {
@@ -102,7 +102,7 @@ impl<'t> NameLines<'t> {
         self.names.contains(name)
     }
 
-    /// These and one more, of a name that none of them defines.
+    /// Adds a line with a new name.
     pub(crate) fn with_line(mut self, alloc: Global, line: NameLine<'t>) -> Result<Self, AllocError>
         requires { Contains (defined_names self) line.defined.name.now → ⊥ }
         ensures { IfOk result (λ all. all ≡ self.entry ++ parts_of line.entry ∷ []) }
@@ -113,7 +113,7 @@ impl<'t> NameLines<'t> {
         Ok(self)
     }
 
-    /// The lines, in the order of the text.
+    /// The lines, in the order of the file.
     pub(crate) fn lines(&self) -> &[NameLine<'t>]
         ensures these { map parts_of result.now ≡ self.now }
         ensures apart { AreApart (defined_names self.now) }

@@ -16,7 +16,7 @@ use crate::skipped::{behind_block, behind_comment};
 use ly_base::Limits;
 use std::alloc::{AllocError, Global};
 
-/// What the definitions say.
+/// The contents of the definitions section.
 #[derive(Drop)]
 pub(crate) struct Preamble<'t> {
     /// The start conditions.
@@ -26,7 +26,7 @@ pub(crate) struct Preamble<'t> {
 }
 
 impl<'t> Preamble<'t> {
-    /// What is said before the first line.
+    /// Returns the contents before the first line.
     fn new(alloc: Global) -> Result<Self, AllocError>
         ensures { IfOk result (λ preamble. preamble_of preamble ≡ at_first) }
     {
@@ -36,7 +36,7 @@ impl<'t> Preamble<'t> {
         })
     }
 
-    /// What is said behind a line of this kind.
+    /// Adds a line of this kind.
     fn with_line(self, alloc: Global, kind: LineKind, line: Line<'t>) -> Result<Self, LexFault>
         ensures these { IsDirected (λ preamble. Adds kind (preamble_of self.entry) line.entry.text.bytes.now
             line.entry.bytes.now (preamble_of preamble)) result }
@@ -49,7 +49,7 @@ impl<'t> Preamble<'t> {
         }
     }
 
-    /// What is said behind a line that begins with `%`.
+    /// Adds a line that begins with `%`.
     fn directed(self, alloc: Global, line: Line<'_>) -> Result<Self, LexFault>
         ensures these { IsDirected (λ preamble. ((preamble_of preamble).definitions ≡ self.entry.definitions)
             × DirectiveLine (left_in line.entry.text.bytes.now line.entry.bytes.now) self.entry.conditions
@@ -63,7 +63,7 @@ impl<'t> Preamble<'t> {
         })
     }
 
-    /// What is said behind a line that defines a name.
+    /// Adds a line that defines a name.
     fn with_name(self, alloc: Global, line: Line<'t>) -> Result<Self, LexFault>
         ensures these { IsDirected (λ preamble. ((preamble_of preamble).conditions ≡ self.entry.conditions)
             × DefinitionLine (length line.entry.text.bytes.now) self.entry.definitions line.entry.bytes.now
@@ -87,7 +87,7 @@ impl<'t> Preamble<'t> {
     }
 }
 
-/// Reads the definitions, and the mark that ends them, and answers what is left behind it.
+/// Reads the definitions section and the `%%` line that ends it. Returns its contents and what follows.
 pub(crate) fn read_definitions<'t>(
     alloc: Global,
     text: Rest<'t>,
@@ -111,7 +111,7 @@ pub(crate) fn read_definitions<'t>(
     })
 }
 
-/// Reads the line at the front, with those that go with it, and answers what is said behind it, and what is left.
+/// Reads the first line and the lines that belong to it. Returns the contents after them and what follows.
 fn read_definition_line<'t>(
     alloc: Global,
     text: Rest<'t>,
@@ -140,8 +140,8 @@ fn read_definition_line<'t>(
     Ok((preamble.with_line(alloc, kind, line)?, rest))
 }
 
-/// The fault that is answered where a line of the definitions, or the lack of a mark, has this one: the text of a
-/// definition on an earlier line may be at fault too, and it may use names that are defined behind that line.
+/// The error to report if a line of the definitions, or the missing `%%`, has this one. The text of a definition on an
+/// earlier line may also be wrong, and it may use names that are defined after that line.
 pub(crate) fn first_fault(
     alloc: Global,
     text: Rest<'_>,
@@ -169,7 +169,7 @@ pub(crate) fn first_fault(
     }
 }
 
-/// The lines up to the mark that define names, of each name the first; what has no form of a definition is left out.
+/// The lines up to the `%%` that define names, only the first for each name. Malformed lines are left out.
 fn named_lines<'t>(alloc: Global, text: Rest<'t>) -> Result<NameLines<'t>, AllocError> {
     let mut definitions = NameLines::new(alloc);
     let mut left = text;
@@ -193,7 +193,8 @@ fn named_lines<'t>(alloc: Global, text: Rest<'t>) -> Result<NameLines<'t>, Alloc
     Ok(definitions)
 }
 
-/// What is left behind a line of the definitions and those that go with it; `None` where it is a mark, or isn't closed.
+/// Returns what follows a line of the definitions and the lines that belong to it. `None` if it is a `%%`, or a block
+/// or comment that isn't closed.
 fn behind_definition<'t>(kind: LineKind, text: Rest<'t>, behind: Rest<'t>) -> Option<Rest<'t>>
     requires { length behind.bytes.now < length text.bytes.now }
     ensures these { MatchOption result
@@ -210,7 +211,7 @@ fn behind_definition<'t>(kind: LineKind, text: Rest<'t>, behind: Rest<'t>) -> Op
     }
 }
 
-/// These and this line, where it is the first that defines its name.
+/// Adds a line if it is the first that defines its name.
 fn with_first<'t>(
     alloc: Global,
     definitions: NameLines<'t>,

@@ -14,22 +14,22 @@ use crate::rest::Line;
 use ly_base::{Language, leading_digits, leading_name};
 use std::alloc::Global;
 
-/// What the word behind a `%` begins.
+/// The kind of directive, by the word after `%`.
 #[derive(Clone, Copy)]
 pub(crate) enum Directed {
     /// The names of inclusive conditions.
     Inclusive,
     /// The names of exclusive conditions.
     Exclusive,
-    /// The size of a table, which isn't used.
+    /// The size of a table, which is ignored.
     Size,
-    /// Nothing: how the text of a token is held, which isn't used.
+    /// The type of `yytext`, which is ignored. Nothing follows the word.
     TextKind,
-    /// Nothing that is known.
+    /// An unknown word.
     Unknown,
 }
 
-/// Reads a line that begins with `%`, and answers the conditions behind it.
+/// Reads a line that begins with `%`. Returns the conditions including those that it declares.
 pub(crate) fn read_directive(
     alloc: Global,
     line: Line<'_>,
@@ -57,7 +57,7 @@ pub(crate) fn read_directive(
     }
 }
 
-/// What stands behind the first byte.
+/// Returns what follows the first byte.
 fn behind_sign(line: &[u8]) -> &[u8] {
     match line.split_first() {
         Some((_sign, behind)) => behind,
@@ -65,8 +65,8 @@ fn behind_sign(line: &[u8]) -> &[u8] {
     }
 }
 
-/// What is left of the line of a directive that isn't used from the first byte on that has no place there: all of it,
-/// where the word isn't known, and else what stands behind blanks, but a number where one may stand.
+/// The rest of the line of an ignored directive from the first wrong byte on: the whole line if the word is unknown,
+/// else what follows blanks, and a number if one is allowed.
 fn misplaced_in<'t>(directed: Directed, line: &'t [u8], rest: &'t [u8]) -> &'t [u8] {
     let behind = behind_blanks(rest).unwrap_or(rest);
     match directed {
@@ -79,7 +79,7 @@ fn misplaced_in<'t>(directed: Directed, line: &'t [u8], rest: &'t [u8]) -> &'t [
     }
 }
 
-/// Whether this may stand behind the word of a directive that isn't used.
+/// Whether this may follow the word of an ignored directive.
 fn is_idle(directed: Directed, rest: &[u8]) -> bool
     ensures { MatchBool result (IsIdle directed rest.now) (IsIdle directed rest.now → ⊥) }
 {
@@ -90,7 +90,7 @@ fn is_idle(directed: Directed, rest: &[u8]) -> bool
     }
 }
 
-/// The word behind the `%` at the front, and what stands behind it.
+/// Splits the text after the `%` into the word and what follows it.
 fn directive_word(line: &[u8]) -> Option<(&[u8], &[u8])>
     ensures { MatchOption result
         ((behind word rest : List ℕ) → line.now ≡ codes "%" ++ behind → NameBefore Lex behind word rest → ⊥)
@@ -100,7 +100,7 @@ fn directive_word(line: &[u8]) -> Option<(&[u8], &[u8])>
     leading_name(line.strip_prefix(b"%")?, Language::Lex)
 }
 
-/// What a word behind a `%` begins.
+/// The kind of directive that this word begins.
 fn directive_of(word: &[u8]) -> Directed
     ensures { result ≡ directive_of word.now }
 {
@@ -130,7 +130,7 @@ fn begins_among(word: &[u8], bytes: &[u8]) -> bool
     }
 }
 
-/// Whether the word is one of these bytes alone.
+/// Whether the word is a single byte, one of these.
 fn is_one_of(word: &[u8], bytes: &[u8]) -> bool
     ensures { result ≡ is_one_of bytes.now word.now }
 {
@@ -140,7 +140,7 @@ fn is_one_of(word: &[u8], bytes: &[u8]) -> bool
     }
 }
 
-/// Whether the text is blanks and a decimal number, perhaps with blanks behind it.
+/// Whether the text is blanks, a decimal number, and perhaps blanks.
 fn is_number(text: &[u8]) -> bool
     ensures { MatchBool result (IsNumber text.now) (IsNumber text.now → ⊥) }
 {
@@ -153,7 +153,7 @@ fn is_number(text: &[u8]) -> bool
     }
 }
 
-/// The conditions with those that a line declares, of which there is one or more.
+/// Adds the conditions that a line declares, of which there is at least one.
 fn declare(
     alloc: Global,
     names: &[u8],
@@ -171,7 +171,7 @@ fn declare(
     declare_all(alloc, names, line, conditions, exclusive)
 }
 
-/// The conditions with those that stand on a line, each behind blanks.
+/// Adds the conditions on a line, each after blanks.
 fn declare_all(
     alloc: Global,
     names: &[u8],
@@ -199,7 +199,7 @@ fn declare_all(
     Ok(all)
 }
 
-/// What stands behind the blanks at the front, the name that it begins with, and what stands behind that.
+/// Skips the blanks at the start and reads a name. Returns the text after the blanks, the name, and what follows it.
 fn next_name(text: &[u8]) -> Option<(&[u8], &[u8], &[u8])>
     ensures these { MatchOption result ((behind name rest : List ℕ) → BlanksBefore text.now behind
         → NameBefore Lex behind name rest → ⊥)

@@ -7,54 +7,54 @@ use ly_ere::EreFaultKind;
 use std::alloc::{AllocError, AllocFailed};
 use thiserror::Error;
 
-/// Why a lex file is refused. Nothing is handed out then. It is printed in words, without its offset.
+/// Why a lex file is rejected. It is displayed as a message without the offset.
 #[derive(Clone, Copy, Debug, PartialEq, Eq, Error)]
 pub enum LexFault {
-    /// The file is at fault.
+    /// The file has an error.
     #[error("{kind}")]
     Refused {
-        /// What is wrong.
+        /// The kind of error.
         kind: LexFaultKind,
-        /// Which byte of the file is at fault; all its bytes, where it ends too early.
+        /// The offset of the error in the file; its length if the file ends too early.
         offset: usize,
     },
-    /// A growth was refused.
+    /// An allocation failed.
     #[error("out of memory")]
     OutOfMemory,
 }
 
-/// What is wrong with a lex file, and which byte is at fault. It is printed in words.
+/// The errors of a lex file. Each variant says which byte the error is reported at. It is displayed as a message.
 #[derive(Clone, Copy, Debug, PartialEq, Eq, Error)]
 pub enum LexFaultKind {
-    /// No line begins with `%%`: the last byte.
+    /// No line begins with `%%`. Reported at the last byte.
     #[error("no line begins with %%")]
     NoRulesMark,
-    /// A line that has no form of a definition: the first byte that has no place in that form, or the first of the line
-    /// where its name is at fault. A name that is defined again. A block or a comment that isn't closed: where it
-    /// opens.
+    /// A line that isn't a definition is reported at the first byte that doesn't fit, or at its first byte if its name
+    /// is wrong. A duplicate definition is reported at its name. A block or a comment that isn't closed is reported
+    /// where it opens.
     #[error("not a definition")]
     BadDefinition,
-    /// A condition that isn't declared: its name. A list of conditions that isn't well formed: its `<`.
+    /// An undeclared condition is reported at its name. A malformed list of conditions is reported at its `<`.
     #[error("a condition that isn't declared")]
     UnknownCondition,
-    /// A condition that is declared a second time, or `INITIAL`: its name.
+    /// A condition that is declared a second time, or `INITIAL`. Reported at its name.
     #[error("a condition declared twice")]
     ConditionTwice,
-    /// What stands behind a pattern has no form of an action: the word at fault, or where one is wanting; of braces
-    /// that aren't closed the file's last byte.
+    /// What follows a pattern isn't an action. Reported at the erroneous word, or where one is missing. Braces that
+    /// aren't closed are reported at the last byte of the file.
     #[error("not an action")]
     BadAction,
-    /// The last rule has the action of the next one: its `|`.
+    /// The last rule has the action `|`, but no rule follows. Reported at its `|`.
     #[error("no rule follows a |")]
     BarAtEnd,
-    /// A pattern, or the expression of a definition, is refused: fault 26, which has the number and the name of what is
-    /// wrong with it.
+    /// A pattern or the expression of a definition is rejected: error 26, which is printed with the number and name of
+    /// the error of the expression.
     #[error("not a pattern: {0}")]
     Pattern(EreFaultKind),
 }
 
 impl LexFault {
-    /// The number that the fault is printed with; want of memory has none.
+    /// The number that the error is printed with. `OutOfMemory` has none.
     pub fn number(&self) -> Option<u8>
         ensures { result ≡ lex_number self.now }
     {
@@ -64,7 +64,7 @@ impl LexFault {
         }
     }
 
-    /// The name that the fault is printed with.
+    /// The name that the error is printed with.
     pub fn name(&self) -> &'static str
         ensures { result.now ≡ lex_name self.now }
     {
@@ -78,7 +78,7 @@ impl LexFault {
 impl LexFaultKind {
     ghost use Rattle.ly_lexread.specs.Faults.{kind_name, kind_number};
 
-    /// The number that a fault of this kind has, that of a refused pattern its own.
+    /// The number of this kind of error. That of a rejected pattern is the pattern's own.
     pub fn number(&self) -> u8
         ensures { result ≡ kind_number self.now }
     {
@@ -93,7 +93,7 @@ impl LexFaultKind {
         }
     }
 
-    /// The name that a fault of this kind has, that of a refused pattern its own.
+    /// The name of this kind of error. That of a rejected pattern is the pattern's own.
     pub fn name(&self) -> &'static str
         ensures { result.now ≡ kind_name self.now }
     {
@@ -110,7 +110,7 @@ impl LexFaultKind {
 }
 
 impl LexFault {
-    /// Whether a pattern or a definition is too heavy.
+    /// Whether the error is that a pattern or a definition is too heavy.
     fn is_too_heavy(&self) -> bool
         ensures { MatchBool result (IsTooHeavy self.now) (IsTooHeavy self.now → ⊥) }
     {
@@ -123,8 +123,8 @@ impl LexFault {
         )
     }
 
-    /// Of two faults of a file the one on the least line, and of one line this one; but where something else is wrong,
-    /// nothing is said of what is too heavy.
+    /// Returns the error on the earlier line; on the same line, `self`. An error for too much weight is returned only
+    /// if both are such errors.
     pub(crate) fn or_earlier(self, other: LexFault, file: &[u8]) -> LexFault
         ensures one { result ≢ OutOfMemory → (result ≡ self) ⊎ (result ≡ other) }
         ensures memory { (self ≡ OutOfMemory) ⊎ (other ≡ OutOfMemory) → result ≡ OutOfMemory }
@@ -140,7 +140,7 @@ impl LexFault {
         }
     }
 
-    /// The line of a file that is at fault; want of memory has none.
+    /// The line of the error in a file. `OutOfMemory` has none.
     fn line_in(&self, file: &[u8]) -> Option<u64>
         ensures none { result ≡ None → self.now ≡ OutOfMemory }
         ensures memory { self.now ≡ OutOfMemory → result ≡ None }

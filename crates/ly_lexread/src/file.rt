@@ -1,30 +1,30 @@
 use crate::action::LexAction;
 use ly_ere::{Names, Rule};
 
-/// What a lex file says.
+/// A parsed lex file.
 #[derive(Drop)]
 pub struct LexFile {
     /// The definitions.
     pub names: Names,
-    /// The rules, in the order of the text.
+    /// The rules, in the order of the file.
     pub rules: Vec<Rule>,
     /// The action of each rule.
     pub actions: Vec<LexAction>,
-    /// How many conditions there are; the initial one is number 0.
+    /// The number of start conditions. The initial one is number 0.
     pub conditions: u32,
-    /// They, in the order of their numbers.
+    /// The start conditions, in the order of their numbers.
     pub start_conditions: Vec<StartCondition>,
-    /// Which byte of the file is the first of each rule.
+    /// The offset of each rule's first byte.
     pub rule_starts: Vec<usize>,
-    /// Which byte of the file is the first of each line that defines a name, in the order of the text.
+    /// The offset of each line that defines a name, in the order of the file.
     pub definition_starts: Vec<usize>,
 }
 
 /// A start condition of a lex file.
 #[derive(Drop)]
 pub struct StartCondition {
-    /// Its name.
+    /// The name of the condition.
     pub name: Vec<u8>,
-    /// Which byte of the file is the first of the name, where it is declared; the initial one is declared nowhere.
+    /// The offset of the name where the condition is declared. The initial condition is declared nowhere.
     pub offset: Option<usize>,
 }

@@ -5,14 +5,14 @@ ghost use Rattle.ly_lexread.specs.declared.kind.LineKind.TheVariants.{Mark};
 
 use ly_base::is_blank;
 
-/// What a line is by its first bytes.
+/// The kind of a line, by its first bytes.
 #[derive(Clone, Copy)]
 pub enum LineKind {
-    /// `%%`, which begins the rules, and what follows them.
+    /// `%%`, which begins the rules, and later what follows them.
     Mark,
-    /// It is empty, or a blank stands in front.
+    /// An empty line, or one that starts with a blank.
     Unused,
-    /// `%{`, which begins a block that isn't used.
+    /// `%{`, which begins a block that is ignored.
     Block,
     /// Another `%`, which begins a directive in the definitions.
     Directive,
@@ -41,7 +41,7 @@ impl LineKind {
     }
 }
 
-/// What a line is, which is without its newline.
+/// The kind of a line, which comes without its newline.
 pub fn kind_of(line: &[u8]) -> LineKind
     ensures { result ≡ kind_of line.now }
 {

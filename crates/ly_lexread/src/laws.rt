@@ -1,23 +1,22 @@
 ghost use Rattle.ly_lexread.specs.Laws.{LexingGoesOn, LexingIsOne};
 ghost use Rattle.ly_lexread.specs.LexText.{ConditionsBegin, DefinitionsBegin, LexTextIsOne, RulesBegin};
 
-/// A text has one lexing, where each cut tells the truth.
+/// A text has one lexing under given rules, if each cut is right.
 pub fn lexing_is_one()
     ensures { LexingIsOne }
 {}
 
-/// Lexemes that lead somewhere, and a lexing from there, are a lexing.
+/// A prefix of a lexing, followed by a lexing of the rest, is a lexing.
 pub fn lexing_goes_on()
     ensures { LexingGoesOn }
 {}
 
-/// Two values of one text have the same names, patterns, conditions and actions, and these begin at the same places.
+/// Any two values of one lex file have the same names, patterns, conditions and actions, and the same offsets of these.
 pub fn lex_text_is_one()
     ensures { LexTextIsOne }
 {}
 
-/// What stands behind as many bytes of a file as it says of a rule, of a line that defines a name, or of the name of a
-/// condition that is declared, begins with that.
+/// At its offset in the file begins each rule, each line that defines a name, and the name of each declared condition.
 pub fn lex_text_begins_there()
     ensures rules { RulesBegin }
     ensures definitions { DefinitionsBegin }

@@ -1,11 +1,18 @@
-//! From the bytes of a lex file to its rules, and from its rules to the lexemes of a text.
+//! The reader of lex files, and the definition of the lexemes of a text under their rules.
 //!
-//! `read_lex` reads a file. Its answer is the one thing that the bytes say (`lex_text_is_one`), and it refuses only a
-//! text that says nothing or has a definition or a pattern that is too heavy. What the lexemes of a text are under the
-//! rules is defined here too, and determined (`lexing_goes_on`, `lexing_is_one`).
+//! `read_lex` parses a file into its definitions, rules, actions and start conditions. Proved: the result is the unique
+//! meaning of the file (`lex_text_is_one`), and a file is rejected only if it is invalid, or a definition or pattern is
+//! too heavy. The lexing of a text by rules is defined here too; it is unique (`lexing_is_one`), and can be continued
+//! from any point (`lexing_goes_on`).
 //!
-//! Left out: C code in actions, and what needs it (docs/lex-file.md lists it); what the names of tokens mean, which
-//! takes the yacc file too.
+//! Positions are counted as bytes left, since the rest of the file determines them. Offsets are computed at the end. A
+//! rule's list of conditions is an `RcSlice`: a rule shares the list of the rule before it if both are the same.
+//!
+//! An error in the definitions doesn't end their reading at once. An earlier definition may use a name that is defined
+//! later, so the definitions are read once more for errors in their expressions.
+//!
+//! Not covered: C code in actions and what depends on it, which docs/lex-file.md lists. Which tokens the returned names
+//! mean depends on the yacc file.
 #![tactic(auto)]
 
 mod action;

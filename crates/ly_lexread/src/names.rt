@@ -21,9 +21,9 @@ use std::alloc::{AllocError, Global};
 
 /// Reads the expressions of the definitions of a file, which may use one another in any order.
 ///
-/// The fault is that of the least line: a `Pattern` where a text is no expression, has a name that isn't defined or
-/// leads into a cycle, and else `BadDefinition` where more than blanks stands behind the expression. A definition that
-/// weighs too much is a fault only where nothing else is wrong with any of them.
+/// The error on the first line is returned. It is `Pattern` if the text is no expression, has an undefined name, or
+/// leads into a cycle; otherwise `BadDefinition` if more than blanks follows the expression. A definition that is too
+/// heavy is an error only if there is no other error in the definitions.
 pub(crate) fn read_definition_texts(
     alloc: Global,
     file: &[u8],
@@ -49,7 +49,7 @@ pub(crate) fn read_definition_texts(
     }
 }
 
-/// How many bytes of the file are left from the text of the line at a place of a list on; none where there is no line.
+/// The number of bytes of the file from the text of a line on, by its index in the list; 0 if there is no such line.
 fn text_left(lines: &[NameLine<'_>], place: usize) -> usize {
     match lines.get(place) {
         Some(line) => line.text_left,
@@ -57,7 +57,7 @@ fn text_left(lines: &[NameLine<'_>], place: usize) -> usize {
     }
 }
 
-/// The fault of a file of so many bytes in which the pattern is refused from which so many are left.
+/// The error of a file of `whole` bytes whose pattern, from which `left` bytes remain, has this error.
 pub(crate) fn pattern_fault(whole: usize, left: usize, fault: EreFault) -> LexFault
     ensures memory { fault ≡ ere.OutOfMemory → result ≡ OutOfMemory }
     ensures other { fault ≢ ere.OutOfMemory → IsPatternFault (ere_kind fault) result }
@@ -72,8 +72,8 @@ pub(crate) fn pattern_fault(whole: usize, left: usize, fault: EreFault) -> LexFa
     }
 }
 
-/// The fault of a file in which more than blanks stands behind the expression of a definition, from where so many bytes
-/// are left.
+/// The error that more than blanks follows the expression of a definition. `left` bytes of the file remain from there
+/// on.
 fn flaw_fault(file: &[u8], left: usize) -> LexFault
     ensures these { (offset : ℕ) × (result ≡ LexFault.Refused BadDefinition offset) }
     ensures within { IsAtMost (length file.now) result }
@@ -87,9 +87,9 @@ fn flaw_fault(file: &[u8], left: usize) -> LexFault
 /// The names of definitions, each with the text of its expression.
 #[derive(Drop)]
 pub(crate) struct NameTexts<'t> {
-    /// They, in the order of the lines.
+    /// The definitions, in the order of the lines.
     list: Vec<NamedText<'t>>,
-    /// How many bytes of the file are left from the first byte on that is no blank behind an expression, if there is
+    /// The number of bytes of the file from the first byte on that isn't a blank and follows an expression, if there is
     /// one.
     flaw: Option<usize>,
 }
@@ -109,7 +109,7 @@ fn texts_of<'t>(alloc: Global, lines: &[NameLine<'t>]) -> Result<NameTexts<'t>, 
 }
 
 impl<'t> NameTexts<'t> {
-    /// That of one more line.
+    /// Adds the text of one more line.
     fn push(&mut self, line: NameLine<'t>) -> Result<(), AllocError>
         ensures { (ds : List DefinedLine) → AreCut ds self.old
             → OnOk result (AreCut (ds ++ parts_of line.entry ∷ []) self.new) }
@@ -123,7 +123,7 @@ impl<'t> NameTexts<'t> {
         Ok(())
     }
 
-    /// The fault that is answered where this one is found among the expressions.
+    /// The error to report if the expressions have this one.
     fn first_fault(&self, fault: LexFault, file: &[u8]) -> LexFault
         ensures whole { self.now.flaw ≡ None → result ≡ fault }
         ensures flawed { self.now.flaw ≢ None → result ≢ OutOfMemory
@@ -138,7 +138,7 @@ impl<'t> NameTexts<'t> {
     }
 }
 
-/// The first flaw, where one more line is read.
+/// Updates the first such byte after one more line is read.
 fn first_flaw(flaw: Option<usize>, is_whole: bool, left: usize) -> Option<usize>
     ensures none { result ≡ None → (flaw ≡ None) × (is_whole ≡ true) }
     ensures some { result ≢ None → (flaw ≢ None) ⊎ (is_whole ≡ false) }
@@ -149,7 +149,7 @@ fn first_flaw(flaw: Option<usize>, is_whole: bool, left: usize) -> Option<usize>
     }
 }
 
-/// How many bytes of the file are left behind the expression on a line, and blanks behind that.
+/// The number of bytes of the file after the expression on a line and blanks.
 fn left_behind(line: NameLine<'_>, expression: &[u8]) -> usize {
     let text = line.defined.text;
     let behind = text.strip_prefix(expression).unwrap_or(b"");
@@ -158,7 +158,7 @@ fn left_behind(line: NameLine<'_>, expression: &[u8]) -> usize {
     line.text_left.saturating_sub(before)
 }
 
-/// The text of the expression behind a name and its blanks, and whether nothing but blanks stands behind it.
+/// Returns the expression after a name and blanks, and whether only blanks follow it.
 fn expression_in(behind: &[u8]) -> (&[u8], bool)
     ensures { MatchBool result.1 (IsExtentOf behind.now result.0.now) ((t : List ℕ) → IsTextOf behind.now t → ⊥) }
 {

@@ -19,15 +19,20 @@ use ly_base::Limits;
 use ly_ere::Names;
 use std::alloc::{AllocError, Global};
 
-/// Reads a lex file (POSIX, XCU lex): definitions, a line that begins with `%%`, rules, and all that
-/// follows a second such line, which isn't used.
+/// Parses a lex file (POSIX, XCU lex): definitions, a line that begins with `%%`, and rules. What follows a second such
+/// line is ignored.
 ///
-/// The faults come for the least line, on a line from left to right: `NoRulesMark` where no line begins with `%%`;
-/// `BadDefinition` for a line of the definitions that has none of its forms or defines a name again, and for a block or
-/// a comment that isn't closed; `ConditionTwice` for a condition that is declared again; `UnknownCondition` for one
-/// that isn't declared, and for a `<..>` that isn't well formed; `Pattern` for a pattern, and for the expression of a
-/// definition, that is refused (a definition that is too heavy comes behind all other faults of the definitions);
-/// `BadAction` for an action; `BarAtEnd` where no rule follows a `|`; `OutOfMemory` where a growth was refused.
+/// The error on the first line is returned, and on one line the leftmost:
+/// - `NoRulesMark`: no line begins with `%%`.
+/// - `BadDefinition`: a line of the definitions is malformed or defines a name again, or a block or comment isn't
+///   closed.
+/// - `ConditionTwice`: a condition is declared again.
+/// - `UnknownCondition`: a condition isn't declared, or a `<..>` is malformed.
+/// - `Pattern`: a pattern, or the expression of a definition, is rejected. A definition that is too heavy is reported
+///   only if the definitions have no other error.
+/// - `BadAction`: an action is malformed.
+/// - `BarAtEnd`: no rule follows a `|`.
+/// - `OutOfMemory`: an allocation failed.
 pub fn read_lex(alloc: Global, bytes: &[u8], limits: &Limits) -> Result<LexFile, LexFault>
     ensures read { IsRead limits.now.pattern_weight bytes.now result }
     ensures within { IfErr result (IsAtMost (length bytes.now)) }
@@ -43,8 +48,8 @@ pub fn read_lex(alloc: Global, bytes: &[u8], limits: &Limits) -> Result<LexFile,
     }
 }
 
-/// Reads what stands behind the definitions of a lex file. The faults are those of `read_lex` that come for the
-/// expressions of definitions and for rules.
+/// Parses what follows the definitions of a lex file. The errors are those that `read_lex` reports for the expressions
+/// of definitions and for rules.
 fn read_behind(
     alloc: Global,
     bytes: &[u8],
@@ -72,7 +77,7 @@ fn read_behind(
     }
 }
 
-/// Which byte the `|` of the last rule is in a file of so many; where it has none, all of them.
+/// The offset of the `|` of the last rule in a file of `whole` bytes, or `whole` if it has none.
 fn bar_offset(said: &[Said], whole: usize) -> usize
     ensures { result ≤ whole }
 {
@@ -82,18 +87,19 @@ fn bar_offset(said: &[Said], whole: usize) -> usize
     }
 }
 
-/// What the definitions of a file say but for names: its conditions, and where the lines stand that define names.
+/// The contents of the definitions section without the names: the conditions, and the offsets of the lines that define
+/// names.
 #[derive(Drop)]
 pub(crate) struct Stated {
-    /// How many conditions there are.
+    /// The number of start conditions.
     conditions: u32,
-    /// They, in the order of their numbers.
+    /// The start conditions, in the order of their numbers.
     start_conditions: Vec<StartCondition>,
-    /// Which byte of the file is the first of each line that defines a name.
+    /// The offset of each line that defines a name.
     starts: Vec<usize>,
 }
 
-/// What definitions say in a file of so many bytes.
+/// Converts the definitions of a file of `whole` bytes.
 fn stated_in(alloc: Global, preamble: &Preamble<'_>, whole: usize) -> Result<Stated, AllocError>
     ensures { IfOk result (IsStatedIn whole (preamble_of preamble.now)) }
 {
@@ -104,7 +110,7 @@ fn stated_in(alloc: Global, preamble: &Preamble<'_>, whole: usize) -> Result<Sta
     })
 }
 
-/// Which byte of a file of so many is the first of each of these lines.
+/// The offsets of these lines in a file of `whole` bytes.
 fn starts_of(alloc: Global, lines: &[NameLine<'_>], whole: usize) -> Result<Vec<usize>, AllocError>
     ensures { IfOk result (λ starts. starts.items ≡ map (λ l. whole - l.left) lines.now) }
 {
@@ -115,7 +121,7 @@ fn starts_of(alloc: Global, lines: &[NameLine<'_>], whole: usize) -> Result<Vec<
     Ok(starts)
 }
 
-/// The lex file of these definitions and rules. `None` where the last rule says `|`.
+/// Builds the lex file of these definitions and rules. `None` if the last rule has the action `|`.
 fn file_of(
     alloc: Global,
     names: Names,

@@ -4,17 +4,17 @@ ghost use Rattle.ly_lexread.specs.Lines.{LineBefore, LineOf, left_in};
 
 use crate::fault::{LexFault, LexFaultKind};
 
-/// What is left of a file.
+/// The rest of a file that isn't read yet.
 #[derive(Clone, Copy)]
 pub(crate) struct Rest<'t> {
-    /// Its bytes.
+    /// The bytes that are left.
     pub(crate) bytes: &'t [u8],
-    /// How many bytes the whole file has.
+    /// The length of the whole file in bytes.
     pub(crate) whole: usize,
 }
 
 impl<'t> Rest<'t> {
-    /// A whole file.
+    /// Returns a whole file.
     pub(crate) fn of(bytes: &'t [u8]) -> Self
         ensures bytes { result.bytes ≡ bytes.entry }
         ensures whole { result.whole ≡ length bytes.now }
@@ -25,14 +25,14 @@ impl<'t> Rest<'t> {
         }
     }
 
-    /// Which byte of the file comes first.
+    /// The offset of the first byte that is left.
     pub(crate) fn offset(self) -> usize
         ensures { result ≡ self.entry.whole - length self.entry.bytes.now }
     {
         self.whole.saturating_sub(self.bytes.len())
     }
 
-    /// Which byte of the file comes first in what is left of a text that stands in front.
+    /// The offset in the file of `left`, which is the end of `front`. `front` is the start of the bytes that are left.
     pub(crate) fn offset_in(self, front: &[u8], left: &[u8]) -> usize
         ensures { result ≤ self.entry.whole }
     {
@@ -43,14 +43,14 @@ impl<'t> Rest<'t> {
         self.whole.saturating_sub(line.left_from(left))
     }
 
-    /// Which byte of the file is the last one; that of an empty file is the first.
+    /// The offset of the last byte of the file; 0 for an empty file.
     pub(crate) fn last_offset(self) -> usize
         ensures { result ≡ self.entry.whole - 1 }
     {
         self.whole.saturating_sub(1)
     }
 
-    /// The first line, without its newline, and what is left behind it; `None` where nothing is left.
+    /// Splits off the first line, without its newline. Returns it and the rest; `None` if nothing is left.
     pub(crate) fn first_line(self) -> Option<(&'t [u8], Rest<'t>)>
         ensures these { MatchOption result (self.entry.bytes.now ≡ [])
             (λ found. LineBefore self.entry.bytes.now found.0.now found.1.bytes.now) }
@@ -74,17 +74,17 @@ impl<'t> Rest<'t> {
     }
 }
 
-/// The first line of what is left of a file.
+/// The first line of the rest of a file.
 #[derive(Clone, Copy)]
 pub(crate) struct Line<'t> {
-    /// Its bytes, without its newline.
+    /// The bytes of the line, without the newline.
     pub(crate) bytes: &'t [u8],
-    /// What is left of the file from its first byte on.
+    /// The rest of the file from the start of the line on.
     pub(crate) text: Rest<'t>,
 }
 
 impl Line<'_> {
-    /// How many bytes of the file are left, where this is left of the line.
+    /// The number of bytes of the file from `left` on, which is the end of the line.
     pub(crate) fn left_from(self, left: &[u8]) -> usize
         ensures { result ≡ left_in self.entry.text.bytes.now self.entry.bytes.now left.now }
     {
@@ -92,7 +92,7 @@ impl Line<'_> {
         self.text.bytes.len().saturating_sub(before)
     }
 
-    /// The fault of the file at the first byte of what is left of the line.
+    /// The error of the file at the start of `left`, which is the end of the line.
     pub(crate) fn fault(self, kind: LexFaultKind, left: &[u8]) -> LexFault
         ensures { (offset : ℕ) × (result ≡ LexFault.Refused kind offset) × (offset ≤ self.entry.text.whole) }
     {
@@ -103,7 +103,7 @@ impl Line<'_> {
     }
 }
 
-/// The first line of a text, without its newline, and what stands behind it; `None` where no text is left.
+/// Splits a text into its first line, without the newline, and the rest. `None` if the text is empty.
 pub fn first_line(text: &[u8]) -> Option<(&[u8], &[u8])>
     ensures { MatchOption result (text.now ≡ []) (λ found. LineBefore text.now found.0.now found.1.now) }
 {
@@ -111,7 +111,7 @@ pub fn first_line(text: &[u8]) -> Option<(&[u8], &[u8])>
     Some((line, behind.bytes))
 }
 
-/// How many bytes stand before the first newline.
+/// The number of bytes before the first newline.
 pub(crate) fn line_length(bytes: &[u8]) -> usize
     ensures within { result ≤ length bytes.now }
     ensures value { result ≡ position_or_len (λ byte. nat_eq byte 10) bytes.now }
@@ -122,7 +122,7 @@ pub(crate) fn line_length(bytes: &[u8]) -> usize
         .unwrap_or(bytes.len())
 }
 
-/// What stands behind the newline that ends a line; nothing where the text ends there.
+/// Returns what follows the newline that ends a line; nothing if the text ends there.
 pub(crate) fn behind_newline(end: &[u8]) -> &[u8]
     ensures { result.now ≡ drop 1 end.now }
 {

@@ -25,19 +25,19 @@ use ly_ere::{Names, Rule, read_front};
 use std::alloc::{AllocError, Global};
 use std::rc::RcSlice;
 
-/// What the rules say.
+/// The contents of the rules section.
 #[derive(Drop)]
 pub(crate) struct Section {
     /// The rules.
     pub(crate) rules: Vec<Rule>,
-    /// What each says of its action.
+    /// The action of each rule, as it is written.
     pub(crate) said: Vec<Said>,
-    /// Which byte of the file is the first of each.
+    /// The offset of each rule's first byte.
     pub(crate) starts: Vec<usize>,
 }
 
 impl Section {
-    /// Adds a rule, with what it says of its action and which byte of the file is its first.
+    /// Adds a rule, with its action as it is written and the offset of its first byte.
     fn push(&mut self, rule: Rule, said: Said, start: usize) -> Result<(), AllocError>
         ensures rules { OnOk result (self.new.rules.items ≡ self.old.rules.items ++ rule ∷ []) }
         ensures said { OnOk result (self.new.said.items ≡ self.old.said.items ++ said ∷ []) }
@@ -50,7 +50,7 @@ impl Section {
     }
 }
 
-/// Reads the rules, up to a mark or the end.
+/// Reads the rules, up to a `%%` line or the end.
 pub(crate) fn read_rules(
     alloc: Global,
     text: Rest<'_>,
@@ -83,7 +83,7 @@ pub(crate) fn read_rules(
     Ok(section)
 }
 
-/// What is left behind the lines and blocks at the front that aren't used.
+/// Skips the lines and blocks at the start that are ignored.
 fn skip_unused(text: Rest<'_>) -> Result<Rest<'_>, LexFault>
     ensures ok { IfOk result (λ left. AreSkipped text.entry.bytes.now left.bytes.now) }
     ensures settled { IfOk result (λ left. AreRulesOver left.bytes.now ⊎ BeginsWithRule left.bytes.now) }
@@ -101,7 +101,7 @@ fn skip_unused(text: Rest<'_>) -> Result<Rest<'_>, LexFault>
     Ok(left)
 }
 
-/// What is left behind the line or the block at the front, where it isn't used.
+/// Skips the line or the block at the start, if it is ignored.
 fn behind_unused(text: Rest<'_>) -> Result<Option<Rest<'_>>, LexFault>
     ensures ok { IfOk result (λ found. MatchOption found
         (AreRulesOver text.entry.bytes.now ⊎ BeginsWithRule text.entry.bytes.now)
@@ -130,7 +130,7 @@ fn behind_unused(text: Rest<'_>) -> Result<Option<Rest<'_>>, LexFault>
     }
 }
 
-/// Whether a rule stands at the front.
+/// Whether the text starts with a rule.
 fn begins_with_rule(text: Rest<'_>) -> bool
     ensures { MatchBool result (BeginsWithRule text.entry.bytes.now) (BeginsWithRule text.entry.bytes.now → ⊥) }
 {
@@ -140,7 +140,7 @@ fn begins_with_rule(text: Rest<'_>) -> bool
     }
 }
 
-/// Reads the rule at the front: its conditions, its pattern, blanks, and its action, which may go over lines.
+/// Reads the rule at the start: its conditions, its pattern, blanks, and its action, which may span lines.
 fn read_rule<'t>(
     alloc: Global,
     text: Rest<'t>,

@@ -5,8 +5,7 @@ ghost use Rattle.ly_lexread.specs.Private.Statements.{saying_of};
 use crate::action::{LexAction, Said};
 use std::alloc::{AllocError, Global};
 
-/// The action of each rule, by what the rules say: one that says `|` has that of the next rule. `None` where the last
-/// rule says so.
+/// Resolves the action of each rule. A rule with `|` has that of the next rule. `None` if the last rule has `|`.
 pub(crate) fn share_actions(
     alloc: Global,
     mut said: Vec<Said>,

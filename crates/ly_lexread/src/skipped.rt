@@ -5,7 +5,7 @@ ghost use Rattle.ly_lexread.specs.Lines.{BeginsWith, BlockEnds, LineOf};
 use crate::rest::{Rest, behind_newline, line_length};
 use ly_base::after_comment;
 
-/// What is left behind a block, by the lines behind the one that opens it; `None` where no line begins with `%}`.
+/// Returns what follows a block. `inside` begins after the line that opens it. `None` if no line begins with `%}`.
 pub(crate) fn behind_block(inside: Rest<'_>) -> Option<Rest<'_>>
     ensures these { MatchOption result ((rest : List ℕ) → BlockEnds inside.entry.bytes.now rest → ⊥)
         (λ rest. BlockEnds inside.entry.bytes.now rest.bytes.now) }
@@ -29,7 +29,7 @@ fn closes_block(line: &[u8]) -> bool
     line.starts_with(b"%}")
 }
 
-/// What is left behind the comment at the front and the rest of the line where it ends; `None` where it isn't closed.
+/// Returns what follows the comment at the start and the rest of its last line. `None` if the comment isn't closed.
 pub(crate) fn behind_comment(text: Rest<'_>) -> Option<Rest<'_>>
     ensures these { MatchOption result ((rest : List ℕ) → CommentEnds text.entry.bytes.now rest → ⊥)
         (λ rest. CommentEnds text.entry.bytes.now rest.bytes.now) }
@@ -42,7 +42,7 @@ pub(crate) fn behind_comment(text: Rest<'_>) -> Option<Rest<'_>>
     Some(Rest { bytes, ..text })
 }
 
-/// What stands behind the line at the front.
+/// Returns what follows the first line.
 fn behind_line(text: &[u8]) -> &[u8]
     ensures these { (line end : List ℕ) × LineOf text.now line end × (result.now ≡ drop 1 end) }
     ensures within { length result.now ≤ length text.now }

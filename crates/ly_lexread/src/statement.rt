@@ -12,17 +12,17 @@ use crate::conditions::Conditions;
 use crate::words::{NextWord, next_word};
 use ly_base::Language;
 
-/// How far the statements of an action go.
+/// Where the statements of an action end.
 #[derive(Clone, Copy)]
 pub(crate) enum Extent {
-    /// To the end of their line.
+    /// At the end of their line.
     Line,
-    /// To a `}`, perhaps over lines.
+    /// At a `}`, perhaps on a later line.
     Braces,
 }
 
 impl Extent {
-    /// The language whose gaps stand between the words: those of yacc go over lines.
+    /// The language whose whitespace separates the words. In braces it is that of yacc, which includes newlines.
     pub(crate) fn gaps(self) -> Language
         ensures { result ≡ gaps self }
     {
@@ -32,7 +32,7 @@ impl Extent {
         }
     }
 
-    /// Whether the statements end with this word.
+    /// Whether the statements end at this word.
     fn is_ended_by(self, word: NextWord<'_>) -> bool
         ensures { MatchBool result (EndsBy self word.entry) (EndsBy self word.entry → ⊥) }
     {
@@ -76,7 +76,7 @@ pub(crate) enum Value<'t> {
     TextByte,
 }
 
-/// Reads the statement at the front, or the end of the statements, and answers what stands behind it.
+/// Reads the statement at the start, or the end of the statements. Returns what follows it.
 pub(crate) fn read_statement<'t>(
     text: &'t [u8],
     extent: Extent,
@@ -106,7 +106,7 @@ pub(crate) fn read_statement<'t>(
     Err(ActionFault::Word(text))
 }
 
-/// Reads what stands behind `BEGIN`: a condition, perhaps in parentheses, and a `;`.
+/// Reads what follows `BEGIN`: a condition, perhaps in parentheses, and a `;`.
 fn read_condition<'t>(
     text: &'t [u8],
     gaps: Language,
@@ -126,7 +126,7 @@ fn read_condition<'t>(
     Ok((condition, rest))
 }
 
-/// Reads what stands behind `return`: a token, perhaps in parentheses, and a `;`.
+/// Reads what follows `return`: a token, perhaps in parentheses, and a `;`.
 fn read_value<'t>(text: &'t [u8], gaps: Language) -> Result<(Value<'t>, &'t [u8]), ActionFault<'t>>
     ensures these { MatchResult result
         (λ found. (x : Word) × Given gaps text.now x found.1.now × StandsFor x (value_meaning found.0))
@@ -142,7 +142,7 @@ fn read_value<'t>(text: &'t [u8], gaps: Language) -> Result<(Value<'t>, &'t [u8]
     Ok((value, rest))
 }
 
-/// Whether a `(` stands at the front, and what stands behind it; all where there is none.
+/// Skips a `(` at the start, if there is one. Returns whether there is one, and what follows.
 fn open(text: &[u8], gaps: Language) -> (bool, &[u8])
     ensures these { Opens gaps text.now result.0 result.1.now }
     ensures within { length result.1.now ≤ length text.now }
@@ -155,7 +155,7 @@ fn open(text: &[u8], gaps: Language) -> (bool, &[u8])
     }
 }
 
-/// What stands behind the `)` that closes, where one was opened, and a `;`.
+/// Skips the closing `)`, if one was opened, and a `;`. Returns what follows.
 fn close<'t>(text: &'t [u8], is_open: bool, gaps: Language) -> Result<&'t [u8], ActionFault<'t>>
     ensures these { MatchResult result (λ rest. Closed gaps is_open text.now rest.now)
         (λ _. (rest : List ℕ) → Closed gaps is_open text.now rest → ⊥) }
@@ -168,7 +168,7 @@ fn close<'t>(text: &'t [u8], is_open: bool, gaps: Language) -> Result<&'t [u8], 
     behind_mark(behind, b';', gaps)
 }
 
-/// What stands behind this mark, which has to come first.
+/// Skips this mark, which has to come first. Returns what follows.
 fn behind_mark<'t>(text: &'t [u8], mark: u8, gaps: Language) -> Result<&'t [u8], ActionFault<'t>>
     requires { 0 < mark }
     ensures these { MatchResult result (λ rest. HasInFront gaps text.now (mark_word mark) rest.now)
@@ -183,7 +183,7 @@ fn behind_mark<'t>(text: &'t [u8], mark: u8, gaps: Language) -> Result<&'t [u8],
     }
 }
 
-/// The number of the condition that a word names.
+/// The number of the condition with this name.
 fn named_condition(word: NextWord<'_>, conditions: &Conditions) -> Option<u32>
     ensures { MatchOption result ((n : ℕ) → NamesCondition conditions.now (word_of word.entry) n → ⊥)
         (λ n. NamesCondition conditions.now (word_of word.entry) n) }
@@ -195,7 +195,7 @@ fn named_condition(word: NextWord<'_>, conditions: &Conditions) -> Option<u32>
     }
 }
 
-/// The fault at a word that names no condition, where a text begins with it.
+/// The error of a word at the start of `text` that isn't a declared condition.
 fn no_condition<'t>(word: NextWord<'_>, text: &'t [u8]) -> ActionFault<'t> {
     match word {
         NextWord::Name(_) => ActionFault::Condition(text),
@@ -203,7 +203,7 @@ fn no_condition<'t>(word: NextWord<'_>, text: &'t [u8]) -> ActionFault<'t> {
     }
 }
 
-/// The token that a word stands for.
+/// The token that a word denotes.
 fn value_of(word: NextWord<'_>) -> Option<Value<'_>>
     ensures { MatchOption result ((m : Meaning) → StandsFor (word_of word.entry) m → ⊥)
         (λ value. StandsFor (word_of word.entry) (value_meaning value)) }

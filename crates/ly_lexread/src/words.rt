@@ -7,32 +7,32 @@ ghost use Rattle.ly_lexread.specs.declared.words.NextWord.TheVariants.{End};
 
 use ly_base::{Language, after_gap, leading_name, literal};
 
-/// What stands at the front of an action.
+/// The next word of an action.
 #[derive(Clone, Copy)]
 pub(crate) enum NextWord<'t> {
     /// The end of the action.
     End,
     /// A mark of one byte, as `;`.
     Mark(u8),
-    /// `yytext[0]` or `*yytext`.
+    /// The first byte of the match: `yytext[0]` or `*yytext`.
     TextByte,
     /// A name.
     Name(&'t [u8]),
     /// A literal of this byte.
     Literal(u8),
-    /// No word.
+    /// Anything else, which is no word.
     Other,
 }
 
 impl NextWord<'_> {
-    /// Whether nothing stands there.
+    /// Whether the action ends here.
     pub(crate) fn is_end(&self) -> bool
         ensures { MatchBool result (self.now ≡ End) (self.now ≢ End) }
     {
         matches!(self, NextWord::End)
     }
 
-    /// Whether this mark stands there.
+    /// Whether the word is this mark.
     pub(crate) fn is(&self, mark: u8) -> bool
         requires { 0 < mark }
         ensures { MatchBool result (word_of self.now ≡ mark_word mark) (word_of self.now ≢ mark_word mark) }
@@ -43,7 +43,7 @@ impl NextWord<'_> {
         }
     }
 
-    /// Whether this name stands there.
+    /// Whether the word is this name.
     pub(crate) fn is_name(&self, name: &[u8]) -> bool
         ensures { MatchBool result (word_of self.now ≡ name_word name.now) (word_of self.now ≢ name_word name.now) }
     {
@@ -54,14 +54,14 @@ impl NextWord<'_> {
     }
 }
 
-/// Whether the names are the same.
+/// Whether the names are equal.
 fn is_same(name: &[u8], other: &[u8]) -> bool
     ensures { MatchBool result (name.now ≡ other.now) (name.now ≢ other.now) }
 {
     name == other
 }
 
-/// The word behind the gap at the front, and what stands behind it.
+/// Skips the whitespace and comments at the start and reads a word. Returns the word and what follows it.
 pub(crate) fn next_word(text: &[u8], gaps: Language) -> (NextWord<'_>, &[u8])
     ensures front { IsFront gaps text.now result.0 result.1.now }
     ensures shorter { IsFound result.0 → length result.1.now < length text.now }
@@ -91,7 +91,7 @@ fn is_mark(byte: u8) -> bool
     matches!(byte, b';' | b'|' | b'(' | b')' | b'{' | b'}' | b'0')
 }
 
-/// The word that begins with a name: `yytext[0]`, or the name alone.
+/// The word that begins with this name: `yytext[0]`, or the name alone.
 fn named_word<'t>(name: &'t [u8], rest: &'t [u8]) -> (NextWord<'t>, &'t [u8])
     ensures { IsNamedWord name.entry rest.now result.0 result.1.now }
 {
@@ -101,7 +101,7 @@ fn named_word<'t>(name: &'t [u8], rest: &'t [u8]) -> (NextWord<'t>, &'t [u8])
     }
 }
 
-/// What stands behind `*yytext`, if that is at the front.
+/// Returns what follows `*yytext`, if the text starts with it.
 fn behind_text_byte(text: &[u8]) -> Option<&[u8]>
     ensures { MatchOption result ((behind : List ℕ) (rest : List ℕ) → text.now ≡ codes "*" ++ behind
         → NameBefore Lex behind (codes "yytext") rest → ⊥)
