@@ -1,4 +1,4 @@
--- What holds of expressions that are written out, of their paths, and of automata that have the positions of rules.
+-- Laws of expanded expressions, of their paths, and of automata that have the positions of rules.
 use Rattle.std.specs.Prelude.{◌≡◌, ◌↔◌, ℕ, ◌<◌, ◌≤◌, List, [], ◌∷◌, ◌++◌, length, Bool, Contains, None, IfSome}
 use Rattle.ly_ere.specs.Expression.{Expression, set, plus, Matches}
 use Rattle.ly_ere.specs.Lengths.{AreSound, IsSound}
@@ -11,45 +11,45 @@ use Rattle.ly_position.specs.Patterns.{RunsFrom}
 use Rattle.ly_position.specs.Spots.{ArePositionsOf, HasPositions, IsNext, Spot}
 use Rattle.ly_position.specs.Written.{Plain, Member, pattern_written, written}
 
--- an expression written out has its strings
+-- an expanded expression matches the same strings
 abbrev pub WrittenMatches : Type 0
 WrittenMatches = (names : List Expression) (e : Expression) (w : List ℕ)
     → Matches names e w ↔ Member (written names e) w
 
--- a string is one that is read along numbers of the expression's sets
+-- an expression matches a string if and only if the string is read along numbers of the expression's sets
 abbrev pub ReadsAlong : Type 0
 ReadsAlong = (r : Plain) (w : List ℕ) → Member r w ↔ ((js : List ℕ) × Member (numbered r 0) js × IsReadAlong r js w)
 
--- two paths that go through one position may change over there
+-- two paths through the same position can be recombined there
 abbrev pub PathsChangeOver : Type 0
 PathsChangeOver = (r : Plain) (k : ℕ) (us vs xs ys : List ℕ) → Path r (us ++ k ∷ vs) → Path r (xs ++ k ∷ ys)
     → Path r (us ++ k ∷ ys)
 
--- where every set has a byte, the positions are the numbers of all sets and of the end mark
+-- if every set has a byte, the positions are the numbers of all sets and of the end mark
 abbrev pub AllArePositions : Type 0
 AllArePositions = (r : Plain) (k : ℕ) → IsFull r → IsPosition r k ↔ (k ≤ set_count r)
 
--- So it is with a pattern whose sets have bytes, whose names have definitions of this kind, and whose intervals end at
--- or after their beginnings.
+-- The same holds for a pattern whose sets have bytes, whose names have definitions of this kind, and whose intervals
+-- have an upper bound of at least the lower one.
 abbrev pub SoundHasAll : Type 0
 SoundHasAll = (names : List Expression) (p : Pattern) (k : ℕ) → AreSound names → IsSound (length names) p.head
     → IfSome p.tail (IsSound (length names))
     → IsPosition (pattern_written names p) k ↔ (k ≤ set_count (pattern_written names p))
 
--- A rule `a+` has two positions, one that reads and the end mark. So an automaton with a position more, as `aa*` has,
--- doesn't have the positions of `a+`.
+-- A rule `a+` has two positions, one that reads and the end mark. So an automaton with one more, as `aa*` has, doesn't
+-- have the positions of `a+`.
 abbrev pub SomeHasTwoPositions : Type 0
 SomeHasTwoPositions = (names : List Expression) (r : Rule) (conditions : ℕ) (nfa : Nfa)
     → r.pattern.head ≡ plus (set (97 ∷ [])) → r.pattern.tail ≡ None → HasPositions names (r ∷ []) conditions nfa
     → length nfa.positions ≡ 2
 
--- an automaton that has the positions of rules runs over their strings
+-- the runs of an automaton with the positions of rules read exactly their strings
 abbrev pub PositionsSpell : Type 0
 PositionsSpell = (names : List Expression) (rules : List Rule) (conditions : ℕ) (nfa : Nfa)
     → HasPositions names rules conditions nfa → (c : ℕ) (line : Bool) (i : ℕ) (w : List ℕ) → c < conditions
     → RunsFrom nfa c line i w ↔ IsString names rules c line i w
 
--- In such an automaton, runs over a string come to the positions that can come next after it.
+-- In such an automaton the runs over a string reach exactly the positions that can come next after it.
 abbrev pub PositionsComeNext : Type 0
 PositionsComeNext = (names : List Expression) (rules : List Rule) (conditions : ℕ) (nfa : Nfa) (spot : ℕ → Spot)
     → ArePositionsOf names rules conditions nfa spot → (c : ℕ) (line : Bool) (w : List ℕ) (q : ℕ) → c < conditions
@@ -62,7 +62,7 @@ PositionsLive = (names : List Expression) (rules : List Rule) (conditions : ℕ)
     → HasPositions names rules conditions nfa → (p : ℕ) → p < length nfa.positions
     → (i : ℕ) × (w : List ℕ) × RunsTo nfa i p w
 
--- and any two such automata of the same rules have as many positions
+-- any two such automata of the same rules have the same number of positions
 abbrev pub PositionsAreAsMany : Type 0
 PositionsAreAsMany = (names : List Expression) (rules : List Rule) (c d : ℕ) (nfa other : Nfa)
     → HasPositions names rules c nfa → HasPositions names rules d other

@@ -1,5 +1,5 @@
--- The positions of a plain expression: its sets, numbered from the left, and then its end mark
--- (McNaughton and Yamada 1960, Glushkov 1961).
+-- The positions of a plain expression: its sets, numbered from the left, then its end mark (McNaughton and Yamada 1960,
+-- Glushkov 1961).
 use Rattle.std.specs.Prelude.{◌≡◌, ◌≢◌, ℕ, ◌+◌, List, [], ◌∷◌, ◌++◌, slice_index_or, Contains}
 use Rattle.std.specs.List.{AllZip}
 use Rattle.ly_position.specs.Written.{Plain, one_of, empty_string, in_turn, or, any_times, some_times, maybe, Member}
@@ -14,7 +14,7 @@ sets (any_times r) = sets r
 sets (some_times r) = sets r
 sets (maybe r) = sets r
 
--- how many sets there are
+-- the number of sets
 abbrev pub set_count : Plain → ℕ
 set_count (one_of bytes) = 1
 set_count empty_string = 0
@@ -24,12 +24,12 @@ set_count (any_times r) = set_count r
 set_count (some_times r) = set_count r
 set_count (maybe r) = set_count r
 
--- the set of a number; past the last one without bytes
+-- the set with this number; empty past the last one
 abbrev pub set_at : Plain → ℕ → List ℕ
 set_at r k = slice_index_or (sets r) k []
 
--- The same expression over numbers in place of bytes: each set that has a byte is replaced by its own number. They are
--- counted from the left, and the first is base.
+-- The same expression over numbers instead of bytes: each set that has a byte is replaced by its number. Numbers count
+-- from the left, starting at base.
 abbrev pub numbered : Plain → ℕ → Plain
 numbered (one_of []) base = one_of []
 numbered (one_of (b ∷ bytes)) base = one_of (base ∷ [])
@@ -40,8 +40,8 @@ numbered (any_times r) base = any_times (numbered r base)
 numbered (some_times r) base = some_times (numbered r base)
 numbered (maybe r) base = maybe (numbered r base)
 
--- A path: the numbers of sets that a string goes through one after another, and then the end mark, whose number comes
--- after those of all sets.
+-- A path: the numbers of the sets that a string visits one after another, then the end mark, whose number follows those
+-- of all sets.
 abbrev pub Path : Plain → List ℕ → Type 0
 Path r ks = (js : List ℕ) × Member (numbered r 0) js × (ks ≡ js ++ set_count r ∷ [])
 
@@ -63,14 +63,14 @@ IsFull (maybe r) = IsFull r
 abbrev pub ComesFirst : Plain → ℕ → Type 0
 ComesFirst r k = (ks : List ℕ) × Path r (k ∷ ks)
 
--- l can come next after k: some path has them side by side
+-- l can come next after k: they are adjacent in some path
 abbrev pub ComesAfter : Plain → ℕ → ℕ → Type 0
 ComesAfter r k l = (js : List ℕ) × (ks : List ℕ) × Path r (js ++ k ∷ l ∷ ks)
 
--- w is read along these numbers: each byte is of the set of its number
+-- w is read along these numbers: each byte is in the set of its number
 abbrev pub IsReadAlong : Plain → List ℕ → List ℕ → Type 0
 IsReadAlong r js w = AllZip (λ j b. Contains (set_at r j) b) js w
 
--- k can come next after w: some path goes on with k after numbers along which w is read
+-- k can come next after w: some path continues with k after numbers along which w is read
 abbrev pub ComesNext : Plain → List ℕ → ℕ → Type 0
 ComesNext r w k = (js : List ℕ) × (ks : List ℕ) × Path r (js ++ k ∷ ks) × IsReadAlong r js w

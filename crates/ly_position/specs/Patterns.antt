@@ -5,12 +5,12 @@ use Rattle.ly_ere.specs.declared.pattern.Rule.{Rule}
 use Rattle.ly_ere.specs.Winner.{IsString}
 use Rattle.ly_position.specs.Nfa.{Nfa, IsEnd, Follows, RunsTo, follow_of, position_of, starts_of}
 
--- A run from a start position of the condition reads w and comes to the end mark of rule i.
+-- A run from a start position of the condition reads w and reaches the end mark of rule i.
 abbrev pub RunsFrom : Nfa → ℕ → Bool → ℕ → List ℕ → Type 0
 RunsFrom nfa condition line i w = (p : ℕ) × Contains (starts_of nfa condition line) p × RunsTo nfa i p w
 
--- The positions of rules: runs read the strings of the patterns, every position leads to an end mark,
--- and lists have each member once.
+-- The positions of rules: the runs read the strings of the patterns, every position leads to an end mark, and no list
+-- has a member twice.
 pub record ArePositions (names : List Expression) (rules : List Rule) (conditions : ℕ) (nfa : Nfa) : Type 0 where
   pub spells : (c : ℕ) (line : Bool) (i : ℕ) (w : List ℕ) → c < conditions → RunsFrom nfa c line i w
       ↔ IsString names rules c line i w

@@ -1,4 +1,5 @@
--- What contracts of private functions cite: the plan, the program and its links. No public contract rests on it.
+-- Definitions for contracts of private functions: the plan, the program and its links. No public contract depends on
+-- them.
 pub mod Assembled
 pub mod Chain
 pub mod Compile

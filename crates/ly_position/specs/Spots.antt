@@ -7,23 +7,23 @@ use Rattle.ly_position.specs.Nfa.{Nfa, ReadsByte, Follows, IsEnd, starts_of}
 use Rattle.ly_position.specs.Written.{pattern_written}
 use Rattle.ly_position.specs.Numbered.{set_count, set_at, IsPosition, ComesFirst, ComesAfter, ComesNext}
 
--- a spot: a rule, and a number in its pattern written out
+-- a spot: a rule, and a number in its expanded pattern
 pub record Spot : Type 0 where
   pub rule : ℕ
   pub number : ℕ
 
--- the rule is there, and the number is a position of its pattern
+-- the rule exists, and the number is a position of its pattern
 abbrev pub IsSpot : List Expression → List Rule → Spot → Type 0
 IsSpot names rules s = (r : Rule) × (slice_get rules s.rule ≡ Some r)
     × IsPosition (pattern_written names r.pattern) s.number
 
--- The spot can come next after w in a condition, where w begins at the start of a line or elsewhere.
+-- The spot can come next in a condition after w, which begins at the start of a line or elsewhere.
 abbrev pub IsNext : List Expression → List Rule → ℕ → Bool → List ℕ → Spot → Type 0
 IsNext names rules condition line w s = (r : Rule) × IsActive rules condition line s.rule r
     × ComesNext (pattern_written names r.pattern) w s.number
 
--- Position p of the automaton is the spot that is said: it has each position of the patterns once, with its bytes, the
--- positions that can come next after it, and those that can come first.
+-- Each position p of the automaton is the spot that spot gives for it. The automaton has each position of the patterns
+-- once, with its bytes, the positions that can come next after it, and those that can come first.
 pub record ArePositionsOf (names : List Expression) (rules : List Rule) (conditions : ℕ) (nfa : Nfa) (spot : ℕ → Spot)
     : Type 0 where
   pub is_spot : (p : ℕ) → p < length nfa.positions → IsSpot names rules (spot p)

@@ -1,12 +1,14 @@
-// Patterns become positions in four steps. Names and intervals are written out as a graph of plain
-// expressions, in which what stands twice is shared and idle operators are left out. The graph
-// becomes a program of reads, forks and ends (Thompson 1968), made from the end of each pattern to
-// its front, so that an instruction is final when it is appended. Its reads and ends are the
-// positions (McNaughton and Yamada 1960). What may follow one is what is reached from where it goes
-// on by forks alone. These lists aren't made: where parts may each be left out, their lengths add up
-// to a square. The forks are kept instead and followed at each step, each once, so room is linear in
-// the patterns that are written out. Start lists alone are made, and those that are alike are kept
-// once. Nothing recurses, so depth costs memory alone.
+// Patterns become positions in four steps.
+// - Names and intervals are expanded into a graph of plain expressions. The graph shares equal parts and leaves out
+//   redundant operators.
+// - The graph is compiled to a program of reads, forks and ends (Thompson 1968). Each pattern is compiled from its end
+//   to its start, so an instruction is final when it is appended.
+// - The reads and ends of the program are the positions (McNaughton and Yamada 1960). The positions that may follow one
+//   are those that its successor reaches through forks alone. These follow lists aren't built: for a sequence of
+//   optional parts their total length is quadratic. Each step follows the forks instead, each fork once, so memory is
+//   linear in the expanded patterns.
+// - Only the start lists are built, and equal ones are stored once.
+// Nothing recurses, so nesting costs only memory.
 ghost use Rattle.std.specs.Prelude.{◌≡◌, ◌<◌, ◌≤◌, length, All, IfOk, IsErrOf, OnOk};
 ghost use Rattle.ly_ere.specs.Names.{defined};
 ghost use Rattle.ly_position.specs.Private.Plain.{IsPlainPart};
@@ -28,10 +30,10 @@ use ly_base::Limits;
 use ly_ere::{Names, Rule};
 use std::alloc::{AllocError, Global};
 
-/// The positions of the rules, for as many conditions.
+/// Computes the positions of the rules, with start lists for this many conditions.
 ///
-/// `TooManyPositions` comes where the weight of all patterns together is above the limit, `OutOfMemory` where a growth
-/// was refused.
+/// Errors: `TooManyPositions` if the weight of all patterns together is above the limit, `OutOfMemory` if an allocation
+/// failed.
 pub fn positions(
     alloc: Global,
     rules: &[Rule],
@@ -54,7 +56,7 @@ pub fn positions(
     Ok(assemble(alloc, rules, conditions, &program)?)
 }
 
-/// The positions of a program: its reads and ends, and what each leads to by forks alone.
+/// Computes the positions of a program: its reads and ends, and what each reaches through forks alone.
 fn assemble(
     alloc: Global,
     rules: &[Rule],

@@ -4,13 +4,13 @@ ghost use Rattle.ly_position.specs.declared.fault.PosFault.TheVariants.{OutOfMem
 use std::alloc::{AllocError, AllocFailed};
 use thiserror::Error;
 
-/// Why rules get no positions. Nothing is handed out then.
+/// Why rules get no positions.
 #[derive(Clone, Copy, Debug, PartialEq, Eq, Error)]
 pub enum PosFault {
     /// The weight of all patterns together is above the limit.
     #[error("the patterns are too heavy together")]
     TooManyPositions,
-    /// A growth was refused.
+    /// An allocation failed.
     #[error("out of memory")]
     OutOfMemory,
 }
@@ -18,7 +18,7 @@ pub enum PosFault {
 impl PosFault {
     ghost use Rattle.ly_position.specs.FaultNames.{position_name, position_number};
 
-    /// The fault's number; want of memory has none.
+    /// The error number. `OutOfMemory` has none.
     pub fn number(&self) -> Option<u8>
         ensures { result ≡ position_number self.now }
     {
@@ -28,7 +28,7 @@ impl PosFault {
         }
     }
 
-    /// The fault's name.
+    /// The name of the error.
     pub fn name(&self) -> &'static str
         ensures { result.now ≡ position_name self.now }
     {

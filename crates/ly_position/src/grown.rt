@@ -4,21 +4,22 @@ ghost use Rattle.ly_position.specs.Private.Grown.{IsExtendedAt};
 use std::alloc::{AllocError, Global};
 use std::marker::Model;
 
-/// A list that is an earlier one with an entry behind it.
+/// A list that extends an earlier list by one entry.
 #[derive(Clone, Copy)]
 pub struct Extended {
     /// The number of the earlier list.
     pub before: usize,
-    /// The entry.
+    /// The entry at the end.
     pub last: usize,
 }
 
-/// The empty list, and lists that are made of one another, each with its number. One that is made again is the same.
+/// The empty list and lists that extend one another, each with a number. Extending a list twice in a row by the same
+/// entry gives the same list.
 #[derive(Drop)]
 pub struct Grown {
-    /// All but the empty list, which has number 0.
+    /// All lists but the empty one, which has number 0.
     extended: Vec<Extended>,
-    /// For each list the number of the one that was last made of it.
+    /// For each list the number of its latest extension.
     latest: Vec<usize>,
 }
 
@@ -37,7 +38,7 @@ impl Model for Grown {
 }
 
 impl Grown {
-    /// The empty list alone.
+    /// Returns the empty list alone.
     pub(crate) fn new(alloc: Global) -> Result<Self, AllocError>
         ensures { IfOk result (λ g. g ≡ [] ∷ []) }
     {
@@ -49,14 +50,14 @@ impl Grown {
         })
     }
 
-    /// How many lists there are.
+    /// The number of lists.
     pub(crate) fn len(&self) -> usize
         ensures { result ≡ length self.now }
     {
         self.extended.len() + 1
     }
 
-    /// The number of a list with an entry behind it.
+    /// Returns the number of a list extended by an entry.
     pub(crate) fn longer(&mut self, list: usize, entry: usize) -> Result<usize, AllocError>
         requires { list < length self.old }
         ensures more { length self.old ≤ length self.new }
@@ -78,7 +79,7 @@ impl Grown {
         Ok(number)
     }
 
-    /// Makes a list that of a number.
+    /// Copies the list with this number into `into`, replacing its contents.
     pub(crate) fn read(&self, number: usize, into: &mut Vec<usize>) -> Result<(), AllocError>
         requires { number < length self.now }
         ensures { OnOk result (into.new.items ≡ slice_index_or self.now number []) }
@@ -95,7 +96,7 @@ impl Grown {
     }
 }
 
-/// Whether the list of a number is that one, with the entry behind it.
+/// Whether the list with number `number` is that of `before` extended by `entry`.
 fn is_extended(extended: &[Extended], number: usize, before: usize, entry: usize) -> bool
     ensures { IsTrue result → IsExtendedAt extended.now number before entry }
 {

@@ -1,14 +1,19 @@
-//! From the rules of a lex file to an automaton of positions.
+//! Positions of patterns: from the rules of a lex file to a nondeterministic automaton (McNaughton and Yamada 1960).
 //!
-//! `positions` makes it, by the weight that the limits allow. It has the positions of the patterns written out, each
-//! once, with their bytes, those that can come next, and those that can come first (`HasPositions`). So runs from the
-//! start positions of a condition read just the strings of the rules that are active there, each up to the end mark of
-//! its rule; every position leads to an end mark; and no list has a member twice (`ArePositions`). `PosNfa::step` goes
-//! from a set of positions to just those that may come next. The automaton shares its forks, so its room is linear in
-//! the patterns that are written out, which no contract says.
+//! `positions` builds the automaton, within the limit on the weight of all patterns. Proved: it has each position of
+//! the expanded patterns exactly once, with its bytes, the positions that can come next, and those that can come first
+//! (`HasPositions`). So the runs from the start positions of a condition read exactly the strings of the rules that are
+//! active there, each up to the end mark of its rule. Every position leads to an end mark, and no list has a member
+//! twice (`ArePositions`). `PosNfa::step` maps a set of positions to exactly those that may come next.
 //!
-//! Left out: what is cut off a match, and which of several rules wins. A walk over sets may come through all forks at
-//! each byte.
+//! The positions come from a Thompson program, whose code only grows. First and last sets at each node (Glushkov) would
+//! take quadratic memory for wide alternations. The automaton keeps and shares the program's forks in place of follow
+//! lists, so its size is linear in the expanded patterns, also for `a?a?a?..`. No contract states this bound.
+//!
+//! Start lists are stored once if they are equal, and rules with the most common list of conditions come first in them.
+//! Otherwise a file with many conditions and as many rules would need a list of all rules for each condition.
+//!
+//! Not covered: trailing context, and which of several rules wins. A step over a set may visit all forks at each byte.
 #![tactic(auto)]
 
 mod build;

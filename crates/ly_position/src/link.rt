@@ -7,18 +7,18 @@ use crate::nfa::{Fork, Slot, Target};
 use crate::program::Instruction;
 use std::alloc::{AllocError, Global};
 
-/// A program by its positions and forks.
+/// A program as positions and forks.
 #[derive(Drop)]
 pub struct Linked {
-    /// What each instruction is.
+    /// The target of each instruction.
     pub targets: Vec<Target>,
-    /// Its reads and ends.
+    /// The positions: the reads and ends.
     pub slots: Vec<Slot>,
-    /// Its forks.
+    /// The forks.
     pub forks: Vec<Fork>,
 }
 
-/// Numbers the positions and the forks of a program, and resolves where each goes on.
+/// Numbers the positions and the forks of a program, and resolves the successors of each.
 pub fn link(alloc: Global, code: &[Instruction]) -> Result<Linked, AllocError>
     requires { StaysInside (steps_of code.now) }
     ensures { IfOk result (λ l. IsLinkOf (steps_of code.now) l.targets.items l.slots.items l.forks.items) }
@@ -46,7 +46,7 @@ pub fn link(alloc: Global, code: &[Instruction]) -> Result<Linked, AllocError>
     })
 }
 
-/// What each instruction is: the position or the fork of a number. Either are counted from 0.
+/// The position or fork of each instruction. Both are numbered from 0.
 fn targets(alloc: Global, code: &[Instruction]) -> Result<Vec<Target>, AllocError>
     ensures { IfOk result (λ ts. AreTargets (steps_of code.now) ts.items) }
 {
@@ -54,7 +54,7 @@ fn targets(alloc: Global, code: &[Instruction]) -> Result<Vec<Target>, AllocErro
     let mut positions = 0u32;
     let mut forks = 0u32;
     for instruction in code {
-        // No memory holds more instructions than a u32 counts.
+        // No memory holds more instructions than a u32 can count.
         if let Instruction::Fork(_, _) = instruction {
             targets.push(Target::Fork(forks))?;
             forks = forks.checked_add(1).ok_or(AllocError)?;

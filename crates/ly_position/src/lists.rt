@@ -4,12 +4,12 @@ ghost use Rattle.ly_position.specs.Lists.{start_after};
 use std::alloc::{AllocError, Global};
 use std::marker::Model;
 
-/// A list of lists of numbers, one after another in one block.
+/// A list of lists of numbers, stored one after another in one block.
 #[derive(Drop)]
 pub struct Lists {
     /// The members of all lists.
     members: Vec<u32>,
-    /// Where each list ends among them.
+    /// The end of each list among the members.
     ends: Vec<usize>,
 }
 
@@ -30,7 +30,7 @@ impl Model for Lists {
 }
 
 impl Lists {
-    /// No lists.
+    /// Returns no lists.
     pub fn new(alloc: Global) -> Self
         ensures { result ≡ [] }
     {
@@ -40,14 +40,14 @@ impl Lists {
         }
     }
 
-    /// How many lists there are.
+    /// The number of lists.
     pub fn len(&self) -> usize
         ensures { result ≡ length self.now }
     {
         self.ends.len()
     }
 
-    /// Adds a list. A refused growth leaves the lists as they were.
+    /// Adds a list. If the allocation fails, the lists are unchanged.
     pub fn push(&mut self, list: &[u32]) -> Result<(), AllocError>
         ensures ok { OnOk result (self.new ≡ self.old ++ list.now ∷ []) }
         ensures err { OnErr result (self.new ≡ self.old) }
@@ -64,7 +64,7 @@ impl Lists {
         }
     }
 
-    /// The list of a number.
+    /// The list with this number.
     pub fn list(&self, number: usize) -> &[u32]
         requires { number < length self.now }
         ensures { result.now ≡ slice_index_or self.now number [] }
@@ -82,7 +82,7 @@ fn part(members: &[u32], start: usize, end: usize) -> &[u32]
     &members[start..end]
 }
 
-/// Where a list begins: where the one before it ends.
+/// The start of a list, which is the end of the one before it.
 fn start_of(ends: &[usize], number: usize) -> usize
     requires { number < length ends.now }
     ensures { result ≡ start_after 0 ends.now number }

@@ -10,10 +10,10 @@ use ly_base::{ByteSet, RuleNo};
 use std::alloc::{AllocError, Global};
 use std::marker::Model;
 
-/// A position of a pattern that is written out.
+/// A position of an expanded pattern.
 #[derive(Clone, Copy, Debug, PartialEq, Eq)]
 pub enum Position {
-    /// One byte of the set is read here.
+    /// It reads one byte of the set.
     Reads {
         /// The bytes.
         bytes: ByteSet,
@@ -22,32 +22,32 @@ pub enum Position {
     Ends(RuleNo),
 }
 
-/// Where a run goes on.
+/// A successor in a run.
 #[derive(Clone, Copy)]
 pub enum Target {
-    /// At the position of this number.
+    /// The position with this number.
     Position(u32),
-    /// At either side of the fork of this number.
+    /// Both sides of the fork with this number.
     Fork(u32),
 }
 
-/// A run goes on at either side.
+/// A fork: a run continues at either side.
 #[derive(Clone, Copy)]
 pub struct Fork {
-    /// Where the first side leads.
+    /// The target of the first side.
     pub first: Target,
-    /// Where the second side leads.
+    /// The target of the second side.
     pub second: Target,
 }
 
-/// A position in memory.
+/// A position as it is stored.
 #[derive(Clone, Copy)]
 pub enum Slot {
-    /// One byte of the set is read here, and then the run goes on.
+    /// It reads one byte of the set, and then the run continues.
     Reads {
         /// The bytes.
         bytes: ByteSet,
-        /// Where it goes on.
+        /// The successor.
         next: Target,
     },
     /// The pattern of the rule ends here.
@@ -55,14 +55,14 @@ pub enum Slot {
 }
 
 /// The positions of all rules, with those that may come first and after each (McNaughton and Yamada 1960). Positions
-/// share the forks that lead to those after them, so the room is linear in the patterns that are written out.
+/// share the forks that lead to their successors, so the size is linear in the expanded patterns.
 #[derive(Drop)]
 pub struct PosNfa {
     /// The positions.
     slots: Vec<Slot>,
     /// The forks.
     forks: Vec<Fork>,
-    /// For each condition the positions that may come first in the middle of a line, then those at its beginning.
+    /// For each condition the positions that may come first, in two lists: within a line, and at the start of a line.
     starts: SharedLists,
 }
 
@@ -85,7 +85,7 @@ impl PosNfa {
     ghost use Rattle.ly_position.specs.Position.{nfa_of, position_from};
     ghost use Rattle.ly_position.specs.Target.{TargetsExist};
 
-    /// The automaton of some positions, forks, and start lists.
+    /// Makes the automaton of these positions, forks and start lists.
     pub(crate) fn of(slots: Vec<Slot>, forks: Vec<Fork>, starts: SharedLists) -> Self
         requires { TargetsExist slots.items forks.items starts }
         ensures { result ≡ nfa_of slots.items forks.items starts }
@@ -97,7 +97,7 @@ impl PosNfa {
         }
     }
 
-    /// How many positions there are.
+    /// The number of positions.
     pub fn len(&self) -> usize
         ensures { result ≡ length self.now.positions }
     {
@@ -111,7 +111,7 @@ impl PosNfa {
         self.slots.is_empty()
     }
 
-    /// The position of a number.
+    /// The position with this number.
     pub fn position(&self, number: u32) -> Position
         requires { number < length self.now.positions }
         ensures { slice_get self.now.positions number ≡ Some (position_from result
@@ -134,7 +134,7 @@ impl PosNfa {
         }
     }
 
-    /// Whether just the position before a position may come after it. It may say no where it is so.
+    /// Whether exactly the position before this one may come after it. It may return false if this holds.
     pub fn begins_chain(&self, number: u32) -> bool
         requires { number < length self.now.positions }
         ensures { IsTrue result → BeginsChain self.now number }
@@ -142,8 +142,8 @@ impl PosNfa {
         begins_chain(&self.slots, number)
     }
 
-    /// Whether just the position before a position, and what may come after that one, may come after it. It may say no
-    /// where it is so.
+    /// Whether exactly the position before this one, and what may come after that one, may come after it. It may return
+    /// false if this holds.
     pub fn goes_on_chain(&self, number: u32) -> bool
         requires { number < length self.now.positions }
         ensures { IsTrue result → GoesOnChain self.now number }
@@ -151,8 +151,8 @@ impl PosNfa {
         goes_on_chain(&self.slots, &self.forks, number)
     }
 
-    /// The positions that may come first in a condition, where a line begins or elsewhere, each
-    /// once. None where there is no such condition.
+    /// The positions that may come first in a condition, at the start of a line or elsewhere, each once. Empty if there
+    /// is no such condition.
     pub fn start(&self, condition: u32, at_line_start: bool) -> &[u32]
         ensures these { result.now ≡ starts_of self.now condition at_line_start }
         ensures within { All (λ q. q < length self.now.positions) result.now }
@@ -165,7 +165,7 @@ impl PosNfa {
         }
     }
 
-    /// The empty set of positions, or that its room is refused.
+    /// Returns an empty set for the positions of this automaton. Fails if memory runs out.
     pub fn set(&self, alloc: Global) -> Result<PositionSet, AllocError>
         ensures room { IfOk result (IsRoomFor self.now) }
         ensures none { IfOk result (λ s. s.positions.members ≡ []) }
@@ -173,8 +173,8 @@ impl PosNfa {
         PositionSet::new(alloc, self.slots.len(), self.forks.len())
     }
 
-    /// Makes a set that of the positions that may come after some, once the byte is read. Needs no memory, and comes
-    /// through each fork once.
+    /// Sets `into` to the positions that may come after those in `from`, once the byte is read. Allocates nothing, and
+    /// visits each fork once.
     pub fn step(&self, from: &[u32], byte: u8, into: &mut PositionSet)
         requires from { All (λ p. p < length self.now.positions) from.now }
         requires into { IsRoomFor self.now into.old }
@@ -186,7 +186,7 @@ impl PosNfa {
     }
 }
 
-/// Makes a set that of the positions that some lead to, once the byte is read.
+/// Sets `into` to the successors of the positions in `from`, once the byte is read.
 fn step(slots: &[Slot], forks: &[Fork], from: &[u32], byte: u8, into: &mut PositionSet)
     requires within { GoOnWithin slots.now forks.now }
     requires from { All (λ p. p < length slots.now) from.now }
@@ -204,7 +204,7 @@ fn step(slots: &[Slot], forks: &[Fork], from: &[u32], byte: u8, into: &mut Posit
     into.follow(forks);
 }
 
-/// Where a position goes on once it reads the byte, if it does.
+/// The successor of a position, if it reads the byte.
 fn target_after(slot: &Slot, byte: u8) -> Option<Target>
     ensures { result ≡ target_after byte slot.now }
 {
@@ -214,7 +214,7 @@ fn target_after(slot: &Slot, byte: u8) -> Option<Target>
     }
 }
 
-/// Whether a run goes on from a position at the one before it.
+/// Whether the successor of a position is the position before it.
 fn begins_chain(slots: &[Slot], number: u32) -> bool
     requires { number < length slots.now }
     ensures { IsTrue result → BeginsAt slots.now number }
@@ -225,7 +225,7 @@ fn begins_chain(slots: &[Slot], number: u32) -> bool
     }
 }
 
-/// Whether a run goes on from a position at a fork whose sides are the position before it and where that one goes on.
+/// Whether the successor of a position is a fork whose sides are the position before it and that one's successor.
 fn goes_on_chain(slots: &[Slot], forks: &[Fork], number: u32) -> bool
     requires within { GoOnWithin slots.now forks.now }
     requires number { number < length slots.now }
@@ -241,14 +241,14 @@ fn goes_on_chain(slots: &[Slot], forks: &[Fork], number: u32) -> bool
     }
 }
 
-/// Whether the sides of a fork are the position before one, and another target.
+/// Whether the sides of a fork are the position before this one and the target `next`.
 fn is_chained(fork: Fork, number: u32, next: Target) -> bool
     ensures { IsTrue result → IsBefore fork.first number × (fork.second ≡ next) }
 {
     is_before(fork.first, number) && is_same(fork.second, next)
 }
 
-/// Where a run goes on from a position, if it does.
+/// The successor of a position, if it has one.
 fn next_of(slot: &Slot) -> Option<Target>
     ensures { result ≡ next_of slot.now }
 {
@@ -258,7 +258,7 @@ fn next_of(slot: &Slot) -> Option<Target>
     }
 }
 
-/// Whether a target is the position before one.
+/// Whether a target is the position before this one.
 fn is_before(target: Target, number: u32) -> bool
     ensures { IsTrue result → IsBefore target number }
 {
@@ -268,7 +268,7 @@ fn is_before(target: Target, number: u32) -> bool
     }
 }
 
-/// Whether two targets are one.
+/// Whether two targets are equal.
 fn is_same(one: Target, other: Target) -> bool
     ensures { IsTrue result → one ≡ other }
 {

@@ -5,11 +5,11 @@ use ly_ere::{Arena, Node};
 use std::alloc::{AllocError, Global};
 use std::marker::Model;
 
-/// The number of a plain expression, or none where nothing matches.
+/// The number of a plain expression, or `None` if nothing matches.
 pub type PlainPart = Option<usize>;
 
-/// Expressions of sets, the empty string, concatenation, alternation, `*`, `+` and `?` alone, in
-/// which no operator stands over another that makes it idle: `(a*)*` is `a*`.
+/// Expressions of sets, the empty string, concatenation, alternation, `*`, `+` and `?` alone. Redundant operators are
+/// left out: `(a*)*` is stored as `a*`.
 #[derive(Drop)]
 pub struct Plain {
     /// The expressions.
@@ -42,7 +42,7 @@ impl Plain {
     ghost use Rattle.ly_position.specs.Private.Slim.{slim_set, slim_concat, slim_either, slim_star, slim_plus};
     ghost use Rattle.ly_position.specs.Private.Slim.{slim_optional, slim_times, slim_up_to, slim_copies};
 
-    /// No expressions.
+    /// Returns no expressions.
     pub fn new(alloc: Global) -> Self
         ensures { result ≡ [] }
     {
@@ -51,7 +51,7 @@ impl Plain {
         }
     }
 
-    /// How many expressions there are.
+    /// The number of expressions.
     pub fn len(&self) -> usize
         ensures count { result ≡ length self.now }
         ensures plain { All IsPlainExpression self.now }
@@ -59,7 +59,7 @@ impl Plain {
         self.arena.len()
     }
 
-    /// The outermost operator of an expression, over earlier expressions.
+    /// The outermost operator of an expression. Its operands are earlier expressions.
     pub fn node(&self, number: usize) -> Node
         requires { number < length self.now }
         ensures is { expression_of self.now result ≡ part_of self.now number }
@@ -79,7 +79,7 @@ impl Plain {
         Ok(Some(self.arena.push(node)?))
     }
 
-    /// One byte of a set that has one.
+    /// Adds an expression that matches one byte of the set, or nothing if the set is empty.
     pub fn set(&mut self, bytes: ByteSet) -> Result<PlainPart, AllocError>
         requires { members bytes ≢ [] }
         ensures { IfOk result (λ p. Makes self.old self.new p (slim_set (members bytes))) }
@@ -87,14 +87,14 @@ impl Plain {
         self.push(Node::Set(bytes))
     }
 
-    /// The empty string.
+    /// Adds an expression that matches the empty string.
     pub fn empty(&mut self) -> Result<PlainPart, AllocError>
         ensures { IfOk result (λ p. Makes self.old self.new p (Some empty)) }
     {
         self.push(Node::Empty)
     }
 
-    /// The first part, then the second.
+    /// Adds the concatenation of two parts.
     pub fn concat(&mut self, first: PlainPart, second: PlainPart) -> Result<PlainPart, AllocError>
         requires first { IsPlainPart (length self.old) first }
         requires second { IsPlainPart (length self.old) second }
@@ -113,7 +113,7 @@ impl Plain {
         self.push(Node::Concat(a, b))
     }
 
-    /// One of the two parts.
+    /// Adds the alternation of two parts.
     pub fn either(&mut self, first: PlainPart, second: PlainPart) -> Result<PlainPart, AllocError>
         requires first { IsPlainPart (length self.old) first }
         requires second { IsPlainPart (length self.old) second }
@@ -127,7 +127,7 @@ impl Plain {
         }
     }
 
-    /// The part any number of times.
+    /// Adds the part any number of times.
     pub fn star(&mut self, part: PlainPart) -> Result<PlainPart, AllocError>
         requires { IsPlainPart (length self.old) part }
         ensures { IfOk result (λ p. Makes self.old self.new p (slim_star (expression_at self.old part))) }
@@ -142,7 +142,7 @@ impl Plain {
         }
     }
 
-    /// The part once or more.
+    /// Adds the part one or more times.
     pub fn plus(&mut self, part: PlainPart) -> Result<PlainPart, AllocError>
         requires { IsPlainPart (length self.old) part }
         ensures { IfOk result (λ p. Makes self.old self.new p (slim_plus (expression_at self.old part))) }
@@ -157,7 +157,7 @@ impl Plain {
         }
     }
 
-    /// The part or nothing.
+    /// Adds the part or nothing.
     pub fn optional(&mut self, part: PlainPart) -> Result<PlainPart, AllocError>
         requires { IsPlainPart (length self.old) part }
         ensures { IfOk result (λ p. Makes self.old self.new p (slim_optional (expression_at self.old part))) }
@@ -172,8 +172,8 @@ impl Plain {
         }
     }
 
-    /// The part `least` times or more, and `most` times at most if there is a bound: that many
-    /// copies, of which those above the least may be left out together with all after them.
+    /// Adds the part at least `least` times, and at most `most` times if there is a bound. It is expanded to that many
+    /// copies. Each copy above `least` is optional together with all copies after it.
     pub fn repeat(
         &mut self,
         part: PlainPart,
@@ -198,7 +198,7 @@ impl Plain {
         }
     }
 
-    /// As many copies of the part, each of which may be left out together with all after it.
+    /// Adds this many copies of the part, each optional together with all after it.
     fn at_most(&mut self, part: PlainPart, count: u8) -> Result<PlainPart, AllocError>
         requires { IsPlainPart (length self.old) part }
         ensures { IfOk result (λ p. Makes self.old self.new p (slim_up_to count (expression_at self.old part))) }
@@ -211,7 +211,7 @@ impl Plain {
         Ok(rest)
     }
 
-    /// As many copies of the part, and then the last.
+    /// Adds this many copies of the part, followed by `last`.
     fn copies(
         &mut self,
         part: PlainPart,

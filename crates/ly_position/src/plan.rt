@@ -15,11 +15,11 @@ use std::alloc::{AllocError, Global};
 pub struct Plan {
     /// The expressions.
     pub plain: Plain,
-    /// For each rule the part that its head and its tail make together.
+    /// For each rule the concatenation of its head and its tail.
     pub parts: Vec<PlainPart>,
 }
 
-/// Writes out the names and repetitions of rules.
+/// Expands the names and repetitions of rules.
 pub fn write_out(alloc: Global, rules: &[Rule], names: &Names) -> Result<Plan, AllocError>
     ensures { IfOk result (λ plan. IsPlan (defined names.now) rules.now plan.plain plan.parts.items) }
 {
@@ -33,7 +33,7 @@ pub fn write_out(alloc: Global, rules: &[Rule], names: &Names) -> Result<Plan, A
     Ok(Plan { plain, parts })
 }
 
-/// The parts of the definitions.
+/// Adds the definitions.
 fn add_names(alloc: Global, plain: &mut Plain, names: &Names) -> Result<Vec<PlainPart>, AllocError>
     ensures within { IfOk result (λ ds. All (IsPlainPart (length plain.new)) ds.items) }
     ensures each { IfOk result (λ ds. (x : ℕ) → listed plain.new ds.items x
@@ -47,7 +47,7 @@ fn add_names(alloc: Global, plain: &mut Plain, names: &Names) -> Result<Vec<Plai
     Ok(definitions)
 }
 
-/// The part of a pattern's head and tail together.
+/// Adds the concatenation of a pattern's head and tail.
 fn add_rule(
     alloc: Global,
     plain: &mut Plain,
@@ -68,7 +68,7 @@ fn add_rule(
     }
 }
 
-/// The part of an expression.
+/// Adds an expression.
 fn add(
     alloc: Global,
     plain: &mut Plain,
@@ -87,7 +87,7 @@ fn add(
     Ok(parts[root])
 }
 
-/// The part of a node whose parts are known.
+/// Adds a node whose operands have been added.
 fn add_node(
     plain: &mut Plain,
     names: &[PlainPart],
@@ -113,7 +113,7 @@ fn add_node(
     }
 }
 
-/// The part of a name; none if it has no definition.
+/// The expression of a name; `None` if it is undefined.
 fn named(names: &[PlainPart], number: usize) -> PlainPart
     ensures { result ≡ slice_index_or names.now number None }
 {

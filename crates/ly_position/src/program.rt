@@ -12,13 +12,12 @@ use ly_base::{ByteSet, RuleNo};
 use ly_ere::Node;
 use std::alloc::{AllocError, Global};
 
-/// An instruction of a program that reads a string (Thompson 1968). It means others by their
-/// numbers.
+/// An instruction of a program that reads a string (Thompson 1968). Instructions refer to others by number.
 #[derive(Clone, Copy)]
 pub enum Instruction {
-    /// Reads a byte of the set, and goes on at the instruction.
+    /// Reads a byte of the set and continues at the instruction.
     Read(ByteSet, usize),
-    /// Goes on at either instruction.
+    /// Continues at either instruction.
     Fork(usize, usize),
     /// The pattern of the rule ends here.
     End(RuleNo),
@@ -29,32 +28,32 @@ pub enum Instruction {
 pub struct Program {
     /// The instructions.
     pub instructions: Vec<Instruction>,
-    /// For each rule the instruction at which it begins; none where nothing matches.
+    /// For each rule the instruction where it begins; `None` if it matches nothing.
     pub entries: Vec<Option<usize>>,
 }
 
-/// What is still to be appended to a program.
+/// A task: something still to be appended to a program.
 #[derive(Clone, Copy)]
 pub enum Task {
-    /// The code of an expression, which goes on at an instruction.
+    /// The code of an expression, which continues at an instruction.
     Code(usize, usize),
     /// A fork.
     Fork(usize, usize),
 }
 
-/// Plain expressions, and how many instructions the code of each has.
+/// Plain expressions and the size of each one's code.
 #[derive(Drop)]
 struct Measured<'a> {
     /// The expressions.
     plain: &'a Plain,
-    /// The sizes of their code, which stop at the greatest number: an expression that no rule uses may be written out
-    /// to code of any size, as `(((a{255}){255}){255}){0}` is.
+    /// The sizes in instructions, capped at the greatest number: an expression that no rule uses, such as the operand
+    /// of `(((a{255}){255}){255}){0}`, may have code of any size.
     sizes: &'a [usize],
     ghost measured: { sizes.now ≡ map counted plain.now },
 }
 
 impl Measured<'_> {
-    /// How many instructions the code of an expression has, of which there are no more than numbers.
+    /// The size of an expression's code in instructions, capped at the greatest number.
     fn size(&self, part: usize) -> usize
         requires part { part < length self.now.plain.now }
         requires room { size (part_of self.now.plain.now part) < 2 ^ 64 }
@@ -64,7 +63,8 @@ impl Measured<'_> {
     }
 }
 
-/// Compiles a plan: for each rule its end, and before it, in the direction of reading, its code.
+/// Compiles a plan. For each rule it appends the end mark and then the code, so that the code comes after its
+/// successor.
 pub fn compile(alloc: Global, plan: &Plan) -> Result<Program, AllocError>
     requires { All (IsPlainPart (length plan.now.plain)) plan.now.parts.items }
     ensures { IfOk result (λ p. IsProgram (listed plan.now.plain plan.now.parts.items)
@@ -95,7 +95,7 @@ pub fn compile(alloc: Global, plan: &Plan) -> Result<Program, AllocError>
     Ok(program)
 }
 
-/// Appends the end of a rule and its code, and answers where it begins.
+/// Appends the end mark of a rule and its code. Returns where the code begins.
 fn append_rule(
     alloc: Global,
     source: &Measured,
@@ -122,7 +122,7 @@ fn append_rule(
     Ok(after - 1)
 }
 
-/// Appends the code of an expression that goes on at `next`.
+/// Appends the code of an expression that continues at `next`.
 fn append(
     alloc: Global,
     source: &Measured,
@@ -148,7 +148,7 @@ fn append(
     Ok(())
 }
 
-/// Appends the first of an expression's code, and notes the rest.
+/// Appends the first instruction of an expression's code, and adds tasks for the rest.
 fn append_node(
     source: &Measured,
     instructions: &mut Vec<Instruction>,
@@ -204,7 +204,7 @@ fn append_node(
     }
 }
 
-/// Where code of this size begins, if it stands at `base` and goes on at `next`.
+/// The start of code of this size that is appended at `base` and continues at `next`.
 fn entry_at(base: usize, size: usize, next: usize) -> usize
     requires { base + size < 2 ^ 64 }
     ensures { result ≡ entry base size next }
@@ -212,7 +212,7 @@ fn entry_at(base: usize, size: usize, next: usize) -> usize
     if size == 0 { next } else { base + size - 1 }
 }
 
-/// How many instructions the code of each expression has, as they are counted.
+/// The size of each expression's code in instructions, capped.
 fn sizes(alloc: Global, plain: &Plain) -> Result<Vec<usize>, AllocError>
     ensures sizes { IfOk result (λ ss. ss.items ≡ map counted plain.now) }
     ensures plain { OnOk result (All IsPlainExpression plain.now) }
@@ -224,7 +224,7 @@ fn sizes(alloc: Global, plain: &Plain) -> Result<Vec<usize>, AllocError>
     Ok(sizes)
 }
 
-/// How many instructions the code of a node has, by those of the nodes before it.
+/// The size of a node's code in instructions, computed from those of the nodes before it.
 fn counted_size(node: Node, sizes: &[usize]) -> usize
     requires { FitsAt (length sizes.now) node }
     ensures { result ≡ min (node_size sizes.now node) most_counted }

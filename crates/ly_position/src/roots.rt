@@ -6,12 +6,12 @@ use crate::grown::Grown;
 use std::alloc::{AllocError, Global};
 use std::marker::Model;
 
-/// Lists of the instructions at which rules begin. Those that have grown alike are kept once.
+/// Lists of the instructions where rules begin. Lists that grew in the same way are stored once.
 #[derive(Drop)]
 pub struct Roots {
-    /// What the lists are and were.
+    /// The current lists and their earlier versions.
     lists: Grown,
-    /// For each list its number there.
+    /// For each list its number among those.
     numbers: Vec<usize>,
 }
 
@@ -30,7 +30,7 @@ impl Model for Roots {
 }
 
 impl Roots {
-    /// Two empty lists for each condition.
+    /// Returns two empty lists for each condition.
     pub(crate) fn new(alloc: Global, conditions: u32) -> Result<Self, AllocError>
         ensures count { IfOk result (λ rs. length rs ≡ 2 * conditions) }
         ensures empty { IfOk result (λ rs. (k : ℕ) → slice_index_or rs k [] ≡ []) }
@@ -40,7 +40,7 @@ impl Roots {
         Ok(Roots { lists, numbers })
     }
 
-    /// Puts an entry at the end of the list of a number.
+    /// Appends an entry to the list with this number.
     pub(crate) fn put(&mut self, number: usize, entry: usize) -> Result<(), AllocError>
         requires { number < length self.old }
         ensures { OnOk result (PutsIn self.old self.new number entry) }
@@ -50,7 +50,7 @@ impl Roots {
         Ok(())
     }
 
-    /// Makes a list that of a number.
+    /// Copies the list with this number into `into`, replacing its contents.
     pub(crate) fn read(&self, number: usize, into: &mut Vec<usize>) -> Result<(), AllocError>
         requires { number < length self.now }
         ensures { OnOk result (into.new.items ≡ slice_index_or self.now number []) }
@@ -58,7 +58,7 @@ impl Roots {
         self.lists.read(self.numbers[number], into)
     }
 
-    /// For each list the number of an earlier one that is kept with it, or its own.
+    /// For each list the number of an earlier equal list that is stored for it, or its own number.
     pub(crate) fn twins(&self, alloc: Global) -> Result<Vec<usize>, AllocError>
         ensures { IfOk result (λ ts. AreTwins self.now ts.items) }
     {
@@ -73,7 +73,7 @@ impl Roots {
         Ok(twins)
     }
 
-    /// Of two lists the one that is kept for the first: the second, if it is an earlier one and the same.
+    /// The list to store for the first of two lists: the second if it is an earlier one and equal, else the first.
     fn twin(&self, number: usize, other: usize) -> usize
         requires { number < length self.now }
         ensures less { result ≤ number }

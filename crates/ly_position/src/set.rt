@@ -7,17 +7,17 @@ use crate::nfa::{Fork, Target};
 use ly_base::SparseSet;
 use std::alloc::{AllocError, Global};
 
-/// A set of positions, with room for the forks that a step comes through. All its room is made with it.
+/// A set of positions, with a buffer for the forks that a step visits. All memory is allocated with it.
 #[derive(Drop)]
 pub struct PositionSet {
     /// The members.
     positions: SparseSet,
-    /// The forks that the last step came through: a queue of those whose sides are still to be added.
+    /// The forks that the last step visited. They form a queue of those whose sides are still to be added.
     forks: SparseSet,
 }
 
 impl PositionSet {
-    /// The empty set for as many positions and forks, or that its room is refused.
+    /// Returns the empty set for this many positions and forks. Fails if memory runs out.
     pub(crate) fn new(alloc: Global, positions: usize, forks: usize) -> Result<Self, AllocError>
         ensures positions { IfOk result (λ s. s.positions ≡ record { below = positions; members = [] }) }
         ensures forks { IfOk result (λ s. s.forks ≡ record { below = forks; members = [] }) }
@@ -37,7 +37,7 @@ impl PositionSet {
         self.positions.members()
     }
 
-    /// Makes the members these positions.
+    /// Sets the members to these positions.
     pub fn fill(&mut self, positions: &[u32])
         requires { All (λ p. p < self.old.positions.below) positions.now }
         ensures { self.new ≡ record self.old {
@@ -48,7 +48,7 @@ impl PositionSet {
         self.positions.extend(positions);
     }
 
-    /// Takes out all members and forks.
+    /// Removes all members and forks.
     pub(crate) fn clear(&mut self)
         ensures { self.new ≡ record {
           positions = record self.old.positions { members = [] };
@@ -59,7 +59,7 @@ impl PositionSet {
         self.forks.clear();
     }
 
-    /// Adds where a run goes on: a position as a member, a fork to the queue.
+    /// Adds a target: a position as a member, a fork to the queue.
     pub(crate) fn put(&mut self, target: Target)
         requires { TargetWithin self.old.positions.below self.old.forks.below target }
         ensures added { self.new ≡ with_target self.old target }
@@ -72,7 +72,7 @@ impl PositionSet {
         };
     }
 
-    /// Adds all that the forks of the queue lead to. Each fork is looked at once.
+    /// Adds everything that the forks of the queue lead to. Each fork is visited once.
     pub(crate) fn follow(&mut self, forks: &[Fork])
         requires within { All (ForkWithin self.old.positions.below self.old.forks.below) forks.now }
         requires room { self.old.forks.below ≡ length forks.now }

@@ -4,12 +4,12 @@ use crate::lists::Lists;
 use std::alloc::{AllocError, Global};
 use std::marker::Model;
 
-/// Lists of numbers, of which one that is the same as an earlier one takes no room of its own.
+/// Lists of numbers. A list that is marked as equal to an earlier one is stored once.
 #[derive(Drop)]
 pub struct SharedLists {
-    /// The lists that take room.
+    /// The stored lists.
     kept: Lists,
-    /// For each list its number among these.
+    /// For each list its number among the stored ones.
     numbers: Vec<usize>,
 }
 
@@ -28,7 +28,7 @@ impl Model for SharedLists {
 }
 
 impl SharedLists {
-    /// No lists.
+    /// Returns no lists.
     pub(crate) fn new(alloc: Global) -> Self
         ensures { result ≡ [] }
     {
@@ -38,7 +38,7 @@ impl SharedLists {
         }
     }
 
-    /// How many lists there are.
+    /// The number of lists.
     pub(crate) fn len(&self) -> usize
         ensures { result ≡ length self.now }
     {
@@ -55,7 +55,7 @@ impl SharedLists {
         Ok(())
     }
 
-    /// Adds the list of a number once more.
+    /// Adds a list that equals the one with this number.
     pub(crate) fn push_again(&mut self, number: usize) -> Result<(), AllocError>
         requires { number < length self.old }
         ensures { OnOk result (self.new ≡ self.old ++ slice_index_or self.old number [] ∷ []) }
@@ -65,7 +65,7 @@ impl SharedLists {
         Ok(())
     }
 
-    /// The list of a number.
+    /// The list with this number.
     pub(crate) fn list(&self, number: usize) -> &[u32]
         requires { number < length self.now }
         ensures { result.now ≡ slice_index_or self.now number [] }

@@ -20,7 +20,7 @@ use ly_ere::Rule;
 use std::alloc::{AllocError, Global};
 use std::rc::RcSlice;
 
-/// The start lists: for each condition that of the middle of a line, then that of its beginning.
+/// Computes the start lists: for each condition the list within a line, then that at the start of a line.
 pub fn starts(
     alloc: Global,
     rules: &[Rule],
@@ -42,8 +42,8 @@ pub fn starts(
     followed(alloc, &roots, &twins, linked)
 }
 
-/// For each list of instructions the positions that these lead to by forks alone. A list that is the same as an earlier
-/// one isn't followed again.
+/// For each list of instructions the positions that these reach through forks alone. A list that equals an earlier one
+/// isn't followed again.
 fn followed(
     alloc: Global,
     roots: &Roots,
@@ -73,7 +73,7 @@ fn followed(
     Ok(lists)
 }
 
-/// Makes a set that of the positions that some instructions lead to by forks alone.
+/// Sets `set` to the positions that some instructions reach through forks alone.
 fn fill_from(set: &mut PositionSet, roots: &[usize], targets: &[Target], forks: &[Fork])
     requires forks { All (ForkWithin set.old.positions.below set.old.forks.below) forks.now }
     requires targets { All (TargetWithin set.old.positions.below set.old.forks.below) targets.now }
@@ -90,7 +90,7 @@ fn fill_from(set: &mut PositionSet, roots: &[usize], targets: &[Target], forks: 
     set.follow(forks);
 }
 
-/// For each start list the instructions at which its rules begin.
+/// For each start list the instructions where its rules begin.
 fn roots(
     alloc: Global,
     rules: &[Rule],
@@ -113,9 +113,9 @@ fn roots(
     Ok(roots)
 }
 
-/// The numbers of all rules, first those with the commonest list of conditions. That of a rule without `<..>` takes no
-/// room in the lex file: where such rules come first, their conditions' lists stay alike, and all that is put to lists
-/// behind them is no longer than the file.
+/// The numbers of all rules, those with the most common list of conditions first. If these are the rules without
+/// `<..>`, the lists of most conditions stay equal while they are added, and the entries added after them are bounded
+/// by the length of the lex file.
 fn common_first(alloc: Global, rules: &[Rule]) -> Result<Vec<usize>, AllocError>
     ensures { IfOk result (λ numbers. AreBelow (length rules.now) numbers.items) }
 {
@@ -133,8 +133,8 @@ fn common_first(alloc: Global, rules: &[Rule]) -> Result<Vec<usize>, AllocError>
     Ok(numbers)
 }
 
-/// The list of conditions that has more than half of all that rules have, where one does: what is left of it when each
-/// of another list takes away as much (Boyer and Moore 1991).
+/// The list of conditions that makes up more than half of the total length of the rules' lists, if there is one. It is
+/// found by majority vote, weighted by length (Boyer and Moore 1991).
 fn common_list(rules: &[Rule]) -> Option<&RcSlice<u32>> {
     let mut common: Option<&RcSlice<u32>> = None;
     let mut left = 0;
@@ -152,12 +152,12 @@ fn common_list(rules: &[Rule]) -> Option<&RcSlice<u32>> {
     common
 }
 
-/// Whether two lists of conditions are the same. One that is held in common isn't read for it.
+/// Whether two lists of conditions are equal. Shared lists aren't read.
 fn is_same(one: &RcSlice<u32>, other: &RcSlice<u32>) -> bool {
     RcSlice::ptr_eq(one, other) || one.as_slice() == other.as_slice()
 }
 
-/// Adds where a rule begins to the lists of its conditions.
+/// Adds the start of a rule to the lists of its conditions.
 fn add_rule(roots: &mut Roots, rule: &Rule, conditions: u32, entry: usize) -> Result<(), AllocError>
     requires { length roots.old ≡ 2 * conditions }
     ensures count { OnOk result (length roots.new ≡ length roots.old) }
@@ -173,7 +173,7 @@ fn add_rule(roots: &mut Roots, rule: &Rule, conditions: u32, entry: usize) -> Re
     Ok(())
 }
 
-/// Adds where a rule begins to the lists of a condition.
+/// Adds the start of a rule to the lists of a condition.
 fn add_root(
     roots: &mut Roots,
     condition: u32,

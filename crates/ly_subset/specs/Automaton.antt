@@ -1,10 +1,10 @@
--- Deterministic automata over classes of bytes, with partial moves (Hopcroft, Motwani, Ullman: Introduction to Automata
--- Theory, Languages, and Computation, 2.2).
+-- Deterministic automata over classes of bytes, with partial transitions (Hopcroft, Motwani, Ullman: Introduction to
+-- Automata Theory, Languages, and Computation, 2.2).
 use Rattle.std.specs.Prelude.{◌≡◌, ℕ, suc, ◌+◌, ◌*◌, ◌<◌, List, [], ◌∷◌, length, slice_get, slice_index_or}
 use Rattle.std.specs.Prelude.{Bool, Option, Some, None, option_and_then, nat_lt, if◌then◌else◌}
 
--- The class of each byte and how many classes there are; the accepted rule of each state, if it has one; and entries,
--- each a state or none: the starts, two for each condition, and then a row of all classes for each state.
+-- The class of each byte and the number of classes; the accepted rule of each state, if it has one; and entries, each a
+-- state or none: the starts, two for each condition, followed by a row of all classes for each state.
 pub record Automaton : Type 0 where
   pub class_of : List ℕ
   pub classes : ℕ
@@ -12,7 +12,7 @@ pub record Automaton : Type 0 where
   pub starts : ℕ
   pub entries : List (Option ℕ)
 
--- an entry, none past the last
+-- an entry; none past the last
 abbrev pub entry_at : List (Option ℕ) → ℕ → Option ℕ
 entry_at entries k = slice_index_or entries k None
 
@@ -24,7 +24,7 @@ pub record IsAutomaton (A : Automaton) : Type 0 where
   pub full : length A.entries ≡ A.starts + length A.rules * A.classes
   pub within : (k s : ℕ) → entry_at A.entries k ≡ Some s → s < length A.rules
 
--- where the start of a condition stands: first that in the middle of a line, then that where a line begins
+-- the index of a start of a condition: first that within a line, then that at the start of a line
 abbrev pub start_place : ℕ → Bool → ℕ
 start_place condition line = 2 * condition + (if line then 1 else 0)
 
@@ -33,11 +33,11 @@ abbrev pub start_of : Automaton → ℕ → Bool → Option ℕ
 start_of A condition line = if nat_lt (start_place condition line) A.starts
     then entry_at A.entries (start_place condition line) else None
 
--- where a class leads from a state
+-- the target of a state by a class
 abbrev pub next_by_class : Automaton → ℕ → ℕ → Option ℕ
 next_by_class A s c = entry_at A.entries (A.starts + (s * A.classes + c))
 
--- the state after a byte; none is a walk that has ended
+-- the state after a byte; none means that the walk has ended
 abbrev pub next_of : Automaton → Option ℕ → ℕ → Option ℕ
 next_of A None b = None
 next_of A (Some s) b = option_and_then (next_by_class A s) (slice_get A.class_of b)
@@ -74,13 +74,13 @@ abbrev pub AppearInOrder : List (Option ℕ) → Type 0
 AppearInOrder entries = (k t : ℕ) → entry_at entries k ≡ Some (suc t) → (j : ℕ) × (j < k)
     × (entry_at entries j ≡ Some t)
 
--- Numbers below a count in the order of their first appearance among the starts and then the rows of so many classes;
--- each has appeared before its row.
+-- Numbers below a count, in the order of their first appearance among the starts, followed by the rows of so many
+-- classes. Each appears before its row.
 pub record AreInOrder (starts classes count : ℕ) (entries : List (Option ℕ)) : Type 0 where
   pub within : (k s : ℕ) → entry_at entries k ≡ Some s → s < count
   pub in_order : AppearInOrder entries
   pub before_row : (s : ℕ) → s < count → (k : ℕ) × (k < starts + s * classes) × (entry_at entries k ≡ Some s)
 
--- states are numbered breadth first: in the order of their first appearance among the starts and then the rows
+-- states are numbered breadth first: in the order of their first appearance among the starts, then the rows
 abbrev pub IsBreadthFirst : Automaton → Type 0
 IsBreadthFirst A = AreInOrder A.starts A.classes (length A.rules) A.entries

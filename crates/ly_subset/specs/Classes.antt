@@ -11,8 +11,8 @@ AreReadAlike nfa a b = (p : ℕ) → ReadsByte nfa p a ↔ ReadsByte nfa p b
 abbrev pub class_at : List ℕ → ℕ → ℕ
 class_at class_of b = slice_index_or class_of b 0
 
--- Two bytes have one class exactly where each position reads both or neither; classes are numbered by their least
--- byte, which is the order in which they appear; and positions read nothing but bytes.
+-- Two bytes are in one class if and only if each position reads both or neither. Classes are numbered by their least
+-- byte, which is the order in which they appear. Positions read nothing but bytes.
 pub record AreClasses (nfa : Nfa) (class_of : List ℕ) (classes : ℕ) : Type 0 where
   pub bytes : length class_of ≡ 256
   pub alike : (a b : ℕ) → a < 256 → b < 256 → (class_at class_of a ≡ class_at class_of b) ↔ AreReadAlike nfa a b

@@ -1,4 +1,4 @@
--- Automata in memory.
+-- Automata as they are stored.
 use Rattle.std.specs.Prelude.{List, map, Option, option_map}
 use Rattle.ly_base.specs.Entry.{target_of}
 use Rattle.ly_base.specs.declared.entry.Entry.{Entry}

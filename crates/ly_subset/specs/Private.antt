@@ -1,4 +1,4 @@
--- What the contracts of private functions cite.
+-- Definitions for contracts of private functions.
 pub mod Chains
 pub mod Classes
 pub mod Found

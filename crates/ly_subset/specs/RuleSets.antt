@@ -1,4 +1,5 @@
--- The states of a scanner, over its rules alone: sets of positions of the patterns that can come next after a string.
+-- The states of a scanner in terms of its rules alone: sets of positions of the patterns that can come next after a
+-- string.
 use Rattle.std.specs.Prelude.{◌≡◌, ◌↔◌, ℕ, suc, ◌<◌, List, length, slice_get, Contains, Option, Some, None, All}
 use Rattle.std.specs.Prelude.{AllPairs}
 use Rattle.ly_ere.specs.Expression.{Expression}
@@ -21,7 +22,7 @@ HaveSameSpots names rules o u = (s : Spot) → IsSpotAfter names rules o s ↔ I
 abbrev pub HasSpot : List Expression → List Rule → ℕ → Beginning → Type 0
 HasSpot names rules conditions o = (o.condition < conditions) × ((s : Spot) × IsSpotAfter names rules o s)
 
--- More sets of spots than n can come next: after n + 1 strings, no set empty and no two the same.
+-- More than n sets of spots can come next: after n + 1 strings, none of the sets empty and no two equal.
 pub record HaveMoreSets (names : List Expression) (rules : List Rule) (conditions n : ℕ) : Type 0 where
   pub after : List Beginning
   pub count : length after ≡ suc n
@@ -32,9 +33,9 @@ pub record HaveMoreSets (names : List Expression) (rules : List Rule) (condition
 abbrev pub state_of : Automaton → Beginning → Option ℕ
 state_of A o = state_after A (start_of A o.condition o.line) o.text
 
--- The states are, one to one, the sets of spots that can come next, but the empty one: two strings lead to one state
--- exactly where the same spots can come next, a string leads nowhere exactly where none can, and some string leads to
--- each state.
+-- The states are, one to one, the nonempty sets of spots that can come next. Two strings lead to one state if and only
+-- if the same spots can come next, a string leads to no state if and only if none can, and some string leads to each
+-- state.
 pub record AreSpotSets (names : List Expression) (rules : List Rule) (conditions : ℕ) (A : Automaton) : Type 0 where
   pub within : (o : Beginning) (s : ℕ) → o.condition < conditions → state_of A o ≡ Some s → s < length A.rules
   pub nowhere : (o : Beginning) → o.condition < conditions
@@ -43,7 +44,7 @@ pub record AreSpotSets (names : List Expression) (rules : List Rule) (conditions
       → (state_of A o ≡ state_of A u) ↔ HaveSameSpots names rules o u
   pub each : (s : ℕ) → s < length A.rules → (o : Beginning) × (o.condition < conditions) × (state_of A o ≡ Some s)
 
--- the set of the spot has the byte
+-- the set of the spot contains the byte
 abbrev pub IsReadAt : List Expression → List Rule → Spot → ℕ → Type 0
 IsReadAt names rules s b = (r : Rule) × (slice_get rules s.rule ≡ Some r)
     × Contains (set_at (pattern_written names r.pattern) s.number) b

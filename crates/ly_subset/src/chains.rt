@@ -1,7 +1,7 @@
-// Where each part of a pattern may be left out, a set has most positions of the pattern, and so has the set that a byte
-// leads to. To join these anew for each set and class takes the square of the positions, for each class. But such
-// positions stand in a chain: after each, just those before it may come, down to where the chain begins. So the last
-// position of a set that reads a byte says at once what all that do lead to, which is kept as a run.
+// If each part of a pattern is optional, a set has most positions of the pattern, and so has the set that a byte leads
+// to. Joining the follow lists anew for each set and class takes quadratic time for each class. But such positions form
+// a chain: after each, exactly those before it may come, down to the start of the chain. So the last position of a set
+// that reads a byte determines the result of the step, a run of numbers, which is stored as such.
 ghost use Rattle.std.specs.Prelude.{◌≡◌, ◌<◌, ◌-◌, ◌≤◌, ◌^◌, ℕ, length, false, All, AllPairs, Contains, IfOk, IfSome};
 ghost use Rattle.std.specs.Prelude.{slice_index_or};
 ghost use Rattle.std.specs.Prelude.{MatchBool, MatchOption};
@@ -14,17 +14,17 @@ use crate::members::Members;
 use ly_position::PosNfa;
 use std::alloc::{AllocError, Global};
 
-/// Positions that stand in a row.
+/// A run of consecutive positions.
 #[derive(Clone, Copy)]
 pub(crate) struct Span {
-    /// The first.
+    /// The first position.
     pub(crate) first: u32,
-    /// The last.
+    /// The last position.
     pub(crate) last: u32,
 }
 
 impl Span {
-    /// How many there are.
+    /// The number of positions.
     pub(crate) fn len(self) -> usize
         ensures count { result ≡ length (run_of self.first self.last) }
         ensures fits { self.last < 2 ^ 32 }
@@ -32,7 +32,7 @@ impl Span {
         run_length(self.first, self.last)
     }
 
-    /// The one at a place.
+    /// The position at this index.
     pub(crate) fn at(self, place: usize) -> u32
         requires { place < length (run_of self.first self.last) }
         ensures { result ≡ slice_index_or (run_of self.first self.last) place 0 }
@@ -40,7 +40,7 @@ impl Span {
         run_number(self.first, self.last, place)
     }
 
-    /// Whether a position is one of them.
+    /// Whether a position is in the run.
     pub(crate) fn contains(self, number: u32) -> bool
         ensures { MatchBool result (Contains (run_of self.first self.last) number)
             (Contains (run_of self.first self.last) number → ⊥) }
@@ -49,7 +49,7 @@ impl Span {
     }
 }
 
-/// How many numbers there are from the first to the last.
+/// The number of integers from the first to the last.
 fn run_length(first: u32, last: u32) -> usize
     ensures count { result ≡ length (run_of first last) }
     ensures fits { last < 2 ^ 32 }
@@ -57,7 +57,7 @@ fn run_length(first: u32, last: u32) -> usize
     (last as usize + 1).saturating_sub(first as usize)
 }
 
-/// The number at a place of those from the first to the last.
+/// The integer at this index of those from the first to the last.
 fn run_number(first: u32, last: u32, place: usize) -> u32
     requires { place < length (run_of first last) }
     ensures { result ≡ slice_index_or (run_of first last) place 0 }
@@ -65,8 +65,8 @@ fn run_number(first: u32, last: u32, place: usize) -> u32
     first + place as u32
 }
 
-/// For each position the first of the chain that it goes on, or 0 where it goes on none: after each position of a
-/// chain, just those from before its first up to before the position may come.
+/// For each position the first one of its chain, or 0 if it is in no chain. For a position of a chain, exactly those
+/// from before the chain's first up to before the position itself may come after it.
 pub(crate) fn chains(alloc: Global, nfa: &PosNfa) -> Result<Vec<u32>, AllocError>
     ensures { IfOk result (λ f. AreChains nfa.now f.items) }
 {
@@ -79,7 +79,7 @@ pub(crate) fn chains(alloc: Global, nfa: &PosNfa) -> Result<Vec<u32>, AllocError
     Ok(firsts)
 }
 
-/// The first of the chain that a position goes on, by that of the position before it, or 0 where it goes on none.
+/// The first position of the chain of a position, given that of the position before it, or 0 if it is in no chain.
 fn first_of(nfa: &PosNfa, before: u32, number: usize) -> u32
     requires number { number < length nfa.now.positions }
     requires before { 0 < before → IsChain nfa.now before (number - 1) }
@@ -97,7 +97,8 @@ fn first_of(nfa: &PosNfa, before: u32, number: usize) -> u32
     }
 }
 
-/// The last of some rising positions that reads the byte, if there is one. `unread` is a byte that no position reads.
+/// The last of some ascending positions that reads the byte, if there is one. `unread` is a byte that no position
+/// reads.
 pub(crate) fn last_reader(nfa: &PosNfa, from: &Members, byte: u8, unread: Option<u8>) -> Option<u32>
     requires unread { IfSome unread (λ b. (p : ℕ) → ReadsByte nfa.now p b → ⊥) }
     requires from { All (λ p. p < length nfa.now.positions) (listed from.now) }
@@ -111,7 +112,7 @@ pub(crate) fn last_reader(nfa: &PosNfa, from: &Members, byte: u8, unread: Option
     }
 }
 
-/// The last of some rising positions that reads the byte, if there is one.
+/// The last of some ascending positions that reads the byte, if there is one.
 fn last_of(nfa: &PosNfa, from: &Members, byte: u8) -> Option<u32>
     requires from { All (λ p. p < length nfa.now.positions) (listed from.now) }
     requires rising { AllPairs (λ p q. p < q) (listed from.now) }
@@ -127,8 +128,8 @@ fn last_of(nfa: &PosNfa, from: &Members, byte: u8) -> Option<u32>
     None
 }
 
-/// The positions that may come after some rising ones once the byte is read, where a chain tells them. `last` is the
-/// last of them that reads it.
+/// The positions that may come after some ascending ones once the byte is read, if a chain determines them. `last` is
+/// the last of the given ones that reads it.
 pub(crate) fn span_after(
     nfa: &PosNfa,
     firsts: &[u32],
@@ -152,7 +153,7 @@ pub(crate) fn span_after(
     })
 }
 
-/// Whether one of some rising positions that are below a bound reads the byte.
+/// Whether one of some ascending positions below a bound reads the byte.
 fn reads_below(nfa: &PosNfa, from: &Members, byte: u8, bound: u32) -> bool
     requires from { All (λ p. p < length nfa.now.positions) (listed from.now) }
     requires rising { AllPairs (λ p q. p < q) (listed from.now) }

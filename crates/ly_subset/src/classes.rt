@@ -8,7 +8,7 @@ use ly_base::ByteSet;
 use ly_position::{PosNfa, Position};
 use std::alloc::{AllocError, Global};
 
-/// The classes of bytes that the same positions read.
+/// The partition of the bytes into classes. Two bytes are in one class if the same positions read them.
 #[derive(Drop)]
 pub(crate) struct ByteClasses {
     /// The class of each byte.
@@ -17,7 +17,7 @@ pub(crate) struct ByteClasses {
     pub(crate) least: Vec<u8>,
 }
 
-/// The classes of bytes that the same positions read, numbered by their least bytes.
+/// Computes the classes of bytes, numbered by their least bytes.
 pub(crate) fn byte_classes(alloc: Global, nfa: &PosNfa) -> Result<ByteClasses, AllocError>
     ensures classes { IfOk result (λ k. AreClasses nfa.now k.class_of.items (length k.least.items)) }
     ensures least { IfOk result (λ k. AreLeast k.class_of.items k.least.items) }
@@ -27,7 +27,7 @@ pub(crate) fn byte_classes(alloc: Global, nfa: &PosNfa) -> Result<ByteClasses, A
     Ok(ByteClasses { class_of, least })
 }
 
-/// The classes of all bytes: one class, split by the bytes that each position reads.
+/// The class of each byte: one class of all bytes, split by the bytes of each position in turn.
 fn split_by_all(alloc: Global, nfa: &PosNfa) -> Result<Vec<u8>, AllocError>
     ensures { IfOk result (λ c. IsSplitBy nfa.now (length nfa.now.positions) c.items) }
 {
@@ -55,7 +55,7 @@ fn split(class_of: &mut Vec<u8>, names: &mut Vec<Option<u8>>, position: &Positio
     }
 }
 
-/// Takes all names away.
+/// Clears all new numbers.
 fn clear(names: &mut Vec<Option<u8>>)
     ensures none { AreUnnamed names.new.items }
     ensures same { length names.new.items ≡ length names.old.items }
@@ -65,7 +65,7 @@ fn clear(names: &mut Vec<Option<u8>>)
     }
 }
 
-/// Names the classes anew, in the order of the bytes, by their old names and whether a byte is in the set.
+/// Renumbers the classes in the order of their bytes, by their old numbers and whether a byte is in the set.
 fn rename(class_of: &mut Vec<u8>, names: &mut Vec<Option<u8>>, bytes: &ByteSet)
     requires bytes { length class_of.old.items ≡ 256 }
     requires names { length names.old.items ≡ 512 }
@@ -116,7 +116,7 @@ pub(crate) fn unread_byte(nfa: &PosNfa, bytes: &[u8]) -> Option<u8>
     None
 }
 
-/// Whether a position reads the byte. It may say so where none does.
+/// Whether a position reads the byte. It may return true if none does.
 fn is_read(nfa: &PosNfa, byte: u8) -> bool
     ensures { result ≡ false → (p : ℕ) → ReadsByte nfa.now p byte → ⊥ }
 {

@@ -18,9 +18,9 @@ use ly_base::Limits;
 use ly_position::{PosNfa, PositionSet};
 use std::alloc::Global;
 
-/// The deterministic automaton of the sets of positions that strings lead to, from the starts of as many conditions.
+/// Builds the DFA from the sets of positions that strings lead to, with starts for this many conditions.
 ///
-/// `TooManyStates` comes where these sets are more than the limit, `OutOfMemory` where a growth was refused.
+/// Errors: `TooManyStates` if there are more sets than the limit, `OutOfMemory` if an allocation failed.
 pub fn subsets(
     alloc: Global,
     nfa: &PosNfa,
@@ -46,7 +46,7 @@ pub fn subsets(
     })
 }
 
-/// Enters the start sets of all conditions.
+/// Adds the start sets of all conditions.
 fn starts(nfa: &PosNfa, found: &mut Found, conditions: u32) -> Result<(), SubsetFault>
     requires found { (least : List ℕ) → IsFound nfa.now least found.old }
     requires none { length found.old.entries.items ≡ 0 }
@@ -66,7 +66,7 @@ fn starts(nfa: &PosNfa, found: &mut Found, conditions: u32) -> Result<(), Subset
     Ok(())
 }
 
-/// Enters the start set of a condition, where a line begins or elsewhere.
+/// Adds the start set of a condition, at the start of a line or elsewhere.
 fn start(
     nfa: &PosNfa,
     found: &mut Found,
@@ -90,7 +90,7 @@ fn start(
     found.enter(set)
 }
 
-/// Enters the rows of all states, those that they lead to among them.
+/// Adds the rows of all states, including those of states that are found on the way.
 fn rows(nfa: &PosNfa, found: &mut Found, least: &[u8]) -> Result<(), SubsetFault>
     requires found { IsFound nfa.now least.now found.old }
     requires starts { length found.old.entries.items ≡ found.old.starts }
@@ -118,21 +118,21 @@ fn rows(nfa: &PosNfa, found: &mut Found, least: &[u8]) -> Result<(), SubsetFault
     Ok(())
 }
 
-/// The automaton of positions, of which sets make a step by each class, with what makes the step short.
+/// The automaton of positions, with precomputed data that speeds up its steps.
 #[derive(Clone, Copy)]
 pub(crate) struct SetSteps<'a> {
     /// The automaton.
     pub(crate) nfa: &'a PosNfa,
     /// The least byte of each class.
     pub(crate) least: &'a [u8],
-    /// For each position the first of the chain that it goes on, or 0 where it goes on none.
+    /// For each position the first one of its chain, or 0 if it is in no chain.
     pub(crate) firsts: &'a [u32],
     /// A byte that no position reads, if there is one.
     pub(crate) unread: Option<u8>,
 }
 
 impl SetSteps<'_> {
-    /// Enters the row of a state: by the bytes of each class, what its set comes to.
+    /// Adds the row of a state: for each class the set that its bytes lead to.
     fn row(self, found: &mut Found, into: &mut PositionSet, state: usize) -> Result<(), SubsetFault>
         requires steps { AreSteps self }
         requires room { IsRoomFor self.nfa.now into.old }
@@ -156,7 +156,7 @@ impl SetSteps<'_> {
         Ok(())
     }
 
-    /// Enters what may come after some rising positions once the byte is read.
+    /// Adds the set of the positions that may come after some ascending ones once the byte is read.
     fn lead(
         self,
         found: &mut Found,

@@ -4,18 +4,18 @@ ghost use Rattle.std.specs.Prelude.{option_map};
 use ly_base::{Entry, RuleNo};
 use std::marker::Model;
 
-/// A deterministic automaton over classes of bytes. A step is the class of the byte and one index.
+/// A deterministic automaton over classes of bytes. A step looks up the class of the byte and one entry.
 #[derive(Drop)]
 pub struct Dfa {
     /// The class of each byte.
     pub(crate) class_of: Vec<u8>,
-    /// How many classes there are.
+    /// The number of classes.
     pub(crate) classes: usize,
-    /// For each state the accepted rule, if it has one.
+    /// The accepted rule of each state, if it has one.
     pub(crate) rules: Vec<Option<RuleNo>>,
-    /// How many of the entries are starts: two for each condition.
+    /// The number of entries that are starts: two for each condition.
     pub(crate) starts: usize,
-    /// The starts, and then a row of all classes for each state.
+    /// The starts, followed by a row of all classes for each state.
     pub(crate) entries: Vec<Entry>,
 }
 
@@ -36,7 +36,7 @@ impl Dfa {
     ghost use Rattle.ly_subset.specs.Automaton.{IsAutomaton, entry_at, next_by_class, next_of, rule_of, start_of};
     ghost use Rattle.ly_subset.specs.Dfa.{with_states};
 
-    /// How many states there are.
+    /// The number of states.
     pub fn len(&self) -> usize
         ensures count { result ≡ length self.now.rules }
         ensures whole { IsAutomaton self.now }
@@ -51,7 +51,7 @@ impl Dfa {
         self.rules.is_empty()
     }
 
-    /// How many classes of bytes there are.
+    /// The number of classes of bytes.
     pub fn classes(&self) -> usize
         ensures { result ≡ self.now.classes }
     {
@@ -66,7 +66,7 @@ impl Dfa {
         self.class_of[usize::from(byte)]
     }
 
-    /// How many starts there are: two for each condition.
+    /// The number of starts: two for each condition.
     pub fn starts(&self) -> usize
         ensures count { result ≡ self.now.starts }
         ensures within { result ≤ length self.now.entries }
@@ -74,7 +74,7 @@ impl Dfa {
         self.starts
     }
 
-    /// The start state of a condition, where a line begins or elsewhere, if it has one.
+    /// The start state of a condition, at the start of a line or elsewhere, if it has one.
     pub fn start(&self, condition: u32, at_line_start: bool) -> Option<u32>
         ensures state { result ≡ start_of self.now condition at_line_start }
         ensures within { IfSome result (λ s. s < length self.now.rules) }
@@ -87,7 +87,7 @@ impl Dfa {
         }
     }
 
-    /// Where a class of bytes leads from a state.
+    /// The target of a state by a class of bytes, if there is one.
     pub fn next(&self, state: u32, class: usize) -> Option<u32>
         requires state { state < length self.now.rules }
         requires class { class < self.now.classes }
@@ -97,7 +97,7 @@ impl Dfa {
         self.entries[self.starts + (state as usize * self.classes + class)].state()
     }
 
-    /// Where a byte leads from a state.
+    /// The target of a state by a byte, if there is one.
     pub fn step(&self, state: u32, byte: u8) -> Option<u32>
         requires { state < length self.now.rules }
         ensures state { result ≡ next_of self.now (Some state) byte }
@@ -106,7 +106,7 @@ impl Dfa {
         self.next(state, usize::from(self.class(byte)))
     }
 
-    /// The rule that is accepted at a state, if there is one.
+    /// The rule that a state accepts, if there is one.
     pub fn rule(&self, state: u32) -> Option<RuleNo>
         requires { state < length self.now.rules }
         ensures { option_map (λ r. r.0) result ≡ rule_of self.now (Some state) }
@@ -114,7 +114,7 @@ impl Dfa {
         self.rules[state as usize]
     }
 
-    /// The entry of an index: the starts, two for each condition, and then the rows of the states.
+    /// The entry at an index: the starts, two for each condition, followed by the rows of the states.
     pub fn entry(&self, index: usize) -> Option<u32>
         requires { index < length self.now.entries }
         ensures state { result ≡ entry_at self.now.entries index }
@@ -123,7 +123,7 @@ impl Dfa {
         self.entries[index].state()
     }
 
-    /// The automaton with the same classes and as many starts, but other states.
+    /// Returns an automaton with the same classes and number of starts, but other states.
     pub fn with_states(self, rules: Vec<Option<RuleNo>>, entries: Vec<Entry>) -> Dfa
         requires { IsAutomaton (with_states self rules.items entries.items) }
         ensures { result ≡ with_states self rules.items entries.items }

@@ -4,13 +4,13 @@ ghost use Rattle.ly_subset.specs.declared.fault.SubsetFault.TheVariants.{OutOfMe
 use std::alloc::{AllocError, AllocFailed};
 use thiserror::Error;
 
-/// Why positions get no subsets. Nothing is handed out then.
+/// Why the subset construction fails.
 #[derive(Clone, Copy, Debug, PartialEq, Eq, Error)]
 pub enum SubsetFault {
-    /// The sets of positions that strings lead to are more than the limit.
+    /// There are more sets of positions than the limit allows states.
     #[error("the scanner has too many states")]
     TooManyStates,
-    /// A growth was refused.
+    /// An allocation failed.
     #[error("out of memory")]
     OutOfMemory,
 }
@@ -18,7 +18,7 @@ pub enum SubsetFault {
 impl SubsetFault {
     ghost use Rattle.ly_subset.specs.FaultNames.{subset_name, subset_number};
 
-    /// The fault's number; want of memory has none.
+    /// The error number. `OutOfMemory` has none.
     pub fn number(&self) -> Option<u8>
         ensures { result ≡ subset_number self.now }
     {
@@ -28,7 +28,7 @@ impl SubsetFault {
         }
     }
 
-    /// The fault's name.
+    /// The name of the error.
     pub fn name(&self) -> &'static str
         ensures { result.now ≡ subset_name self.now }
     {

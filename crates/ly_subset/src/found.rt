@@ -13,23 +13,23 @@ use ly_base::Entry;
 use ly_position::PositionSet;
 use std::alloc::{AllocError, Global};
 
-/// The sets that were found, and the entries that lead to them.
+/// The sets found so far, and the entries that lead to them.
 #[derive(Drop)]
 pub(crate) struct Found {
-    /// Where room comes from.
+    /// The allocator.
     pub(crate) alloc: Global,
-    /// The sets, by the numbers of their states.
+    /// The sets, in the order of their states.
     pub(crate) keys: Sets,
-    /// The entries so far: starts, and then rows.
+    /// The entries so far: starts, then rows.
     pub(crate) entries: Vec<Entry>,
-    /// How many of the entries are starts.
+    /// The number of entries that are starts.
     pub(crate) starts: usize,
-    /// How many sets there may be.
+    /// The greatest number of sets.
     pub(crate) limit: u32,
 }
 
 impl Found {
-    /// Nothing is found yet.
+    /// Returns no sets and no entries.
     pub(crate) fn new(alloc: Global, starts: usize, limit: u32) -> Self
         ensures keys { result.keys ≡ [] }
         ensures entries { result.entries.items ≡ [] }
@@ -45,7 +45,7 @@ impl Found {
         }
     }
 
-    /// Appends the entry that leads to a set, which gets the next number where it is a new one.
+    /// Appends the entry that leads to a set. A new set gets the next number.
     pub(crate) fn enter(&mut self, set: &PositionSet) -> Result<(), SubsetFault>
         requires { AreKept set.now.positions.below self.old.limit self.old.keys }
         ensures entered { OnOk result (IsEntered self.old set.now.positions.members self.new) }
@@ -63,7 +63,7 @@ impl Found {
         self.enter_key(key)
     }
 
-    /// Appends the entry that leads to the set of a span.
+    /// Appends the entry that leads to the set of a run.
     pub(crate) fn enter_span(&mut self, span: Span) -> Result<(), SubsetFault>
         requires rises { span.first ≤ span.last }
         requires kept { SomeKept self.old.limit self.old.keys }
@@ -79,7 +79,7 @@ impl Found {
         self.enter_key(key)
     }
 
-    /// Appends an entry that leads nowhere.
+    /// Appends an entry without a target.
     pub(crate) fn enter_none(&mut self) -> Result<(), SubsetFault>
         ensures entered { OnOk result (IsEntered self.old [] self.new) }
         ensures keys { self.new.keys ≡ self.old.keys }
@@ -110,7 +110,7 @@ impl Found {
     }
 }
 
-/// The entry that leads to the set of a key, which is added where it is a new one.
+/// Returns the entry that leads to the set of a key, and adds the set if it is new.
 fn number(keys: &mut Sets, limit: u32, mut key: Vec<u32>) -> Result<Entry, SubsetFault>
     requires packed { IsPacked key.items }
     requires set { IsKeptSet (unpack key.items) }

@@ -1,27 +1,27 @@
 ghost use Rattle.ly_subset.specs.Laws.{ClassesOfRules, EntriesAreOne, MoreSetsOfRules, NoMoreSetsThanStates};
 ghost use Rattle.ly_subset.specs.Laws.{NumberedAreReached, SubsetsAreSpotSets, SubsetsAreTrim, WalksAgree};
 
-/// States that are numbered breadth first are reached.
+/// States that are numbered breadth first are reachable.
 pub fn numbered_are_reached()
     ensures { NumberedAreReached }
 {}
 
-/// The walk over the subsets ends in the least rule that a run over the positions has.
+/// A walk over the DFA ends in the least rule that a run over the positions reaches.
 pub fn walks_agree()
     ensures { WalksAgree }
 {}
 
-/// Where each position leads to an end mark, each state of the subsets is reached and leads to a rule.
+/// If each position leads to an end mark, each state of the DFA is reachable and leads to a rule.
 pub fn subsets_are_trim()
     ensures { SubsetsAreTrim }
 {}
 
-/// The states of the subsets are, one to one, the sets of positions of the patterns that can come next.
+/// The states of the DFA are, one to one, the sets of positions of the patterns that can come next.
 pub fn subsets_are_spot_sets()
     ensures { SubsetsAreSpotSets }
 {}
 
-/// An automaton that has the positions of rules has more sets than a number exactly where the rules have.
+/// An automaton that has the positions of rules has more than n sets if and only if the rules have.
 pub fn more_sets_of_rules()
     ensures { MoreSetsOfRules }
 {}
@@ -31,12 +31,12 @@ pub fn no_more_sets_than_states()
     ensures { NoMoreSetsThanStates }
 {}
 
-/// The classes of bytes are those that the same positions of the patterns read.
+/// Two bytes are in one class if and only if the same positions of the patterns read them.
 pub fn classes_of_rules()
     ensures { ClassesOfRules }
 {}
 
-/// The numbers of the states are determined: over the same classes, two such automata have the same entries.
+/// The numbers of the states are unique: over the same classes, two such automata have the same entries.
 pub fn entries_are_one()
     ensures { EntriesAreOne }
 {}

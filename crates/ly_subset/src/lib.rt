@@ -1,13 +1,22 @@
-//! From positions to a deterministic automaton: its states are the sets of positions that strings lead to.
+//! The subset construction: from positions to a deterministic automaton (Rabin and Scott 1959).
 //!
-//! `subsets` makes it (Rabin and Scott 1959), by the number of states that the limits allow. A `Dfa` has a row of
-//! entries for each state, one for each class of bytes that the same positions read, so a step is the class of the
-//! byte and one index. States are numbered breadth first; every state is reached and leads to a rule (`IsTrim`), and a
-//! walk ends in the least rule that a run over the positions has (`WalksAgree`). Over the rules alone, the states are
-//! the sets of positions of the patterns that can come next after some string (`AreSpotSets`), and their numbers are
-//! determined (`EntriesAreOne`).
+//! `subsets` builds a `Dfa`, within the limit on its states. A state is a set of positions that some string leads to.
+//! It has a row with one entry for each class of bytes that the same positions read. Proved: a walk ends in the least
+//! rule that a run over the positions reaches (`WalksAgree`), and every state is reachable and leads to a rule
+//! (`IsTrim`). The states are exactly the sets of positions that can come next after some string (`AreSpotSets`). They
+//! are numbered breadth first, so their numbers are unique (`EntriesAreOne`).
 //!
-//! Left out: states that no string tells apart are still two.
+//! The starts and rows are one list of entries, the starts first. The order of first appearance in it is the numbering
+//! of the states.
+//!
+//! A set is looked up by a hash of its members in ascending order, which are stored packed: as the first and last of
+//! each run if the runs are long, else as a bitmap of each block of 32 positions that has members. The form depends on
+//! the members alone, so equal sets have equal rows.
+//!
+//! For optional parts such as `a?b?c?` a step is found from one chain of positions instead of many follow lists, and a
+//! set that is one run isn't unpacked.
+//!
+//! Not covered: the DFA isn't minimal. `ly_minim` merges equivalent states.
 #![tactic(auto)]
 
 mod chains;

@@ -7,17 +7,17 @@ use crate::packed::numbers;
 use ly_position::{PosNfa, PositionSet};
 use std::alloc::{AllocError, Global};
 
-/// The positions of a set, in rising order. Those of a span aren't written out, since it may be as long as a pattern.
+/// The positions of a set in ascending order. A run isn't expanded, since it may be as long as a pattern.
 #[derive(Drop)]
 pub(crate) enum Members {
-    /// All positions of a span.
+    /// All positions of a run.
     Span(Span),
     /// The positions of a list.
     List(Vec<u32>),
 }
 
 impl Members {
-    /// How many there are.
+    /// The number of positions.
     pub(crate) fn len(&self) -> usize
         ensures { result ≡ length (listed self.now) }
     {
@@ -27,7 +27,7 @@ impl Members {
         }
     }
 
-    /// The one at a place.
+    /// The position at this index.
     pub(crate) fn at(&self, place: usize) -> u32
         requires { place < length (listed self.now) }
         ensures { result ≡ slice_index_or (listed self.now) place 0 }
@@ -38,7 +38,7 @@ impl Members {
         }
     }
 
-    /// Makes a set that of the positions that may come after these, once the byte is read.
+    /// Sets `into` to the positions that may come after these once the byte is read.
     pub(crate) fn step(
         &self,
         alloc: Global,

@@ -5,22 +5,22 @@ ghost use Rattle.ly_subset.specs.Private.Packed.{packed_with, run_of, run_with, 
 use crate::chains::Span;
 use std::alloc::{AllocError, Global};
 
-/// How many numbers a block has: as many as a word has bits.
+/// The number of bits in a block: those of a word.
 const BLOCK: u32 = 32;
 
 /// A list that is being packed by blocks.
 #[derive(Drop)]
 struct Packing {
-    /// The blocks that are done.
+    /// The finished blocks.
     row: Vec<u32>,
     /// The block of the last number.
     block: u32,
-    /// A bit for each of its numbers so far.
+    /// A bitmap of that block's numbers so far.
     bits: u32,
 }
 
 impl Packing {
-    /// Adds the number that comes next.
+    /// Adds the next number.
     fn add(&mut self, number: u32) -> Result<(), AllocError>
         ensures { OnOk result ((ns : List ℕ) → packed_with self.new ns ≡ packed_with self.old (number ∷ ns)) }
     {
@@ -35,19 +35,19 @@ impl Packing {
     }
 }
 
-/// A list whose runs are being packed.
+/// A list that is being packed by runs.
 #[derive(Drop)]
 struct Running {
-    /// The runs that are done.
+    /// The finished runs.
     row: Vec<u32>,
     /// The first number of the last run.
     first: u32,
-    /// Its last number so far.
+    /// The last number of the last run so far.
     last: u32,
 }
 
 impl Running {
-    /// Adds the number that comes next.
+    /// Adds the next number.
     fn add(&mut self, number: u32) -> Result<(), AllocError>
         ensures { OnOk result ((ns : List ℕ) → run_with self.new ns ≡ run_with self.old (number ∷ ns)) }
     {
@@ -61,15 +61,15 @@ impl Running {
     }
 }
 
-/// Whether a number is the one after another.
+/// Whether a number is the successor of another.
 fn is_next(before: u32, number: u32) -> bool
     ensures { result ≡ nat_eq number (before + 1) }
 {
     number > 0 && number - 1 == before
 }
 
-/// Packs a rising list by its runs where these are long, else by blocks, and says first which it is. So the row is at
-/// most three words longer than twice the list, and takes little more than two bits for each number that there is.
+/// Packs an ascending list by its runs if these are long, else by blocks. The first word of the row says which. The row
+/// is at most three words longer than twice the list, and takes little more than two bits for each possible number.
 pub(crate) fn pack(alloc: Global, numbers: &[u32]) -> Result<Vec<u32>, AllocError>
     ensures packed { IfOk result (λ r. r.items ≡ pack numbers.now) }
     ensures words { AreWords numbers.now }
@@ -81,7 +81,7 @@ pub(crate) fn pack(alloc: Global, numbers: &[u32]) -> Result<Vec<u32>, AllocErro
     }
 }
 
-/// The packed list of the numbers from the first of a span to its last.
+/// The packed list of the numbers of a run.
 pub(crate) fn pack_span(alloc: Global, span: Span) -> Result<Vec<u32>, AllocError>
     requires { span.first ≤ span.last }
     ensures packed { IfOk result (λ r. r.items ≡ 1 ∷ span.first ∷ span.last ∷ []) }
@@ -91,7 +91,7 @@ pub(crate) fn pack_span(alloc: Global, span: Span) -> Result<Vec<u32>, AllocErro
     Ok(row)
 }
 
-/// How often a number isn't the one after that before it.
+/// How often a number isn't the successor of the one before it.
 fn breaks(numbers: &[u32]) -> usize
     ensures { result ≡ breaks_of numbers.now }
 {
@@ -104,7 +104,7 @@ fn breaks(numbers: &[u32]) -> usize
     count
 }
 
-/// Packs by runs: for each its first and its last number.
+/// Packs by runs: the first and the last number of each.
 fn pack_runs(alloc: Global, numbers: &[u32]) -> Result<Vec<u32>, AllocError>
     ensures { IfOk result (λ r. r.items ≡ 1 ∷ pack_runs numbers.now) }
 {
@@ -126,7 +126,7 @@ fn pack_runs(alloc: Global, numbers: &[u32]) -> Result<Vec<u32>, AllocError>
     Ok(running.row)
 }
 
-/// Packs by blocks: for each that has members, its number and a bit for each.
+/// Packs by blocks: for each block with members, its number and a bitmap.
 fn pack_blocks(alloc: Global, numbers: &[u32]) -> Result<Vec<u32>, AllocError>
     ensures { IfOk result (λ r. r.items ≡ 0 ∷ pack_blocks numbers.now) }
 {
@@ -148,7 +148,7 @@ fn pack_blocks(alloc: Global, numbers: &[u32]) -> Result<Vec<u32>, AllocError>
     Ok(packing.row)
 }
 
-/// The list that was packed.
+/// Unpacks a list.
 pub(crate) fn unpack(alloc: Global, row: &[u32]) -> Result<Vec<u32>, AllocError>
     requires { AreWords (unpack row.now) }
     ensures { IfOk result (λ m. m.items ≡ unpack row.now) }
@@ -160,7 +160,7 @@ pub(crate) fn unpack(alloc: Global, row: &[u32]) -> Result<Vec<u32>, AllocError>
     }
 }
 
-/// The span of a packed list that is one run.
+/// Returns the run of a packed list that is a single run.
 pub(crate) fn unpack_run(row: &[u32]) -> Option<Span>
     ensures { IfSome result (λ s. run_of s.first s.last ≡ unpack row.now) }
 {
@@ -174,7 +174,7 @@ pub(crate) fn unpack_run(row: &[u32]) -> Option<Span>
     }
 }
 
-/// The numbers of a span.
+/// The numbers of a run.
 pub(crate) fn numbers(alloc: Global, span: Span) -> Result<Vec<u32>, AllocError>
     ensures { IfOk result (λ n. n.items ≡ run_of span.first span.last) }
 {
@@ -183,7 +183,7 @@ pub(crate) fn numbers(alloc: Global, span: Span) -> Result<Vec<u32>, AllocError>
     Ok(numbers)
 }
 
-/// The numbers of blocks.
+/// Unpacks blocks.
 fn unpack_blocks(alloc: Global, row: &[u32]) -> Result<Vec<u32>, AllocError>
     requires { AreWords (unpack_by members_of row.now) }
     ensures { IfOk result (λ m. m.items ≡ unpack_by members_of row.now) }
@@ -195,7 +195,7 @@ fn unpack_blocks(alloc: Global, row: &[u32]) -> Result<Vec<u32>, AllocError>
     Ok(numbers)
 }
 
-/// The numbers of runs.
+/// Unpacks runs.
 fn unpack_runs(alloc: Global, row: &[u32]) -> Result<Vec<u32>, AllocError>
     requires { AreWords (unpack_by run_of row.now) }
     ensures { IfOk result (λ m. m.items ≡ unpack_by run_of row.now) }

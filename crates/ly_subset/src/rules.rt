@@ -29,7 +29,7 @@ pub(crate) fn rules_of(
     Ok(rules)
 }
 
-/// The positions at which patterns end, as far as they have numbers of 32 bits.
+/// The positions that are end marks, as far as their numbers fit into 32 bits.
 fn ends(alloc: Global, nfa: &PosNfa) -> Result<Members, AllocError>
     ensures { IfOk result (λ e. AreEnds nfa.now (2 ^ 32) (listed e)) }
 {
@@ -43,7 +43,7 @@ fn ends(alloc: Global, nfa: &PosNfa) -> Result<Members, AllocError>
     Ok(Members::List(ends))
 }
 
-/// The least rule whose pattern ends at one of some positions. Of a long span only the ends are looked at.
+/// The least rule whose end mark is one of some positions. For a long run only the end marks are examined.
 fn rule_of(nfa: &PosNfa, ends: &Members, positions: &Members) -> Option<RuleNo>
     requires ends { AreEnds nfa.now (2 ^ 32) (listed ends.now) }
     requires positions { All (λ p. p < length nfa.now.positions) (listed positions.now) }
@@ -58,7 +58,7 @@ fn rule_of(nfa: &PosNfa, ends: &Members, positions: &Members) -> Option<RuleNo>
     least_end(nfa, positions, None)
 }
 
-/// The least rule whose pattern ends at one of some positions, those of a span alone if there is one.
+/// The least rule whose end mark is one of some positions, and in the run `within` if there is one.
 fn least_end(nfa: &PosNfa, positions: &Members, within: Option<Span>) -> Option<RuleNo>
     requires { All (λ p. p < length nfa.now.positions) (listed positions.now) }
     ensures { IsLeastRule (HasEndIn nfa.now within (listed positions.now)) (option_map (λ r. r.0) result) }
@@ -75,7 +75,7 @@ fn least_end(nfa: &PosNfa, positions: &Members, within: Option<Span>) -> Option<
     least
 }
 
-/// Whether a position is one of a span, if there is one.
+/// Whether a position is in a run, or there is no run.
 fn lies_in(span: Option<Span>, number: u32) -> bool
     ensures { MatchBool result (LiesIn span number) (LiesIn span number → ⊥) }
 {
@@ -85,7 +85,7 @@ fn lies_in(span: Option<Span>, number: u32) -> bool
     }
 }
 
-/// A rule, or a lesser one if there is one.
+/// The lesser of a rule and `least`, if there is one.
 fn lesser(least: Option<RuleNo>, rule: RuleNo) -> RuleNo
     ensures { result.0 ≡ lesser_rule (option_map (λ r. r.0) least) rule.0 }
 {

@@ -9,8 +9,8 @@ use crate::packed::{unpack, unpack_run};
 use std::alloc::{AllocError, Global};
 use std::marker::Model;
 
-/// Rising lists of numbers, numbered in the order in which they came and looked up by a hash. Each is kept as a packed
-/// row, so that many large ones take little room.
+/// Ascending lists of numbers, numbered in the order in which they were added and looked up by a hash. They are stored
+/// as packed rows, so that many large ones take little memory.
 #[derive(Drop)]
 pub(crate) struct Sets {
     /// The packed rows.
@@ -30,7 +30,7 @@ impl Model for Sets {
 }
 
 impl Sets {
-    /// No lists.
+    /// Returns no lists.
     pub(crate) fn new(alloc: Global) -> Self
         ensures { result ≡ [] }
     {
@@ -39,14 +39,14 @@ impl Sets {
         }
     }
 
-    /// How many lists there are.
+    /// The number of lists.
     pub(crate) fn len(&self) -> usize
         ensures { result ≡ length self.now }
     {
         self.rows.len()
     }
 
-    /// The list of a number.
+    /// The list with this number.
     pub(crate) fn members(&self, alloc: Global, number: usize) -> Result<Members, AllocError>
         requires { number < length self.now }
         ensures { IfOk result (λ m. listed m ≡ slice_index_or self.now number []) }
@@ -58,7 +58,7 @@ impl Sets {
         }
     }
 
-    /// The number of a packed list, if it is there.
+    /// The number of a packed list, if it exists.
     pub(crate) fn find(&self, row: &[u32]) -> Option<usize>
         requires { IsPacked row.now }
         ensures { MatchOption result (IsAbsent self.now (unpack row.now))
@@ -67,7 +67,7 @@ impl Sets {
         self.rows.find(row)
     }
 
-    /// Adds a packed list that isn't there, with the next number.
+    /// Adds a new packed list, with the next number.
     pub(crate) fn push(&mut self, row: Vec<u32>) -> Result<(), AllocError>
         requires packed { IsPacked row.items }
         requires absent { IsAbsent self.old (unpack row.items) }
