@@ -1,4 +1,4 @@
--- What contracts of private functions cite.
+-- Definitions for contracts of private functions.
 pub mod Blocks
 pub mod Groups
 pub mod Halves

@@ -13,13 +13,13 @@ use std::alloc::{AllocError, Global};
 pub(crate) struct Blocks {
     /// The block of each state.
     pub(crate) of: Vec<u32>,
-    /// How many blocks there are.
+    /// The number of blocks.
     pub(crate) count: usize,
 }
 
-/// The coarsest partition in which the states of a block have one rule, and each class leads from them to one block or
-/// nowhere. It is refined by halves (Hopcroft 1971), and then by rounds until one splits no block (Moore 1956), which
-/// the first does where the halves have left nothing to split.
+/// Computes the coarsest partition in which the states of a block have the same rule, and each class leads from all of
+/// them to one block or from none of them anywhere. It is refined by halves (Hopcroft 1971), then by rounds over all
+/// states until a round splits no block (Moore 1956). If the halves left nothing to split, the first round is the last.
 pub(crate) fn coarsest(alloc: Global, dfa: &Dfa) -> Result<Blocks, OutOfMemory>
     ensures blocks { IfOk result (λ b. AreBlocks (length dfa.now.rules) b.of.items b.count) }
     ensures stable { IfOk result (λ b. IsStable dfa.now b.of.items) }
@@ -39,7 +39,7 @@ pub(crate) fn coarsest(alloc: Global, dfa: &Dfa) -> Result<Blocks, OutOfMemory>
     }
 }
 
-/// The partition by what another one sees of each state.
+/// Splits the blocks of a partition by the signatures of their states.
 fn refine(alloc: Global, dfa: &Dfa, of: &[u32], states: u32) -> Result<Blocks, AllocError>
     requires states { states ≡ length dfa.now.rules }
     requires of { length of.now ≡ length dfa.now.rules }
@@ -58,7 +58,7 @@ fn refine(alloc: Global, dfa: &Dfa, of: &[u32], states: u32) -> Result<Blocks, A
     })
 }
 
-/// The number of a key, which gets the next one where it is new.
+/// The number of a key. A new key gets the next number.
 fn number(keys: &mut Keys, key: Vec<u32>) -> Result<usize, AllocError>
     ensures { IfOk result (IsNamed keys.old key.items keys.new) }
 {

@@ -4,17 +4,17 @@ ghost use Rattle.ly_minim.specs.Private.Groups.{AreChains, AreGrouped};
 use crate::links::Links;
 use std::alloc::{AllocError, Global};
 
-/// States by their keys: those of a key are a chain from the last one to the first.
+/// The states of each key, as a linked list from the last one to the first.
 #[derive(Drop)]
 pub(crate) struct Groups {
     /// The last state of each key.
     pub(crate) last: Links,
-    /// For each state the one before it that has its key.
+    /// For each state the previous one with the same key.
     pub(crate) before: Links,
 }
 
 impl Groups {
-    /// No state yet, and so many keys.
+    /// Returns no states, with this many keys.
     pub(crate) fn new(alloc: Global, keys: usize) -> Result<Self, AllocError>
         ensures keys { IfOk result (λ g. length g.last ≡ keys) }
         ensures chains { IfOk result (λ g. AreChains 0 g.last g.before) }
@@ -26,7 +26,7 @@ impl Groups {
         })
     }
 
-    /// The next state, which has the key if there is one.
+    /// Adds the next state, with its key if it has one.
     pub(crate) fn push(&mut self, state: u32, key: Option<u32>) -> Result<(), AllocError>
         requires state { state < u32.MAX }
         requires chains { AreChains state self.old.last self.old.before }

@@ -12,8 +12,8 @@ use crate::partition::Partition;
 use ly_subset::Dfa;
 use std::alloc::{AllocError, Global};
 
-/// A partition that is refined from another one by halves (Hopcroft 1971): whenever a block is split, the smaller half
-/// is kept, and later splits the blocks by what leads into it.
+/// Refines a partition by halves (Hopcroft 1971). Whenever a block is split, the smaller half is kept; later it splits
+/// the blocks by their transitions into it.
 pub(crate) fn refine_by_halves(
     alloc: Global,
     dfa: &Dfa,
@@ -46,7 +46,7 @@ pub(crate) fn refine_by_halves(
     })
 }
 
-/// The partition with the blocks of another one, and the halves that were split off for it.
+/// The partition with the given blocks, and the halves that were split off on the way.
 fn start_partition(
     alloc: Global,
     start: &Blocks,
@@ -70,7 +70,7 @@ fn start_partition(
     Ok(partition)
 }
 
-/// The states by their blocks.
+/// The states of each block.
 fn groups_of_blocks(alloc: Global, blocks: &Blocks, states: u32) -> Result<Groups, AllocError>
     requires { AreBlocks states blocks.now.of.items blocks.now.count }
     ensures keys { IfOk result (λ g. length g.last ≡ blocks.now.count) }
@@ -85,7 +85,7 @@ fn groups_of_blocks(alloc: Global, blocks: &Blocks, states: u32) -> Result<Group
     Ok(groups)
 }
 
-/// For each class the states by where it leads.
+/// For each class the states by their target.
 fn groups_by_class(alloc: Global, dfa: &Dfa, states: u32) -> Result<Vec<Groups>, AllocError>
     requires { states ≡ length dfa.now.rules }
     ensures { IfOk result (λ v. All (IsByClass dfa.now) v.items) }
@@ -97,7 +97,7 @@ fn groups_by_class(alloc: Global, dfa: &Dfa, states: u32) -> Result<Vec<Groups>,
     Ok(by_class)
 }
 
-/// The states by where a class leads.
+/// The states by their target by a class.
 fn groups_of_class(
     alloc: Global,
     dfa: &Dfa,

@@ -1,14 +1,19 @@
-//! From a deterministic automaton to the smallest one that gives every start and string the same rule.
+//! DFA minimisation: from a deterministic automaton to the minimal one that gives the same rule for every start and
+//! string.
 //!
-//! `minimise` makes it from the coarsest stable partition of the states. That is refined by halves (Hopcroft 1971):
-//! whenever a block is split, its smaller half is kept, and later splits the blocks by what leads into it. Rounds over
-//! all states (Moore 1956) follow until one splits nothing; that the halves leave nothing to them is not proved.
+//! `minimise` computes the coarsest stable partition of the states. It refines by halves (Hopcroft 1971): whenever a
+//! block is split, its smaller half is kept as a list of states, and later splits the blocks by their transitions into
+//! it. Each half has at most half of its block's states, so a state is in at most log n of them. Rounds over all states
+//! (Moore 1956) follow until one splits nothing. A round looks up each state's block by its signature: its block, its
+//! rule, and the blocks that its classes lead to. It is proved that the halves split only distinguishable states. That
+//! they leave nothing to the rounds isn't proved, and the result doesn't depend on it.
 //!
-//! Of an automaton whose states are reached and lead to rules, as a subset automaton's do, `minimise` gives a reduced
-//! one: its states are so too, and any two are told apart by a string (`IsReducedAutomaton`); so none with the same
-//! rules has fewer states (`Smallest`). States are numbered breadth first again, and classes stay.
+//! Proved: if each state of the input is reachable and leads to a rule, as in the automata of `ly_subset`, the result
+//! is reduced: this holds of it too, and any two of its states are distinguished by a string (`IsReducedAutomaton`). No
+//! automaton with the same rules has fewer states (`Smallest`). The states are again numbered breadth first, and the
+//! classes of bytes are unchanged.
 //!
-//! Left out: bytes that no state tells apart any more keep classes of their own.
+//! Not covered: classes of bytes that no state distinguishes any more aren't merged.
 #![tactic(auto)]
 
 mod blocks;

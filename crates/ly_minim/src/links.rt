@@ -5,7 +5,7 @@ use ly_base::Entry;
 use std::alloc::{AllocError, Global};
 use std::marker::Model;
 
-/// A list of links, each to a number or to none. Four bytes each, since there is one for each state and class.
+/// A list of links, each to a number or to none. A link takes four bytes, since there is one for each state and class.
 #[derive(Drop)]
 pub(crate) struct Links {
     /// The links.
@@ -22,7 +22,7 @@ impl Model for Links {
 }
 
 impl Links {
-    /// No link yet.
+    /// Returns no links.
     pub(crate) fn new(alloc: Global) -> Links
         ensures { result ≡ [] }
     {
@@ -31,7 +31,7 @@ impl Links {
         }
     }
 
-    /// So many links, each to none.
+    /// Returns this many links, each to none.
     pub(crate) fn none(alloc: Global, count: usize) -> Result<Links, AllocError>
         ensures count { IfOk result (λ l. length l ≡ count) }
         ensures none { IfOk result (λ l. (k : ℕ) → entry_at l k ≡ None) }
@@ -41,7 +41,7 @@ impl Links {
         })
     }
 
-    /// The link at a place.
+    /// The link at an index.
     pub(crate) fn get(&self, place: usize) -> Option<u32>
         requires { place < length self.now }
         ensures { result ≡ entry_at self.now place }
@@ -49,7 +49,7 @@ impl Links {
         self.entries[place].state()
     }
 
-    /// Makes the link at a place one to a number.
+    /// Sets the link at an index.
     pub(crate) fn set(&mut self, place: usize, number: u32)
         requires place { place < length self.old }
         requires number { number < u32.MAX }

@@ -9,8 +9,8 @@ use ly_base::{OutOfMemory, RuleNo};
 use ly_subset::Dfa;
 use std::alloc::{AllocError, Global};
 
-/// An automaton that gives every start and string the same rule: the smallest, where each state of the first is reached
-/// and leads to a rule. It fails where memory runs out.
+/// Returns an automaton that gives the same rule for every start and string. It is minimal if each state of the input
+/// is reachable and leads to a rule. Fails if memory runs out.
 pub fn minimise(alloc: Global, dfa: Dfa) -> Result<Dfa, OutOfMemory>
     ensures same { IfOk result (HaveSameRules dfa) }
     ensures reduced { IsTrim dfa → IfOk result IsReducedAutomaton }

@@ -7,34 +7,35 @@ ghost use Rattle.ly_minim.specs.Private.Partition.{IsFiner, IsMarked, IsMarking,
 use crate::groups::Groups;
 use std::alloc::{AllocError, Global};
 
-/// A partition of the states into blocks whose marked states can be split off (Valmari 2012).
+/// A partition of the states into blocks. States can be marked, and the marked states of a block split off (Valmari
+/// 2012).
 #[derive(Drop)]
 pub(crate) struct Partition {
-    /// The states, block by block, and in each block the marked ones first.
+    /// The states, block by block. The marked states of a block come first.
     pub(crate) states: Vec<u32>,
-    /// Where each state stands among them.
+    /// The index of each state in `states`.
     pub(crate) place: Vec<usize>,
     /// The block of each state.
     pub(crate) of: Vec<u32>,
-    /// Where each block begins.
+    /// The start of each block.
     pub(crate) first: Vec<usize>,
-    /// Where the marked states of each block end.
+    /// The end of the marked states of each block.
     pub(crate) middle: Vec<usize>,
-    /// Where each block ends.
+    /// The end of each block.
     pub(crate) end: Vec<usize>,
 }
 
-/// Some states that stand one behind another.
+/// A range of `states`.
 #[derive(Clone, Copy)]
 struct Run {
-    /// Where they begin.
+    /// The start.
     first: usize,
-    /// Where they end.
+    /// The end.
     end: usize,
 }
 
 impl Partition {
-    /// All states in one block.
+    /// Returns one block with all states.
     pub(crate) fn whole(alloc: Global, states: u32) -> Result<Self, AllocError>
         requires { 0 < states }
         ensures laid { IfOk result IsPartition }
@@ -61,7 +62,7 @@ impl Partition {
         Ok(partition)
     }
 
-    /// Splits each block in the states that have one of the keys and the rest, and appends the smaller half of each.
+    /// Splits each block into the states that have one of the keys and the rest. Appends the smaller half of each.
     pub(crate) fn split_by(
         &mut self,
         alloc: Global,
@@ -96,7 +97,7 @@ impl Partition {
         Ok(())
     }
 
-    /// Marks the states of a key, and appends the blocks that had no marked state.
+    /// Marks the states of a key. Appends the blocks that had no marked state.
     fn mark_group(
         &mut self,
         groups: &Groups,
@@ -127,7 +128,7 @@ impl Partition {
         Ok(())
     }
 
-    /// Marks a state: it changes places with the first of its block that isn't marked.
+    /// Marks a state: it is swapped with the first unmarked state of its block.
     fn mark(&mut self, state: u32)
         requires laid { IsPartition self.old }
         requires state { state < length self.old.of.items }
@@ -146,8 +147,8 @@ impl Partition {
         }
     }
 
-    /// Splits a block in its marked states and the rest, if it has both, and appends the smaller half; afterwards none
-    /// of them is marked.
+    /// Splits a block into its marked states and the rest, if it has both, and appends the smaller half. Afterwards
+    /// none of them is marked.
     fn split(
         &mut self,
         alloc: Global,

@@ -10,18 +10,18 @@ use ly_base::{Entry, OutOfMemory};
 use ly_subset::Dfa;
 use std::alloc::{AllocError, Global};
 
-/// A state for each block that was met, numbered in the order in which they were met.
+/// A state for each block that was visited, numbered in the order of the visits.
 #[derive(Drop)]
 pub(crate) struct Quotient {
-    /// For each block the state's number, if it was met.
+    /// For each block the number of its state, if it was visited.
     numbers: Links,
-    /// For each number a state of its block.
+    /// For each number a representative: a state of its block.
     pub(crate) picked: Vec<u32>,
-    /// The entries so far: starts, and then rows.
+    /// The entries so far: starts, then rows.
     pub(crate) entries: Vec<Entry>,
 }
 
-/// The blocks that are met from the starts, numbered breadth first, and the entries between them.
+/// Visits the blocks breadth first from the starts, numbers them, and records the entries between them.
 pub(crate) fn blocks_met(alloc: Global, dfa: &Dfa, blocks: &Blocks) -> Result<Quotient, OutOfMemory>
     requires { AreBlocks (length dfa.now.rules) blocks.now.of.items blocks.now.count }
     ensures quotient { IfOk result (IsQuotient dfa.now blocks.now.of.items) }
@@ -46,7 +46,7 @@ pub(crate) fn blocks_met(alloc: Global, dfa: &Dfa, blocks: &Blocks) -> Result<Qu
 }
 
 impl Quotient {
-    /// Enters the row of a state: what the classes lead to from the state that was picked for it.
+    /// Adds the row of a state: the targets of its representative by each class.
     fn row(&mut self, dfa: &Dfa, blocks: &Blocks, state: usize) -> Result<(), AllocError>
         requires blocks { AreBlocks (length dfa.now.rules) blocks.now.of.items blocks.now.count }
         requires quotient { IsQuotient dfa.now blocks.now.of.items self.old }
@@ -81,7 +81,7 @@ impl Quotient {
         Ok(())
     }
 
-    /// The number of the block of a state. A block that wasn't met gets the next one, and the state stands for it.
+    /// The number of the block of a state. A new block gets the next number, with the state as its representative.
     fn number(&mut self, blocks: &Blocks, state: u32) -> Result<u32, AllocError>
         requires numbered { AreNumbered blocks.now self.old }
         requires state { state < length blocks.now.of.items }

@@ -6,7 +6,7 @@ use ly_base::OutOfMemory;
 use ly_subset::Dfa;
 use std::alloc::{AllocError, Global};
 
-/// What a partition sees of a state: its block, its rule, and the blocks that the classes lead to.
+/// The signature of a state under a partition: its block, its rule, and the blocks that its classes lead to.
 pub(crate) fn signature(
     alloc: Global,
     dfa: &Dfa,
@@ -27,7 +27,7 @@ pub(crate) fn signature(
     Ok(key)
 }
 
-/// Appends whether there is a number, and the number.
+/// Appends whether there is a number, then the number.
 fn push_marked(key: &mut Vec<u32>, number: Option<u32>) -> Result<(), AllocError>
     ensures { OnOk result (key.new.items ≡ key.old.items ++ marked number) }
 {
@@ -44,7 +44,7 @@ fn push_marked(key: &mut Vec<u32>, number: Option<u32>) -> Result<(), AllocError
     Ok(())
 }
 
-/// The block that a class leads to from a state.
+/// The block that a class leads to from a state, if it leads anywhere.
 fn block_after(dfa: &Dfa, of: &[u32], state: u32, class: usize) -> Option<u32>
     requires state { state < length dfa.now.rules }
     requires class { class < dfa.now.classes }

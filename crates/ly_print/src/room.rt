@@ -46,7 +46,7 @@ pub(crate) fn put_quoted(room: &mut [u8], at: usize, label: &Front<'_>, text: &F
 /// Writes a label and a text into `room` at `at`, if the label is short and the text fits. Returns the position after
 /// them. A short text without escapes is copied as one block. If nothing is written, the bytes before `at` are
 /// unchanged.
-#[inline(always)] // so that the loop that prints has the registers
+#[inline(always)] // leaves the registers to the loop that prints
 pub(crate) fn put_short(
     room: &mut [u8],
     at: usize,
@@ -112,7 +112,7 @@ fn put_text(room: &mut [u8], at: usize, text: &Front<'_>) -> usize
 
 /// Writes the first `count` bytes as the inside of a double-quoted string into `room` at `at`. Bytes without an escape
 /// are copied run by run. Returns the position after them.
-#[inline(never)] // so that a text without an escape has the registers
+#[inline(never)] // leaves the registers to a text without an escape
 fn put_runs(room: &mut [u8], at: usize, bytes: &[u8], count: usize) -> usize
     requires within { count ≤ length bytes.now }
     requires room { at + 4 * count + 16 ≤ length room.old }

@@ -100,7 +100,7 @@ impl TextWriter {
     /// Appends a label.
     ///
     /// Fails if the writer fails.
-    #[inline(always)] // so that the loop that prints has the registers
+    #[inline(always)] // leaves the registers to the loop that prints
     pub fn push_label<W: Sink>(&mut self, writer: &mut W, label: &Label) -> Result<(), WriteFault>
         requires countable { bytes_of self.old + length label.now < 2 ^ 64 }
         ensures text { IsAppended self.old self.new (W.contents writer.old) (W.contents writer.new) label.now result }
@@ -121,7 +121,7 @@ impl TextWriter {
     /// if the label is made by `Label::before_leaf`.
     ///
     /// Fails if the writer fails.
-    #[inline(always)] // so that the loop that prints has the registers
+    #[inline(always)] // leaves the registers to the loop that prints
     pub fn push_quoted<W: Sink>(
         &mut self,
         writer: &mut W,
@@ -276,7 +276,7 @@ impl TextWriter {
     }
 
     /// Appends a label of any length.
-    #[inline(never)] // so that a short one has the registers
+    #[inline(never)] // leaves the registers to a short one
     fn push_long_label<W: Sink>(&mut self, writer: &mut W, label: &Label) -> Result<(), WriteFault>
         requires countable { bytes_of self.old + length label.now < 2 ^ 64 }
         ensures text { IsAppended self.old self.new (W.contents writer.old) (W.contents writer.new) label.now result }
@@ -288,7 +288,7 @@ impl TextWriter {
     }
 
     /// Appends a label and the first `count` bytes as `push_quoted` does, of any length and with any escapes.
-    #[inline(never)] // so that a short text has the registers
+    #[inline(never)] // leaves the registers to a short text
     fn push_long<W: Sink>(
         &mut self,
         writer: &mut W,
@@ -315,7 +315,7 @@ impl TextWriter {
 
     /// Appends a line of a label and the first `count` bytes as `push_quoted_line` does, of any length and with any
     /// escapes.
-    #[inline(never)] // so that a short text has the registers
+    #[inline(never)] // leaves the registers to a short text
     fn push_long_line<W: Sink>(
         &mut self,
         writer: &mut W,

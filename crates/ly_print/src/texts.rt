@@ -62,7 +62,7 @@ impl Texts {
     }
 
     /// Appends a text as one block, if it has at most 16 bytes and fits. Returns the offset where it begins.
-    #[inline(always)] // by a call a token takes a tenth more instructions
+    #[inline(always)] // a call would cost a tenth more instructions for each token
     pub fn push_block(&mut self, text: &Front<'_>) -> Option<u32>
         ensures begins { IfSome result (λ start. start ≡ length self.old) }
         ensures short { IfSome result (λ _. length text.now ≤ 16) }
@@ -94,7 +94,7 @@ impl Texts {
     }
 
     /// Appends the first `count` bytes, however many they are.
-    #[inline(never)] // so that a short text has the registers
+    #[inline(never)] // leaves the registers to a short text
     fn push_long(&mut self, bytes: &[u8], count: usize) -> Result<(), AllocError>
         requires { count ≤ length bytes.now }
         ensures ok { OnOk result (self.new ≡ self.old ++ take count bytes.now) }

@@ -1,4 +1,4 @@
--- What the state tells of a lexeme where its walk ends.
+-- Lexemes that are determined by the state where their walk ends.
 use Rattle.std.specs.Prelude.{◌≡◌, ◌≢◌, ℕ, List, Bool, Option, Some, None, false, true, get_or, if◌then◌else◌, map}
 use Rattle.ly_base.specs.Lexed.{Place}
 use Rattle.ly_base.specs.declared.cut.Cut.{Cut}
@@ -15,7 +15,7 @@ is_whole Whole = true
 is_whole (Head len) = false
 is_whole (Tail len) = false
 
--- the fact of a state by its rule: that of the rule, if no part of its matches is cut off
+-- the fact of a state with this rule: that of the rule, if it has no trailing context
 abbrev pub fact_by : StateTable → List ℕ → Option RuleNo → ℕ
 fact_by t by_rule None = 0
 fact_by t by_rule (Some rule) = if is_whole (cut_at t rule.0) then get_or by_rule rule.0 0 else 0
@@ -24,8 +24,8 @@ fact_by t by_rule (Some rule) = if is_whole (cut_at t rule.0) then get_or by_rul
 abbrev pub facts_by : StateTable → List ℕ → List ℕ
 facts_by t by_rule = map (fact_by t by_rule) t.rules
 
--- A lexeme stands at a place, whatever comes behind the bytes that are known, and this is told of it: how many bytes
--- are taken, and the fact of its rule.
+-- The place has a lexeme, whatever bytes follow the known ones. Told has the number of bytes taken and the fact of its
+-- rule.
 pub record IsTold (s : Scanner) (by_rule : List ℕ) (q : Place) (told : Told) : Type 0 where
   pub lexeme : Lexeme
   pub stands : StandsFast false s q lexeme

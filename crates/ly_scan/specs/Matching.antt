@@ -1,4 +1,4 @@
--- What a match says.
+-- The meaning of a match.
 use Rattle.std.specs.Prelude.{◌≡◌, ℕ, List, Some, None, length}
 use Rattle.ly_scan.specs.declared.matching.Match.{Match}
 use Rattle.ly_scan.specs.declared.matching.Match.TheVariants.{Win, BadCut, Stuck}
@@ -6,7 +6,7 @@ use Rattle.ly_base.specs.declared.cut.Cut.{Cut}
 use Rattle.ly_scan.specs.Cuts.{token_len}
 use Rattle.ly_scan.specs.Walk.{Walk, IsLongest, HasNone}
 
--- the match is the longest walk that has a rule, with the rule's cut
+-- the match is the longest prefix whose walk has a rule, with the rule's cut
 abbrev pub IsMatch : Walk → (ℕ → Cut) → List ℕ → Match → Type 0
 IsMatch walk cut text (Win rule matched len) =
     IsLongest walk text (length text) matched rule.0 × (token_len (cut rule.0) matched ≡ Some len)

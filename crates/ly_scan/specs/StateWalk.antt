@@ -3,28 +3,28 @@ use Rattle.std.specs.Prelude.{◌≡◌, ◌++◌, ℕ, List, [], ◌∷◌, Boo
 use Rattle.std.proofs.Common.{◌∙◌, ap}
 use Rattle.ly_scan.specs.Walk.{Walk}
 
--- States: where a condition begins, at the start of a line or not; where a byte leads from a state; and the rule of a
+-- States: the start of a condition, at the start of a line or not; the target of a byte from a state; and the rule of a
 -- state, if it has one.
 pub record States : Type 0 where
   pub start : ℕ → Bool → Option ℕ
   pub next : ℕ → ℕ → Option ℕ
   pub rule : ℕ → Option ℕ
 
--- each condition begins in one state, at the start of a line or not
+-- each condition has the same start at the start of a line and elsewhere
 abbrev pub MindsNoLine : States → Type 0
 MindsNoLine S = (condition : ℕ) → S.start condition true ≡ S.start condition false
 
--- the state after a string; none is a walk that has ended
+-- the state after a string; none means that the walk has ended
 abbrev pub state_after : States → Option ℕ → List ℕ → Option ℕ
 state_after S s [] = s
 state_after S s (b ∷ text) = state_after S (option_and_then (λ state. S.next state b) s) text
 
--- what a walk that came to a state says: it has ended where there is none
+-- the result of a walk in a state; without a state it has ended
 abbrev pub says : States → Option ℕ → Option (Option ℕ)
 says S None = None
 says S (Some s) = Some (S.rule s)
 
--- what the walk says of the bytes that come, from a state
+-- the results of the walk for the bytes that follow a state
 abbrev pub ahead_of : States → Option ℕ → Walk
 ahead_of S s text = says S (state_after S s text)
 
@@ -45,7 +45,7 @@ none_from_said : (S : States) (s : Option ℕ) → says S s ≡ None → s ≡ N
 none_from_said S None e = refl
 none_from_said S (Some s) e = cc
 
--- a walk that has ended stays so
+-- a walk that has ended stays ended
 pub ahead_of-ended : (S : States) (s : Option ℕ) (t u : List ℕ) → ahead_of S s t ≡ None
     → ahead_of S s (t ++ u) ≡ None
 ahead_of-ended S s t u h

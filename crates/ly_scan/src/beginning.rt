@@ -5,39 +5,39 @@ ghost use Rattle.ly_scan.specs.declared.state_rows.RowStart.{RowStart as start};
 use crate::state_rows::RowStart;
 use ly_base::Place;
 
-/// Where walks of the initial condition begin, looked up before a loop over lexemes. A loop is compiled for each kind
-/// of it, so that what one doesn't ask for takes no register.
+/// The start of walks in the initial condition, looked up once before a loop over lexemes. The loop is compiled for
+/// each implementation, so it uses no registers for what it doesn't need.
 pub trait Beginning {
-    /// Where they begin, at the start of a line or not.
+    /// The start, at the start of a line or not.
     ghost begun: { Self → Bool → start };
 
-    /// Where a walk begins at a place.
+    /// The start of a walk at this place.
     fn start(&self, place: &Place<'_>) -> RowStart
         ensures { result ≡ begun self.now place.now.line };
 }
 
-/// One place, at the start of a line or not.
+/// One start for all places, at the start of a line or not.
 #[derive(Clone, Copy)]
 pub struct Anywhere {
-    /// The place.
+    /// The start.
     pub(crate) start: RowStart,
 }
 
 impl Beginning for Anywhere {
     ghost begun = { anywhere };
 
-    #[inline(always)] // so that a loop has the registers
+    #[inline(always)] // leaves the registers to a loop
     fn start(&self, _place: &Place<'_>) -> RowStart {
         self.start
     }
 }
 
-/// Two places, for lines may matter.
+/// Two starts, for scanners with rules that depend on the start of a line.
 #[derive(Clone, Copy)]
 pub struct ByLine {
-    /// That at the start of a line.
+    /// The start at the start of a line.
     pub(crate) at_line: RowStart,
-    /// That elsewhere.
+    /// The start elsewhere.
     pub(crate) elsewhere: RowStart,
 }
 
@@ -54,8 +54,8 @@ impl Beginning for ByLine {
 }
 
 impl ByLine {
-    /// That at the start of a line.
-    #[inline(never)] // so that a branch asks for it, which is mostly guessed right: else it is computed for each lexeme
+    /// The start at the start of a line.
+    #[inline(never)] // keeps it in a branch, which is mostly predicted right; else it is computed each time
     fn at_line_start(&self) -> RowStart
         ensures { result ≡ self.now.at_line }
     {

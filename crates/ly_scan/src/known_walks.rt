@@ -11,47 +11,47 @@ use std::alloc::Global;
 use std::collections::HashMap;
 use std::marker::Model;
 
-/// Where a walk has stood: the number of that, and how many bytes of the text were left.
+/// A stand of a walk: the number of its state, and the number of bytes of the text that were left.
 type Stand = (usize, usize);
 
 /// The length of the longest match and its rule, if there is one.
 pub(crate) type Longest = Option<(usize, RuleNo)>;
 
-/// A walk stands at a place that may be known wherever a multiple of so many bytes is left.
+/// Matches are cached only for stands with a multiple of this many bytes left.
 const STRIDE: usize = 16;
 
-/// A walk notes where it stands each time that it has become longer by this part of its length. So it notes few places,
-/// and one that comes behind it by some bytes meets one of them before it has gone that part of those bytes.
+/// A walk records a stand each time its length has grown by this fraction. So it records few stands. A walk that starts
+/// a few bytes later meets one of them before it has gone that fraction of those bytes.
 const PART: usize = 4;
 
-/// How many matches are kept before one of them has to be met.
+/// The number of matches that are cached before one of them has to be hit.
 const TRUST: usize = 1 << 18;
 
-/// How many more are kept for each that was met.
+/// The number of further matches that may be cached for each hit.
 const PAY: usize = 64;
 
-/// How many are kept at most, beside one for each `STRIDE` bytes that are left.
+/// The greatest number of cached matches, in addition to one for each `STRIDE` bytes that are left.
 const MOST: usize = 1 << 19;
 
-/// At how many the first are given up that can't be met any more.
+/// The number of cached matches at which those that can't be hit any more are first dropped.
 const FULL: usize = 1 << 10;
 
-/// The longest matches that are known over one text, from where walks have stood on: so no walk goes on where one has
-/// gone before, and a text on which longer matches fail again and again takes no more time than it is long (Reps 1998).
-/// What is kept is bounded by the text, and where nothing is met again little is kept.
+/// A cache of the longest matches in one text, by the stands that walks have passed. A walk stops when it meets a
+/// cached stand. So scanning takes linear time, even if long walks fail again and again (Reps 1998). The size of the
+/// cache is bounded by the text, and it stays small if nothing is hit.
 ///
-/// Where memory for it is refused, all is forgotten, and matches are found all the same.
+/// If memory runs out, the cache is cleared, and the matches found are the same.
 #[derive(Drop)]
 pub struct KnownWalks {
-    /// For each stand of which that is known the longest match from there.
+    /// For each cached stand the longest match from there.
     found: HashMap<Stand, Longest>,
-    /// Where the last walk has stood.
+    /// The stands of the last walk.
     trail: Vec<Stand>,
-    /// How many bytes are left at the last place of which something is known. Where nothing is, the greatest number.
+    /// The number of bytes left at the last cached stand, or the greatest number if nothing is cached.
     reach: usize,
-    /// How many more may be kept.
+    /// The number of matches that may still be cached.
     credit: usize,
-    /// At how many those are given up that can't be met any more.
+    /// The number of cached matches at which those that can't be hit any more are dropped.
     full: usize,
 }
 
@@ -64,7 +64,7 @@ impl Model for KnownWalks {
 }
 
 impl KnownWalks {
-    /// Nothing is known.
+    /// Returns an empty cache.
     pub fn new(alloc: Global) -> KnownWalks
         ensures { (ahead : ℕ → Walk) (ended : Bool) (text : List ℕ) → AreKnown ahead ended text result }
     {
@@ -77,14 +77,14 @@ impl KnownWalks {
         }
     }
 
-    /// Whether something is known of the places behind one where so many bytes are left.
+    /// Whether matches are cached for stands after this many bytes left.
     #[inline(always)]
     pub fn reaches(&self, left: usize) -> bool {
         self.reach < left
     }
 
-    /// The longest match of one or more bytes from where a walk starts, found by a walk that ends where one has gone
-    /// before. `ended` says that the text ends behind the bytes. None where they don't decide it.
+    /// Finds the longest match of one or more bytes from a start. The walk stops when it meets a cached stand. `ended`
+    /// is whether the text ends after these bytes. Returns `None` if the bytes don't decide the match.
     pub(crate) fn find<S: Steps>(
         &mut self,
         steps: &S,
@@ -100,7 +100,7 @@ impl KnownWalks {
     {
         self.trail.clear();
         if bytes.len() <= self.reach {
-            // what is known is of places that have been passed
+            // only stands that were passed are cached
             self.found.clear();
             self.reach = usize::MAX;
         }
@@ -131,8 +131,8 @@ impl KnownWalks {
     }
 }
 
-/// Gives up what is known of places that have been passed, which can't be met any more, once so much is kept. Answers
-/// at how much that is done again: as much was put in by then as is looked through.
+/// Once `full` matches are cached, drops those of stands that were passed, which can't be hit any more. Returns the
+/// size at which to do so next: by then as many are added as are visited.
 fn give_up_passed(found: &mut HashMap<Stand, Longest>, full: usize, left: usize) -> usize
     ensures { (ahead : ℕ → Walk) (ended : Bool) (text : List ℕ) → AreKnown ahead ended text found.old.entries
         → AreKnown ahead ended text found.new.entries }
@@ -144,8 +144,8 @@ fn give_up_passed(found: &mut HashMap<Stand, Longest>, full: usize, left: usize)
     found.len().saturating_mul(2).max(FULL)
 }
 
-/// How many more may be kept, by a credit, where so many bytes are left: one for each walk at least, unless all are too
-/// many.
+/// The number of matches that may still be cached with this credit and this many bytes left. It is at least one for
+/// each walk, unless the cache has its greatest size.
 fn room_for(found: &HashMap<Stand, Longest>, credit: usize, left: usize) -> usize {
     if MOST + left / STRIDE <= found.len() {
         return 0;
@@ -153,13 +153,13 @@ fn room_for(found: &HashMap<Stand, Longest>, credit: usize, left: usize) -> usiz
     credit.max(1)
 }
 
-/// The credit behind a walk that kept so many, and met one or didn't.
+/// The credit after a walk that cached `kept` matches, and hit one or none.
 fn credit_behind(credit: usize, kept: usize, met: bool) -> usize {
     let left = credit.saturating_sub(kept);
     if met { left.saturating_add(PAY) } else { left }
 }
 
-/// How many bytes are taken where a match is the longest one: all where none is, since a run ends there.
+/// The number of bytes taken if this is the longest match. Without a match it is all bytes, since scanning ends there.
 fn taken_by<S: Steps>(steps: &S, longest: Longest, bytes: usize) -> usize {
     match match_of(steps, longest) {
         Match::Win { token_len, .. } => token_len,
@@ -167,8 +167,8 @@ fn taken_by<S: Steps>(steps: &S, longest: Longest, bytes: usize) -> usize {
     }
 }
 
-/// Walks on from where a walk starts to where one has gone before, or where it ends: the longest match that is found.
-/// The trail is where it has stood, and `met` says whether one has gone there before.
+/// Walks from a start to a cached stand, or until the walk ends, and returns the longest match. `trail` becomes the
+/// stands on the way, and `met` whether a cached one was reached.
 fn walk_on_known<S: Steps>(
     steps: &S,
     found: &HashMap<Stand, Longest>,
@@ -208,16 +208,16 @@ fn walk_on_known<S: Steps>(
     if ended { Some(longest) } else { None }
 }
 
-/// The longest match from a stand on, if it is known.
-#[inline(never)] // so that the walk has the registers
+/// The cached match from a stand.
+#[inline(never)] // leaves the registers to the walk
 fn known_at(found: &HashMap<Stand, Longest>, stand: Stand) -> Option<&Longest>
     ensures { option_copied result ≡ known_at found.now.entries stand }
 {
     found.get(&stand)
 }
 
-/// Notes a stand in the trail, if the walk has become so long, and answers how long it is when it does so next. Where
-/// there is no room for it, a walk will go there again.
+/// Records a stand in the trail if the walk is long enough. Returns the length at which to do so next. If the
+/// allocation fails, the stand isn't recorded, and a later walk will pass it again.
 #[inline(never)] // likewise
 fn note(trail: &mut Vec<Stand>, stand: Stand, passed: usize, noted: usize) -> usize
     ensures { (walk : Walk) (ahead : ℕ → Walk) (text : List ℕ) → HasStood walk ahead text stand
@@ -230,7 +230,7 @@ fn note(trail: &mut Vec<Stand>, stand: Stand, passed: usize, noted: usize) -> us
     passed.saturating_add(passed / PART)
 }
 
-/// The longest match of so many bytes, by that of the bytes so far and that of those that are left.
+/// The longest match of a walk, given that of its bytes so far and that of the bytes left.
 fn joined(longest: Longest, bytes: usize, left: usize, ahead: Longest) -> Longest
     requires left { left ≤ bytes }
     requires ahead { IfSome ahead (λ m. m.0 ≤ left) }
@@ -242,7 +242,7 @@ fn joined(longest: Longest, bytes: usize, left: usize, ahead: Longest) -> Longes
     }
 }
 
-/// The longest match from a place on that a walk has passed.
+/// The longest match from a stand that the walk has passed.
 fn from_passed(longest: Longest, passed: usize) -> Longest
     ensures { result ≡ from_passed longest passed }
 {
@@ -252,8 +252,8 @@ fn from_passed(longest: Longest, passed: usize) -> Longest
     }
 }
 
-/// Keeps the longest match from where a walk over so many bytes has stood on, wherever a match may still begin. Answers
-/// how many bytes are left at the last of these places.
+/// Caches the longest match for the stands of a walk over this many bytes, wherever a match may still begin. Returns
+/// the number of bytes left at the last of them.
 fn keep(
     found: &mut HashMap<Stand, Longest>,
     trail: &[Stand],
@@ -277,7 +277,7 @@ fn keep(
     last
 }
 
-/// Makes room for so many longest matches at once. Where it isn't given, what is known is forgotten, which makes room.
+/// Reserves capacity for this many matches. If the allocation fails, the cache is cleared.
 fn make_room(found: &mut HashMap<Stand, Longest>, count: usize)
     ensures { (ahead : ℕ → Walk) (ended : Bool) (text : List ℕ) → AreKnown ahead ended text found.old.entries
         → AreKnown ahead ended text found.new.entries }
@@ -287,7 +287,7 @@ fn make_room(found: &mut HashMap<Stand, Longest>, count: usize)
     }
 }
 
-/// Keeps one longest match. Where no more room is given, the rest is forgotten, which makes room.
+/// Caches one match. If the allocation fails, the rest of the cache is cleared.
 fn keep_one(found: &mut HashMap<Stand, Longest>, stand: Stand, longest: Longest)
     ensures { (ahead : ℕ → Walk) (ended : Bool) (text : List ℕ)
         → IsFound (ahead stand.0) ended (last stand.1 text) longest

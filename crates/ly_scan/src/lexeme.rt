@@ -8,10 +8,9 @@ use crate::matching::{Match, known_match};
 use crate::steps::Steps;
 use ly_base::{End, Lexeme, Place};
 
-/// What is taken at a place of a text: the longest match there, its rule, and the token that the rule's cut leaves. Or
-/// how a run over the text ends there. `ended` says that no more of the text comes: else the answer is what it is
-/// whatever comes behind the bytes that are left, and None where these don't decide. What is known of walks over these
-/// bytes is used, and grows.
+/// Returns the lexeme at a place: the longest match there, its rule, and the token that the rule's cut leaves. Or
+/// returns how scanning ends there. `ended` is whether the text ends after these bytes. If not, the result holds
+/// whatever bytes follow, and is `None` if they may change it. Uses and extends the cache of walks over these bytes.
 #[inline(always)] // as `known_match`
 pub fn next_lexeme<S: Steps>(
     steps: &S,
@@ -49,7 +48,7 @@ pub fn next_lexeme<S: Steps>(
     }
 }
 
-/// Whether a line begins at a place, as far as a walk minds it: one that doesn't needn't wait for the byte before it.
+/// Whether a line begins at a place, if the walk depends on it. Otherwise the previous byte isn't looked at.
 #[inline(always)]
 pub(crate) fn line_at<S: Steps>(steps: &S, place: &Place<'_>) -> bool
     ensures { (condition : ℕ) → S.walk steps.now condition result ≡ S.walk steps.now condition place.now.line }

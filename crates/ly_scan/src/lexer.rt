@@ -22,15 +22,14 @@ use ly_base::{Cut, End, Lexeme, OutOfMemory, Place, RuleNo};
 use std::alloc::Global;
 use std::marker::Model;
 
-/// Takes a text apart by a scanner, lexeme by lexeme. Lexemes of one byte that are passed over, as blanks mostly are,
-/// take no walk.
+/// Splits a text into lexemes by a scanner. Skipped lexemes of one byte, as most blanks are, take no walk.
 #[derive(Drop)]
 pub struct Lexer {
     /// The scanner.
     scanner: Scanner,
-    /// For each of its rules whether its lexemes are passed over.
+    /// For each rule whether its lexemes are skipped.
     passed: Vec<bool>,
-    /// The bytes that are such lexemes.
+    /// The bytes that are skipped lexemes by themselves.
     lone: LoneBytes,
 }
 
@@ -47,7 +46,8 @@ impl Model for Lexer {
 }
 
 impl Lexer {
-    /// The lexer of a scanner, by which of its rules are passed over. It fails where memory runs out.
+    /// Makes the lexer of a scanner. `passed` tells for each rule whether its lexemes are skipped. Fails if memory runs
+    /// out.
     pub fn new(alloc: Global, scanner: Scanner, passed: Vec<bool>) -> Result<Lexer, OutOfMemory>
         ensures { IfOk result (λ l. l ≡ record { scanner = scanner; passed = passed.items }) }
     {
@@ -66,10 +66,10 @@ impl Lexer {
         &self.scanner
     }
 
-    /// Passes over lexemes of one byte, and answers what is taken behind them, or how a run over the text ends there.
-    /// `ended` says that no more of the text comes: else the answer is what it is whatever comes behind the bytes that
-    /// are left, and None where these don't decide. What is known of walks over these bytes is used, and grows.
-    #[inline(always)] // by a call what the loop reads of the scanner is read anew for each lexeme
+    /// Skips lexemes of one byte. Returns the lexeme after them, or how scanning ends there. `ended` is whether the
+    /// text ends after these bytes. If not, the result holds whatever bytes follow, and is `None` if they may change
+    /// it. Uses and extends the cache of walks over these bytes.
+    #[inline(always)] // with a call, the loop would reload the scanner for each lexeme
     pub fn next(
         &self,
         place: &mut Place<'_>,
@@ -90,8 +90,8 @@ impl Lexer {
         next_lexeme(&self.scanner, place, known, ended)
     }
 
-    /// The facts of states, by numbers for what is known of the lexemes of each rule: that of the state's rule, if no
-    /// part of its matches is cut off, and else 0. It fails where memory runs out.
+    /// Computes a number, the fact, for each state. It is the number that `by_rule` gives for the state's rule, if that
+    /// has no trailing context, and else 0. Fails if memory runs out.
     pub fn facts(&self, alloc: Global, by_rule: &[u32]) -> Result<Vec<u32>, OutOfMemory>
         ensures { IfOk result (λ f. f.items ≡ facts_by self.now.scanner by_rule.now) }
     {
@@ -103,10 +103,10 @@ impl Lexer {
         Ok(facts)
     }
 
-    /// Passes over lexemes of one byte, and tells what is taken behind them by the fact of the state where its walk
-    /// ends. It may tell nothing where something is taken: in another condition than the initial one, where no fact is
-    /// known, where the walk goes on to the end of the bytes, and where something is known of walks behind it.
-    #[inline(always)] // so that a loop over such lexemes has the registers
+    /// Skips lexemes of one byte, and determines the next lexeme from the fact of the state where its walk ends.
+    /// Returns `None` in some cases although there is a lexeme: in a condition other than the initial one, if the fact
+    /// is 0, if the walk reaches the end of the bytes, and if matches are cached for stands after it.
+    #[inline(always)] // leaves the registers to a loop over such lexemes
     pub fn tell(&self, facts: &[u32], place: &mut Place<'_>, known: &KnownWalks) -> Option<Told>
         requires full { length facts.now ≡ length self.now.scanner.rules }
         ensures passed { PassesOver (scanner_of self.now.scanner) self.now.passed place.old place.new }
@@ -124,22 +124,22 @@ impl Lexer {
         self.tell_behind(start, facts, place)
     }
 
-    /// Where walks of the initial condition begin, if that is one place, at the start of a line or not.
+    /// The start of walks in the initial condition, if it is the same at the start of a line and elsewhere.
     pub fn anywhere(&self) -> Option<Anywhere>
         ensures { IfSome result (λ b. IsBegun self.now.scanner (anywhere b)) }
     {
         self.scanner.anywhere()
     }
 
-    /// Where walks of the initial condition begin, if they do at the start of a line and elsewhere.
+    /// The starts of walks in the initial condition, if there is one both at the start of a line and elsewhere.
     pub fn by_line(&self) -> Option<ByLine>
         ensures { IfSome result (λ b. IsBegun self.now.scanner (by_line b)) }
     {
         self.scanner.by_line()
     }
 
-    /// Tells what is taken, as `tell` does, where it is known where walks of the initial condition begin, and a caller
-    /// asks himself whether something is known of walks behind the place.
+    /// Determines the next lexeme as `tell` does, with a start that was looked up. The caller checks whether matches
+    /// are cached for stands after the place.
     #[inline(always)] // as `tell`
     pub fn tell_from<B: Beginning>(
         &self,
@@ -162,7 +162,7 @@ impl Lexer {
         self.tell_behind(start, facts, place)
     }
 
-    /// Tells what is taken at a place in the initial condition, whose walk begins there.
+    /// Determines the lexeme at a place in the initial condition, whose walk begins at `start`.
     #[inline(always)] // as `tell`
     fn tell_behind(&self, start: RowStart, facts: &[u32], place: &Place<'_>) -> Option<Told>
         requires full { length facts.now ≡ length self.now.scanner.rules }
@@ -185,18 +185,18 @@ impl Lexer {
         Some(Told { fact, taken })
     }
 
-    /// The match at a place where the bytes that are left don't decide it: all of them have come.
+    /// Returns the match at a place, which the bytes left don't decide. It has read all of them.
     pub fn matcher_at(&self, place: &Place<'_>) -> Matcher<RowStart>
         requires { IsUndecided (scanner_of self.now.scanner) place.now }
         ensures { IsUnderwayAt self.now place.now result }
     {
         let mut matcher = Matcher::new(&self.scanner, place.condition(), place.at_line_start());
-        // which these bytes don't decide
+        // these bytes don't decide it
         let _undecided = matcher.piece(&self.scanner, place.rest());
         matcher
     }
 
-    /// Takes the next bytes of a match, and answers whether it still isn't decided.
+    /// Reads the next bytes of a match. Returns whether it is still undecided.
     pub fn goes_on(&self, matcher: &mut Matcher<RowStart>, bytes: &[u8]) -> bool
         requires countable { matcher.old.passed + length bytes.now < 2 ^ 64 }
         requires stands { IfSome matcher.old.at (StandsIn self.now.scanner) }
@@ -207,8 +207,8 @@ impl Lexer {
         matcher.piece(&self.scanner, bytes).is_none()
     }
 
-    /// Passes over lexemes of one byte, as long as one is known to stand at a place. A branch asks for them, since
-    /// between the words of most texts it is mostly guessed right.
+    /// Skips lexemes of one byte, as long as the place is known to have one. It uses a branch, which is mostly
+    /// predicted right between the words of a text.
     #[inline(always)]
     fn pass_over(&self, place: &mut Place<'_>)
         ensures passed { PassesOver (scanner_of self.now.scanner) self.now.passed place.old place.new }
@@ -220,7 +220,7 @@ impl Lexer {
     }
 }
 
-/// The fact of a state by its rule.
+/// The fact of a state with this rule.
 fn fact_of(scanner: &Scanner, by_rule: &[u32], rule: Option<RuleNo>) -> u32
     ensures { result ≡ fact_by scanner.now by_rule.now rule }
 {

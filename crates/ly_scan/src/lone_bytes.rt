@@ -8,13 +8,13 @@ use ly_base::{Cut, OutOfMemory, Place};
 use std::alloc::Global;
 use std::marker::Model;
 
-/// Which bytes are lexemes of their own that are passed over, as a blank between two words is, by the byte behind them.
-/// So such a lexeme is told by two bytes, without a walk, and no branch has to be guessed.
+/// The bytes that are skipped lexemes by themselves, such as a blank between two words, depending on the byte after
+/// them. They are recognised by two table look-ups, without a walk and without a branch.
 #[derive(Drop)]
 pub struct LoneBytes {
     /// For each byte whether it begins such a lexeme.
     begins: Vec<bool>,
-    /// For each byte whether it may go on with one.
+    /// For each byte whether it may extend such a lexeme.
     goes_on: Vec<bool>,
 }
 
@@ -29,7 +29,8 @@ impl Model for LoneBytes {
 }
 
 impl LoneBytes {
-    /// The lone bytes of a walk, by which of its rules are passed over. It fails where memory runs out.
+    /// Finds the lone bytes of a walk. `passed` tells for each rule whether its lexemes are skipped. Fails if memory
+    /// runs out.
     pub fn find<S: Steps>(
         alloc: Global,
         steps: &S,
@@ -48,8 +49,8 @@ impl LoneBytes {
         Ok(lone)
     }
 
-    /// Whether such a lexeme stands at a place. It may say no where one does.
-    #[inline(always)] // so that it is two look-ups
+    /// Whether such a lexeme begins at a place. It may return false if one does.
+    #[inline(always)] // it is only two look-ups
     pub fn at(&self, place: &Place<'_>) -> bool
         ensures lone { OnTrue result ((scanner : Scanner) (passed : List Bool) → AreLone scanner passed self.now
             → IsLoneAt scanner passed place.now) }
@@ -75,7 +76,7 @@ impl LoneBytes {
     }
 }
 
-/// Whether a byte alone has a rule that is passed over, and no cut.
+/// Whether a byte alone has a rule that is skipped and has no trailing context.
 fn is_passed<S: Steps>(steps: &S, passed: &[bool], line: bool, byte: u8) -> bool
     ensures { let scanner : Scanner = record { walk = S.walk steps.now; cut = S.cut_of steps.now } in
         OnTrue result (IsOfPassed scanner passed.now line byte) }
@@ -95,7 +96,7 @@ fn is_passed<S: Steps>(steps: &S, passed: &[bool], line: bool, byte: u8) -> bool
     }
 }
 
-/// Marks the bytes that may go on with a lexeme behind a byte.
+/// Marks the bytes that may extend a lexeme of this byte.
 fn follow<S: Steps>(steps: &S, line: bool, byte: u8, goes_on: &mut Vec<bool>)
     requires { length goes_on.old.items ≡ 256 }
     ensures length { length goes_on.new.items ≡ 256 }
@@ -110,7 +111,7 @@ fn follow<S: Steps>(steps: &S, line: bool, byte: u8, goes_on: &mut Vec<bool>)
     }
 }
 
-/// Whether a walk over two bytes goes on. It may say so where it doesn't.
+/// Whether a walk continues over these two bytes. It may return true if it doesn't.
 fn leads_on<S: Steps>(steps: &S, line: bool, byte: u8, next: u8) -> bool
     ensures { result ≡ false → S.walk steps.now 0 line (byte ∷ next ∷ []) ≡ None }
 {

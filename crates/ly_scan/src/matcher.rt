@@ -6,14 +6,14 @@ use crate::steps::Steps;
 use ly_base::RuleNo;
 use std::marker::Model;
 
-/// A match whose bytes come in pieces, none of which is walked twice.
+/// A match whose bytes arrive in chunks. No byte is walked twice.
 #[derive(Drop)]
 pub struct Matcher<P> {
-    /// Where its walk stands behind the bytes that have come. None where it can't begin.
+    /// The state of the walk after the bytes so far; `None` if it can't begin.
     at: Option<P>,
-    /// How many bytes have come.
+    /// The number of bytes so far.
     passed: usize,
-    /// The longest of their beginnings that has a rule, and the rule.
+    /// The length of the longest prefix that has a rule, and the rule.
     best: Option<(usize, RuleNo)>,
 }
 
@@ -26,7 +26,7 @@ impl<P> Model for Matcher<P> {
 }
 
 impl<P: Copy> Matcher<P> {
-    /// A match of which no byte has come, which begins at a condition, at the start of a line or not.
+    /// Returns a match without bytes, which begins in a condition, at the start of a line or not.
     pub(crate) fn new<S: Steps<At = P>>(
         steps: &S,
         condition: u32,
@@ -42,8 +42,8 @@ impl<P: Copy> Matcher<P> {
         }
     }
 
-    /// Takes the next bytes. None where they don't decide the match; else it is what it is however the text goes on,
-    /// and the matcher has done its work.
+    /// Reads the next bytes. Returns `None` if they don't decide the match. Otherwise returns the match, which holds
+    /// whatever bytes follow, and the matcher is finished.
     pub(crate) fn piece<S: Steps<At = P>>(&mut self, steps: &S, bytes: &[u8]) -> Option<Match>
         requires countable { self.old.passed + length bytes.now < 2 ^ 64 }
         requires stands { IfSome self.old.at (S.stands steps.now) }

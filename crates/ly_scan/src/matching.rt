@@ -11,10 +11,10 @@ use crate::known_walks::{KnownWalks, Longest};
 use crate::steps::Steps;
 use ly_base::{Cut, RuleNo};
 
-/// A walk that goes on for so many bytes has gone far.
+/// The number of bytes from which on a walk counts as long.
 const FAR: usize = 64;
 
-/// What was found at the front of a text.
+/// The match at the start of a text.
 #[derive(Clone, Copy)]
 pub(crate) enum Match {
     /// A rule matches.
@@ -23,18 +23,18 @@ pub(crate) enum Match {
         rule: RuleNo,
         /// The length of the match in bytes.
         matched: usize,
-        /// The length of its token in bytes, which is the match or what its cut leaves of it.
+        /// The length of the token in bytes: the whole match, or what its cut leaves of it.
         token_len: usize,
     },
-    /// A rule matches, and its cut leaves no byte or more than the match.
+    /// A rule matches, but its cut leaves no byte or more than the match.
     BadCut,
     /// No rule matches one or more bytes.
     Stuck,
 }
 
-/// The match at the front of some bytes, whatever comes behind them; `ended` says that nothing does. None where it
-/// isn't decided. What a walk has shown that went far behind its token is kept.
-#[inline(always)] // by a call a lexeme takes a third more instructions
+/// The match at the start of some bytes, whatever bytes follow. `ended` is whether the text ends after them. `None` if
+/// the match isn't decided. Long walks past the token are cached.
+#[inline(always)] // a call would cost a third more instructions for each lexeme
 pub(crate) fn known_match<S: Steps>(
     steps: &S,
     known: &mut KnownWalks,
@@ -63,7 +63,7 @@ pub(crate) fn known_match<S: Steps>(
     Some(match_of(steps, best.found()))
 }
 
-/// The best of the places that a walk passes, by a walk to its end.
+/// The longest match of a walk, found by walking to its end.
 #[inline(always)] // as `known_match`
 fn best_by_walk<S: Steps>(
     steps: &S,
@@ -85,7 +85,7 @@ fn best_by_walk<S: Steps>(
     if FAR <= passed && falls_short(steps, at) {
         return best_by_known(steps, known, start, bytes, ended);
     }
-    // most walks end where a rule matches, so it is looked for there first
+    // most walks end where a rule matches, so this state is checked first
     match steps.accept(at) {
         Some(rule) if 0 < passed => Best {
             length: passed,
@@ -95,8 +95,8 @@ fn best_by_walk<S: Steps>(
     }
 }
 
-/// Whether the token falls short of where a walk stands at its end: no rule matches there, or a part is cut off.
-#[inline(never)] // as few walks go far
+/// Whether the token is shorter than its walk: no rule matches where the walk ends, or the rule has trailing context.
+#[inline(never)] // few walks are long
 fn falls_short<S: Steps>(steps: &S, at: S::At) -> bool
     requires { S.stands steps.now at }
 {
@@ -106,8 +106,8 @@ fn falls_short<S: Steps>(steps: &S, at: S::At) -> bool
     }
 }
 
-/// The best of the places that a walk passes, by what is known of others.
-#[inline(never)] // so that the walk that goes on has the registers
+/// The longest match of a walk, found with the cache.
+#[inline(never)] // leaves the registers to the walk that goes on
 fn best_by_known<S: Steps>(
     steps: &S,
     known: &mut KnownWalks,
@@ -127,7 +127,7 @@ fn best_by_known<S: Steps>(
     }
 }
 
-/// The match of the longest walk that has a rule, if there is one.
+/// The match of the longest prefix that has a rule, if there is one.
 pub(crate) fn match_of<S: Steps>(steps: &S, found: Longest) -> Match
     ensures { (walk : Walk) (text : List ℕ) → IsBest walk text (length text) found
         → IsMatch walk (S.cut_of steps.now) text result }
@@ -145,7 +145,7 @@ pub(crate) fn match_of<S: Steps>(steps: &S, found: Longest) -> Match
     }
 }
 
-/// Walks over bytes as far as it goes: how many they are, and where it stands behind them.
+/// Walks over bytes as far as possible. Returns their number and the state after them.
 pub(crate) fn walk_on<S: Steps>(steps: &S, start: S::At, bytes: &[u8]) -> (usize, S::At)
     requires stands { S.stands steps.now start }
     requires alive { is_some (S.ahead steps.now start []) ≡ true }
@@ -158,7 +158,7 @@ pub(crate) fn walk_on<S: Steps>(steps: &S, start: S::At, bytes: &[u8]) -> (usize
 {
     let mut at = start;
     let mut passed = 0;
-    // one bound for four steps
+    // one bounds check for four steps
     while 4 <= bytes.len() - passed {
         let Some(first) = steps.step(at, bytes[passed]) else {
             return (passed, at);
@@ -185,8 +185,8 @@ pub(crate) fn walk_on<S: Steps>(steps: &S, start: S::At, bytes: &[u8]) -> (usize
     (passed, at)
 }
 
-/// The best of the places that a walk passes.
-#[inline(never)] // so that the walk that goes on has the registers
+/// The longest match of a walk.
+#[inline(never)] // leaves the registers to the walk that goes on
 fn best_passed<S: Steps>(steps: &S, start: S::At, rest: &[u8]) -> Best
     requires start { IsStart (S.stands steps.now start) (S.ahead steps.now start) }
     ensures found { IsBest (S.ahead steps.now start) rest.now (length rest.now) (found result) }
@@ -195,7 +195,7 @@ fn best_passed<S: Steps>(steps: &S, start: S::At, rest: &[u8]) -> Best
     Best::of(best_of_all(steps, start, rest))
 }
 
-/// The best of the places that a walk passes, place by place.
+/// The longest match of a walk, with a look at each of its states.
 fn best_of_all<S: Steps>(steps: &S, start: S::At, rest: &[u8]) -> Longest
     requires start { IsStart (S.stands steps.now start) (S.ahead steps.now start) }
     ensures { IsBest (S.ahead steps.now start) rest.now (length rest.now) result }
@@ -212,7 +212,7 @@ fn best_of_all<S: Steps>(steps: &S, start: S::At, rest: &[u8]) -> Longest
     best
 }
 
-/// The better of two answers: the longer one, where it has a rule.
+/// Replaces the best match by a longer one, if that has a rule.
 pub(crate) fn better(best: Longest, length: usize, rule: Option<RuleNo>) -> Longest
     ensures { result ≡ better_of best length rule }
 {
@@ -234,8 +234,8 @@ fn cut_down(cut: Cut, length: usize) -> Option<usize>
     }
 }
 
-/// The length of a match and its rule, as two registers hold them. Where nothing matches, and where that isn't decided,
-/// it has no byte, and 0 or 1 in the place of the rule.
+/// The length of a match and its rule, which fit into two registers. If there is no match, or it isn't decided, the
+/// length is 0 and the rule is 0 or 1.
 #[derive(Clone, Copy)]
 struct Best {
     /// The length.
@@ -245,7 +245,7 @@ struct Best {
 }
 
 impl Best {
-    /// That of an answer.
+    /// Packs a result.
     fn of(best: Longest) -> Best
         requires { IfSome best (λ b. 0 < b.0) }
         ensures found { found result ≡ best }
@@ -260,7 +260,7 @@ impl Best {
         }
     }
 
-    /// That of a match that isn't decided.
+    /// Returns the value for an undecided match.
     fn undecided() -> Best
         ensures { decided result ≡ false }
     {
@@ -277,7 +277,7 @@ impl Best {
         self.length != 0 || self.rule.0 == 0
     }
 
-    /// The answer.
+    /// Unpacks the result.
     fn found(self) -> Longest
         ensures { result ≡ found self }
     {

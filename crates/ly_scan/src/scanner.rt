@@ -14,16 +14,16 @@ use crate::steps::Steps;
 use ly_base::{Cut, RuleNo};
 use std::marker::Model;
 
-/// A scanner: the walk over states whose rows are spread over all bytes, so that a step is one index.
+/// A scanner: a walk over states with a row of one column for each byte, so that a step is one index.
 #[derive(Drop)]
 pub struct Scanner {
-    /// What it is made of.
+    /// The parts of the scanner.
     parts: ScannerParts,
-    /// Where the initial condition begins elsewhere than at the start of a line.
+    /// The start of the initial condition elsewhere than at the start of a line.
     initial: Option<RowStart>,
-    /// Whether a condition may begin in another state at the start of a line than elsewhere.
+    /// Whether some condition has another start state at the start of a line than elsewhere.
     lines: bool,
-    /// Whether no rule is known to have a cut, so that none is looked up.
+    /// Whether all rules are known to have no trailing context, so that no cut is looked up.
     uncut: bool,
 }
 
@@ -39,7 +39,7 @@ impl Model for Scanner {
 }
 
 impl Scanner {
-    /// The scanner of these parts.
+    /// Makes the scanner of these parts.
     pub fn new(parts: ScannerParts) -> Scanner
         requires { LeadsWithin (table_from parts) }
         ensures { result ≡ table_from parts }
@@ -59,7 +59,7 @@ impl Scanner {
         &self.parts.rules
     }
 
-    /// Where walks of the initial condition begin, if that is one place, at the start of a line or not.
+    /// The start of walks in the initial condition, if it is the same at the start of a line and elsewhere.
     pub(crate) fn anywhere(&self) -> Option<Anywhere>
         ensures { IfSome result (λ b. IsBegun self.now (anywhere b)) }
     {
@@ -70,7 +70,7 @@ impl Scanner {
         Some(Anywhere { start })
     }
 
-    /// Where walks of the initial condition begin, if they do at the start of a line and elsewhere.
+    /// The starts of walks in the initial condition, if there is one both at the start of a line and elsewhere.
     pub(crate) fn by_line(&self) -> Option<ByLine>
         ensures { IfSome result (λ b. IsBegun self.now (by_line b)) }
     {
@@ -79,8 +79,8 @@ impl Scanner {
         Some(ByLine { at_line, elsewhere })
     }
 
-    /// Where a walk begins, looked up.
-    #[inline(never)] // so that where most walks begin has the registers
+    /// Looks up the start of a walk.
+    #[inline(never)] // leaves the registers to the common start
     fn start_at(&self, condition: u32, at_line_start: bool) -> Option<RowStart>
         ensures is { option_map state_at result ≡ start_at self.now condition at_line_start }
         ensures stands { IfSome result (StandsIn self.now) }
@@ -88,8 +88,8 @@ impl Scanner {
         start_of(&self.parts, condition, at_line_start)
     }
 
-    /// What a rule's matches are cut down to, looked up.
-    #[inline(never)] // as few scanners have cuts
+    /// Looks up the cut of a rule.
+    #[inline(never)] // few scanners have trailing context
     fn cut_at(&self, rule: RuleNo) -> Cut
         ensures { result ≡ cut_at self.now rule.0 }
     {
@@ -147,7 +147,7 @@ impl Steps for Scanner {
         more h };
 }
 
-/// Where a condition begins, at the start of a line or not, if it does.
+/// The start of a condition, at the start of a line or not, if it has one.
 fn start_of(parts: &ScannerParts, condition: u32, at_line_start: bool) -> Option<RowStart>
     ensures is { option_map state_at result ≡ start_at (table_from parts.now) condition at_line_start }
     ensures begins { IfSome result Begins }
@@ -161,7 +161,7 @@ fn start_of(parts: &ScannerParts, condition: u32, at_line_start: bool) -> Option
     state.map(|state| RowStart::of(state.0))
 }
 
-/// Whether a condition begins in another state at the start of a line than elsewhere.
+/// Whether some condition has another start state at the start of a line than elsewhere.
 fn minds_lines(parts: &ScannerParts) -> bool
     ensures { result ≡ false → MindsNoLine (states_of (table_from parts.now)) }
 {
@@ -173,7 +173,7 @@ fn minds_lines(parts: &ScannerParts) -> bool
     false
 }
 
-/// Whether no rule has a cut.
+/// Whether no rule has trailing context.
 fn is_uncut(parts: &ScannerParts) -> bool
     ensures { OnTrue result ((rule : ℕ) → cut_at (table_from parts.now) rule ≡ Whole) }
 {

@@ -2,15 +2,15 @@ use crate::starts::Starts;
 use crate::state_rows::StateRows;
 use ly_base::{Cut, RuleNo};
 
-/// What a scanner is made of.
+/// The parts of a scanner.
 #[derive(Drop)]
 pub struct ScannerParts {
-    /// Where each condition begins.
+    /// The start states of each condition.
     pub starts: Vec<Starts>,
-    /// Where states lead. A column stands for a byte.
+    /// The transitions of the states. A column stands for a byte.
     pub rows: StateRows,
     /// The rule of each state, if it has one.
     pub rules: Vec<Option<RuleNo>>,
-    /// What is cut off the matches of each rule, and nothing off those of a rule past the last.
+    /// The cut of each rule. A rule past the last has no trailing context.
     pub cuts: Vec<Cut>,
 }

@@ -8,25 +8,26 @@ use ly_base::OutOfMemory;
 use std::alloc::Global;
 use std::marker::Model;
 
-/// How many entries a row has: one for each byte, and a cache line of them that lead nowhere. Without these the entries
-/// of one byte would stand 1,024 bytes apart, and of a long run through equal bytes few fit into a processor's cache.
+/// The number of entries of a row: one for each byte, and a cache line of entries without a target. Without these the
+/// entries of one byte would be 1,024 bytes apart, and for a long run of equal bytes few of them would fit into a
+/// processor's cache.
 const WIDTH: usize = 272;
 
-/// How many states may have rows.
+/// The greatest number of states that can have rows.
 const MOST_STATES: usize = 15 << 20;
 
-/// The entry that leads nowhere: no row begins there.
+/// The entry without a target. No row begins there.
 const NOWHERE: u32 = 1;
 
-/// Where a walk stands: where the row of its state begins among the entries.
+/// The state of a walk: the index where its row begins among the entries.
 #[derive(Clone, Copy, Debug, PartialEq, Eq)]
 pub struct RowStart {
-    /// How many entries stand before it.
+    /// The number of entries before the row.
     pub(crate) start: usize,
 }
 
 impl RowStart {
-    /// Where a walk stands in a state.
+    /// Returns the start of the row of a state.
     pub fn of(state: u32) -> RowStart
         ensures state { state_at result ≡ state }
         ensures begins { Begins result }
@@ -44,12 +45,12 @@ impl RowStart {
     }
 }
 
-/// Where the states of a scanner lead, as they are walked: for each state a row of columns, which stand for bytes or
-/// for classes of bytes. An entry says where the next row begins, so that an addition and one index lie between a byte
-/// and the next.
+/// The transitions of a scanner's states, spread for fast walks. Each state has a row of columns for bytes or for
+/// classes of bytes. An entry is the index where the row of the next state begins, so a step is an addition and an
+/// index.
 #[derive(Drop)]
 pub struct StateRows {
-    /// The entries, row after row: where the row of the next state begins, or `NOWHERE`.
+    /// The entries, row after row: the start of the next state's row, or `NOWHERE`.
     entries: Vec<u32>,
 }
 
@@ -65,7 +66,7 @@ impl Model for StateRows {
 }
 
 impl StateRows {
-    /// Rows without an entry for so many states. It fails where memory runs out (see `entries_of` too).
+    /// Returns rows without transitions for this many states. Fails if memory runs out (see also `entries_of`).
     pub fn new(alloc: Global, states: usize) -> Result<StateRows, OutOfMemory>
         ensures count { IfOk result (λ r. length r ≡ states * row_width) }
         ensures none { IfOk result (λ r. (state column : ℕ) → row_entry r state column ≡ None) }
@@ -76,7 +77,7 @@ impl StateRows {
         })
     }
 
-    /// Puts where a column leads from a state, or that it leads nowhere.
+    /// Sets the target of a column from a state, or that it has none.
     pub fn set(&mut self, state: u32, column: usize, next: Option<u32>)
         requires next { IfSome next (λ n. n * row_width < length self.old) }
         requires column { column < 256 }
@@ -89,7 +90,7 @@ impl StateRows {
         *entry = start_of(next);
     }
 
-    /// Where a column leads from a state: to a state, or nowhere.
+    /// The target of a column from a state, if there is one.
     pub fn next(&self, at: RowStart, column: u8) -> Option<RowStart>
         requires begins { Begins at }
         requires there { state_at at * row_width + column < length self.now }
@@ -107,9 +108,9 @@ impl StateRows {
     }
 }
 
-/// How many entries the rows of so many states have. Where a row begins has 32 bits, so the rows of more than 15 times
-/// 2^20 states, some 17 GB, are out of memory. No scanner has so many: each version of the table file has 262,143
-/// states at most, a 60th of these, and no scanner with more is made.
+/// The number of entries of the rows of this many states. The start of a row has 32 bits, so the rows of more than 15
+/// times 2^20 states, some 17 GB, are `OutOfMemory`. No scanner has so many: each version of the table file allows at
+/// most 262,143 states, a 60th of these, and no larger scanner is made.
 fn entries_of(states: usize) -> Result<usize, OutOfMemory>
     ensures count { IfOk result (λ n. n ≡ states * row_width) }
     ensures fits { OnOk result (states * row_width ≤ 2 ^ 32) }
@@ -121,17 +122,17 @@ fn entries_of(states: usize) -> Result<usize, OutOfMemory>
     Ok(states * WIDTH)
 }
 
-/// The entry of a column in the row that begins at a place.
+/// The entry of a column in the row that begins at `start`.
 fn entry(entries: &[u32], start: usize, column: u8) -> u32
     requires { start + column < length entries.now }
     ensures { result ≡ slice_index_or entries.now (start + column) 0 }
 {
-    // the column comes first, so that nothing but a load lies between where a walk stands and where it goes
+    // the column is indexed first, so that only a load lies between two steps
     let behind = &entries[usize::from(column)..];
     behind[start]
 }
 
-/// The entry that leads to a state, or nowhere.
+/// The entry that leads to a state, or has no target.
 fn start_of(next: Option<u32>) -> u32
     requires { IfSome next (λ n. n * row_width < 2 ^ 32) }
     ensures leads { target_in result ≡ next }

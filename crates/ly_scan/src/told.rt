@@ -1,8 +1,8 @@
-/// What is taken at a place, as the state tells where its walk ends.
+/// A lexeme, as far as the state where its walk ends determines it.
 #[derive(Clone, Copy, Debug, PartialEq, Eq)]
 pub struct Told {
-    /// The fact of its rule, which isn't 0.
+    /// The fact of its rule, a nonzero number.
     pub fact: u32,
-    /// How many bytes are taken.
+    /// The number of bytes taken.
     pub taken: usize,
 }
