@@ -15,12 +15,12 @@ digraph_code = code_by (ℕ × List (ℕ × ℕ)) (coded× coded_ℕ (coded_list
 abbrev pub IsEdge : Digraph → ℕ → ℕ → Type 0
 IsEdge g i j = Contains g.edges (i, j)
 
--- there is a way from one node to another, of any number of edges
+-- there is a path from one node to another, of any length
 pub data Reaches (g : Digraph) : ℕ → ℕ → Type 0 where
   here : (i : ℕ) → Reaches g i i
   along : (i j k : ℕ) → IsEdge g i j → Reaches g j k → Reaches g i k
 
--- where edge number e begins and ends
+-- the two ends of edge number e
 abbrev pub source : Digraph → ℕ → ℕ
 source g e = (slice_index_or g.edges e (0, 0)).0
 
@@ -31,7 +31,8 @@ target g e = (slice_index_or g.edges e (0, 0)).1
 abbrev pub IsInside : ℕ → ℕ × ℕ → Type 0
 IsInside nodes e = (e.0 < nodes) × (e.1 < nodes)
 
--- The edges of a node among the first `bound` edges are among the first `end`, whose last is one, if there is any.
+-- The edges of a node among the first `bound` edges are among the first `end`. The last of these is one of them, if
+-- there is any.
 pub record IsEndBefore (g : Digraph) (x bound end : ℕ) : Type 0 where
   pub end_le : end ≤ bound
   pub last : 0 < end → source g (end - 1) ≡ x

@@ -1,4 +1,4 @@
--- How a `Graph` keeps its edges.
+-- How a `Graph` stores its edges.
 use Rattle.std.specs.Prelude.{◌<◌, ℕ, List, length, map, slice_index, slice_index_or}
 use Rattle.ly_digraph.specs.Digraph.{source, target, IsEndBefore}
 use Rattle.ly_digraph.specs.declared.graph.Edge.{Edge}
@@ -6,7 +6,7 @@ use Rattle.ly_digraph.specs.declared.graph.Edge.{Edge}
 abbrev pub ends_of : List Edge → List (ℕ × ℕ)
 ends_of edges = map (λ e. (e.from, e.to)) edges
 
--- each node knows the end of its edges, and each edge that of the node's edges before it
+-- each node has the end of its edges, and each edge the end of the node's edges before it
 pub record IsEdgeList (ends : List ℕ) (edges : List Edge) : Type 0 where
   pub lasts : (x : ℕ) → x < length ends → IsEndBefore (record { nodes = length ends; edges = ends_of edges }) x
       (length edges) (slice_index ends x)

@@ -1,4 +1,4 @@
--- What the walk keeps.
+-- The state of the walk, and its invariant.
 use Rattle.std.specs.Prelude.{◌≡◌, ◌<◌, ◌≤◌, ◌+◌, ◌-◌, ◌⊎◌, ℕ, List, length, slice_index, slice_index_or}
 use Rattle.ly_sets.specs.NumberSet.{NumberSet, Member}
 use Rattle.ly_sets.specs.SetMatrix.{row}
@@ -13,15 +13,15 @@ place ps x = slice_index_or ps x New
 abbrev pub frame : List Frame → ℕ → Frame
 frame fs t = slice_index_or fs t (record { node = 0; start = 0; low = 0 })
 
--- where the part of frame t begins, and past the last frame the end
+-- the start of frame t's part; past the last frame, the end
 abbrev pub begin : List Frame → ℕ → ℕ → ℕ
 begin fs end t = (slice_index_or fs t (record { node = 0; start = end; low = 0 })).start
 
--- row y lies within row x
+-- row x contains row y
 pub record Within (sets : List NumberSet) (y x : ℕ) : Type 0 where
   pub within : (n : ℕ) → Member (row sets y) n → Member (row sets x) n
 
--- what is known of an edge from the part of a frame that was looked at
+-- what is known of an edge that was visited from the part of a frame
 abbrev pub IsSeen : Digraph → List NumberSet → List Place → Frame → ℕ → ℕ → Type 0
 IsSeen g sets ps f end e =
     ((place ps (target g e) ≡ Done) × Within sets (target g e) (source g e))
@@ -41,19 +41,19 @@ pub record IsOpenPart (g : Digraph) (sets : List NumberSet) (cs : List ℕ) (ps 
   pub seen : (e k : ℕ) → e < length g.edges → f.start ≤ k → k < end → source g e ≡ slice_index ns k
       → slice_index cs (slice_index ns k) ≤ e → IsSeen g sets ps f end e
 
--- the edge of frame f that is being looked at leads to a node
+-- the edge of frame f that is being visited leads to a node
 abbrev pub IsNext : Digraph → List ℕ → Frame → ℕ → Type 0
 IsNext g cs f x = (0 < slice_index cs f.node) × (target g (slice_index cs f.node - 1) ≡ x)
 
--- the frames' parts follow one another, from position 0 to the end, and each frame's node is looked at by the one
--- before
+-- The frames' parts follow one another, from position 0 to the end. The edge that the frame before is visiting leads to
+-- each frame's node.
 pub record IsPath (g : Digraph) (sets : List NumberSet) (cs : List ℕ) (ps : List Place) (ns : List ℕ) (fs : List Frame)
     (end : ℕ) : Type 0 where
   pub first : begin fs end 0 ≡ 0
   pub parts : (t : ℕ) → t < length fs → IsOpenPart g sets cs ps ns (frame fs t) (begin fs end (t + 1))
   pub links : (t : ℕ) → t + 1 < length fs → IsNext g cs (frame fs t) (frame fs (t + 1)).node
 
--- what the cursors and places say of the nodes
+-- what the cursors and places imply for the nodes
 pub record IsMarked (g : Digraph) (sets : List NumberSet) (cs : List ℕ) (ps : List Place) (ns : List ℕ) : Type 0 where
   pub cursors_len : length cs ≡ g.nodes
   pub places_len : length ps ≡ g.nodes

@@ -4,27 +4,28 @@ use ly_base::OutOfMemory;
 use std::alloc::Global;
 use std::marker::Model;
 
-/// A directed graph: nodes are the numbers below a bound, and edges are kept in the order in which
-/// they came, the same one twice if it came twice.
+/// A directed graph. Nodes are the numbers below a bound. Edges are kept in the order in which they were added, with
+/// duplicates.
 #[derive(Drop)]
 pub struct Graph {
     edges: Vec<Edge>,
-    /// For each node, how many edges from the front hold all of its own: the last of them is one.
+    /// For each node the length of the shortest prefix of the edges that has all of its edges. The last edge of the
+    /// prefix is one of them.
     ends: Vec<u32>,
 }
 
 /// An edge.
 #[derive(Clone, Copy)]
 struct Edge {
-    /// Where it begins.
+    /// The node where it begins.
     from: u32,
-    /// Where it leads.
+    /// The node where it leads.
     to: u32,
-    /// How many edges from the front hold all of the same node's edges before this one.
+    /// The length of the shortest prefix of the edges that has all edges of the same node before this one.
     before: u32,
 }
 
-/// A count in 32 bits: a large graph has millions of edges and nodes, and memory for no more than 2^32.
+/// Converts a count to 32 bits: a large graph has millions of edges and nodes, but memory holds no more than 2^32.
 pub(crate) fn narrow(count: usize) -> Result<u32, OutOfMemory>
     ensures { IfOk result (λ n. n ≡ count) }
 {
@@ -49,7 +50,7 @@ impl Model for Graph {
 impl Graph {
     ghost use Rattle.ly_digraph.specs.Digraph.{source, target, IsInside, IsEndBefore};
 
-    /// The graph of so many nodes without edges.
+    /// Makes a graph of this many nodes without edges.
     pub fn new(alloc: Global, nodes: usize) -> Result<Graph, OutOfMemory>
         ensures { IfOk result (λ g. g ≡ record { nodes = nodes; edges = [] }) }
     {
@@ -59,7 +60,7 @@ impl Graph {
         })
     }
 
-    /// Adds the edge `from -> to` behind the others. After the fault the graph is as it was.
+    /// Adds the edge `from -> to` after the others. On an error the graph is unchanged.
     pub fn add(&mut self, from: usize, to: usize) -> Result<(), OutOfMemory>
         requires { IsInside self.old.nodes (from, to) }
         ensures ok { OnOk result (self.new ≡
@@ -78,7 +79,7 @@ impl Graph {
         Ok(())
     }
 
-    /// How many nodes there are. Every edge joins two of them.
+    /// The number of nodes. Every edge connects two of them.
     pub fn nodes(&self) -> usize
         ensures count { result ≡ self.now.nodes }
         ensures inside { All (IsInside result) self.now.edges }
@@ -86,14 +87,14 @@ impl Graph {
         self.ends.len()
     }
 
-    /// How many edges there are.
+    /// The number of edges.
     pub fn edges(&self) -> usize
         ensures { result ≡ length self.now.edges }
     {
         self.edges.len()
     }
 
-    /// How many edges from the front hold all edges of a node.
+    /// The length of the shortest prefix of the edges that has all edges of a node.
     pub(crate) fn end(&self, node: usize) -> u32
         requires { node < self.now.nodes }
         ensures { IsEndBefore self.now node (length self.now.edges) result }
@@ -101,7 +102,7 @@ impl Graph {
         self.ends[node]
     }
 
-    /// How many edges from the front hold all edges of the same node before an edge.
+    /// The length of the shortest prefix of the edges that has all edges of the same node before this edge.
     pub(crate) fn end_before(&self, edge: usize) -> u32
         requires { edge < length self.now.edges }
         ensures { IsEndBefore self.now (source self.now edge) edge result }
@@ -109,7 +110,7 @@ impl Graph {
         self.edges[edge].before
     }
 
-    /// Where an edge leads.
+    /// The node where an edge leads.
     pub(crate) fn target(&self, edge: usize) -> usize
         requires { edge < length self.now.edges }
         ensures value { result ≡ target self.now edge }

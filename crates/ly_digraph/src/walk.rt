@@ -1,10 +1,9 @@
-//! A depth-first walk that closes components, with a stack of its own in place of recursion.
+//! A depth-first walk that closes components, with an explicit stack in place of recursion.
 //!
-//! The nodes that were seen and aren't done stand in a row, the pending ones, in the order in which
-//! they were entered. The frames of the path cut it into parts: a part begins at its frame's node
-//! and holds what was entered from there and left, but couldn't be closed. `low` is a position that
-//! a part is known to reach (Tarjan's low link, kept a frame and not a node). A part whose low
-//! position is its own start is a component.
+//! The nodes that were seen and aren't done are pending. They are kept in a list in the order in which they were
+//! entered. The frames of the path divide it into parts. A part begins at its frame's node and has the nodes that were
+//! entered from there and left, but couldn't be closed. `low` is the least position that a part is known to reach
+//! (Tarjan's low link, for a frame and not for a node). A part whose low position is its own start is a component.
 ghost use Rattle.std.specs.Prelude.{◌≡◌, ◌≢◌, ◌<◌, ◌≤◌, ◌+◌, ◌-◌, ◌↔◌, List, length, take, vec_len, slice_index, false};
 ghost use Rattle.std.specs.Prelude.{true, IfOk, OnOk};
 
@@ -13,7 +12,7 @@ use ly_base::OutOfMemory;
 use ly_sets::SetMatrix;
 use std::alloc::Global;
 
-/// Where a node stands.
+/// The state of a node.
 #[derive(Clone, Copy)]
 pub(crate) enum Place {
     /// Not seen yet.
@@ -24,12 +23,12 @@ pub(crate) enum Place {
     Done,
 }
 
-/// A node on the way from the root of the walk to where it is.
+/// A node on the path from the root of the walk to the current node.
 #[derive(Clone, Copy)]
 pub(crate) struct Frame {
     /// The node.
     node: usize,
-    /// The position of the node among the pending ones: its part begins there.
+    /// The position of the node among the pending ones, where its part begins.
     start: usize,
     /// The least position that the part is known to reach.
     low: usize,
@@ -38,12 +37,12 @@ pub(crate) struct Frame {
 /// A depth-first walk over a graph.
 #[derive(Drop)]
 pub(crate) struct Walk {
-    /// For each node, how many edges from the front hold all of its edges that are to be looked at.
+    /// For each node the length of the shortest prefix of the edges that has all of its edges still to be visited.
     cursors: Vec<u32>,
     places: Vec<Place>,
     /// The nodes that were seen and aren't done, in the order in which they were entered.
     pending: Vec<usize>,
-    /// The nodes from the root to where the walk is.
+    /// The path from the root to the current node.
     path: Vec<Frame>,
 }
 
@@ -58,7 +57,7 @@ impl Walk {
     ghost use Rattle.ly_digraph.specs.declared.walk.Frame.{Frame};
     ghost use Rattle.ly_digraph.specs.declared.walk.Place.TheVariants.{New, Open, Done};
 
-    /// A walk that has seen nothing.
+    /// Returns a walk that has seen nothing.
     pub(crate) fn new(alloc: Global, graph: &Graph) -> Result<Walk, OutOfMemory>
         ensures at { IfOk result (λ w. (sets : List NumberSet) → graph.now.nodes ≤ length sets →
             IsAt graph.now sets w) }
@@ -79,7 +78,7 @@ impl Walk {
         })
     }
 
-    /// Walks over what a node reaches, as far as it wasn't seen.
+    /// Visits everything that a node reaches and that wasn't seen.
     pub(crate) fn visit(
         &mut self,
         root: usize,
@@ -109,7 +108,7 @@ impl Walk {
         !matches!(self.places[node], Place::New)
     }
 
-    /// Goes on to a node that wasn't seen.
+    /// Enters a node that wasn't seen.
     fn enter(&mut self, node: usize) -> Result<(), OutOfMemory>
         requires { node < vec_len self.old.places }
         ensures { OnOk result (IsEntered self.old self.new node) }
@@ -125,7 +124,7 @@ impl Walk {
         Ok(())
     }
 
-    /// Makes one step; false if the walk is over.
+    /// Makes one step. Returns false if the walk is over.
     fn step(&mut self, graph: &Graph, sets: &mut SetMatrix) -> Result<bool, OutOfMemory>
         requires { IsAt graph.now sets.old.sets self.old }
         ensures on { OnOk result (Continues graph.now sets.old self.old sets.new self.new) }
@@ -151,7 +150,7 @@ impl Walk {
         Ok(true)
     }
 
-    /// Looks at an edge to a pending node: the last part reaches its position.
+    /// Visits an edge to a pending node: the last part reaches its position.
     fn meet(&mut self, graph: &Graph, position: usize)
         requires waits { IsWaiting graph.now self.old }
         requires pends { place self.old.places.items (next_target graph.now self.old) ≡
@@ -165,7 +164,7 @@ impl Walk {
         self.advance(graph);
     }
 
-    /// Looks at an edge to a node that is done: its row is final.
+    /// Visits an edge to a node that is done, whose row is final.
     fn absorb(
         &mut self,
         graph: &Graph,
@@ -185,7 +184,7 @@ impl Walk {
         Ok(())
     }
 
-    /// Leaves a node whose edges were all looked at.
+    /// Leaves a node whose edges were all visited.
     fn leave(&mut self, graph: &Graph, sets: &mut SetMatrix) -> Result<(), OutOfMemory>
         requires at { IsAt graph.now sets.old.sets self.old }
         requires some { 0 < vec_len self.old.path }
@@ -203,7 +202,7 @@ impl Walk {
         Ok(())
     }
 
-    /// Ends a component: all of its nodes get the row of its root.
+    /// Closes a component: all of its nodes get the row of its root.
     fn close(&mut self, root: Frame, sets: &mut SetMatrix) -> Result<(), OutOfMemory>
         requires listed { IsListed self.old.places.items self.old.pending.items }
         requires rows { length self.old.places.items ≤ length sets.old.sets }
@@ -225,7 +224,7 @@ impl Walk {
         Ok(())
     }
 
-    /// Hands a part that reaches further down to the part before it.
+    /// Merges a part that reaches further down into the part before it.
     fn merge(
         &mut self,
         frame: Frame,
@@ -245,7 +244,7 @@ impl Walk {
         Ok(())
     }
 
-    /// Notes that the last part reaches a position.
+    /// Records that the last part reaches a position.
     fn lower(&mut self, position: usize)
         requires { 0 < vec_len self.old.path }
         ensures { IsLowered self.old self.new position }
@@ -255,7 +254,7 @@ impl Walk {
         frame.low = frame.low.min(position);
     }
 
-    /// Goes on to the next edge of the last frame's node.
+    /// Advances to the next edge of the last frame's node.
     fn advance(&mut self, graph: &Graph)
         requires { IsWaiting graph.now self.old }
         ensures { IsTurned graph.now self.old self.new }

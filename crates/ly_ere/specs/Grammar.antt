@@ -55,7 +55,7 @@ pub record Sides : Type 0 where
   pub head : Expression
   pub tail : Option Expression
 
--- a head with an optional trailing context; `$` stands for a newline
+-- a head with an optional trailing context; `$` means that a newline follows
 pub data Tailed (names : List Definition) : List Element → Expression → Option Expression → Type 0 where
   whole : {ws : List Element} {e : Expression} → Alternation names ws e → Tailed names ws e None
   line_end : {ws : List Element} {e : Expression} → Alternation names ws e

@@ -30,7 +30,7 @@ pub(crate) enum Element<'t> {
     Postfix(Postfix),
     /// An interval.
     Interval {
-        /// The smallest number of repetitions.
+        /// The least number of repetitions.
         least: u8,
         /// The greatest number of repetitions, if it is bounded.
         most: Option<u8>,

@@ -23,7 +23,7 @@ pub enum EreFault {
     OutOfMemory,
 }
 
-/// The errors of expressions. Each variant says which byte the error is reported at. It is displayed as a message.
+/// The errors of expressions. Each variant documents the byte that it is reported at. It is displayed as a message.
 #[derive(Clone, Copy, Debug, PartialEq, Eq, Error)]
 pub enum EreFaultKind {
     /// A pattern, branch, group, head or tail is empty. Reported at the byte where an expression is missing.

@@ -143,7 +143,7 @@ impl Lengths {
         }
     }
 
-    /// The greatest length of at most so many strings, one after another.
+    /// The greatest length of at most `most` strings, one after another.
     fn longest(self, most: Option<u8>) -> u64
         requires near { IsNear self }
         ensures near { result ≤ far }

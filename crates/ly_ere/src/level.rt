@@ -13,7 +13,8 @@ use crate::node::Node;
 use std::alloc::AllocError;
 
 /// A group that is being read, or the whole expression. It has the finished branches and the open branch. The last
-/// piece of the open branch is kept apart, since an operator may follow it. Each part is the number of a node.
+/// piece of the open branch, an atom with its operators, is kept separately, since another operator may follow it. Each
+/// part is the number of a node.
 #[derive(Clone, Copy)]
 pub(crate) struct Level {
     /// The finished branches.

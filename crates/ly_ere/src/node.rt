@@ -19,7 +19,7 @@ pub enum Node {
     Optional(usize),
     /// The operand at least `least` times, and at most `most` times if there is a bound: `{m,n}`.
     Repeat {
-        /// The smallest number of repetitions, 0 to 255.
+        /// The least number of repetitions, 0 to 255.
         least: u8,
         /// The greatest number of repetitions, if it is bounded.
         most: Option<u8>,

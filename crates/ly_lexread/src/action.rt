@@ -153,9 +153,9 @@ impl LexAction {
     }
 }
 
-/// Reads the action at the start of a text (POSIX, XCU lex, "Actions in lex"), which has so many bytes on its line. It
-/// consists of statements, of `|`, or of statements in braces, which may span lines. Returns the action and what
-/// follows its last line.
+/// Reads the action at the start of a text (POSIX, XCU lex, "Actions in lex"). The first `on_line` bytes are on its
+/// line. An action consists of statements, of `|`, or of statements in braces, which may span lines. Returns the action
+/// and what follows its last line.
 pub(crate) fn read_action<'t>(
     alloc: Global,
     text: Rest<'t>,

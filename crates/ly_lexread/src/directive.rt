@@ -153,7 +153,7 @@ fn is_number(text: &[u8]) -> bool
     }
 }
 
-/// Adds the conditions that a line declares, of which there is at least one.
+/// Adds the conditions that a line declares, at least one.
 fn declare(
     alloc: Global,
     names: &[u8],

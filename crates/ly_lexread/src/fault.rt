@@ -23,7 +23,7 @@ pub enum LexFault {
     OutOfMemory,
 }
 
-/// The errors of a lex file. Each variant says which byte the error is reported at. It is displayed as a message.
+/// The errors of a lex file. Each variant documents the byte that it is reported at. It is displayed as a message.
 #[derive(Clone, Copy, Debug, PartialEq, Eq, Error)]
 pub enum LexFaultKind {
     /// No line begins with `%%`. Reported at the last byte.

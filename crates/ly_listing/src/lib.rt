@@ -1,9 +1,12 @@
-//! From a lexer and the names of its tokens to the lines of a text's tokens, plain or as JSON.
+//! Prints the tokens of a text, one on each line, as plain text or as JSON.
 //!
-//! `list_tokens` takes a text apart by a lexer and prints a line for each token, with where it begins and ends if it is
-//! JSON (`IsListing`). Which rule's lexemes have which names is what a `TokenNames` says.
+//! `list_tokens` scans a text with a lexer and prints a line for each token. A JSON line also has the token's start and
+//! end. Proved: these are the lines of exactly the tokens of the text (`IsListing`). A `TokenNames` gives the name of
+//! the token of each rule's lexemes.
 //!
-//! Left out: where the lexer and the names come from, and where the text does.
+//! A text that never ends is `OutOfMemory`.
+//!
+//! Not covered: where the lexer, the names and the text come from.
 #![tactic(auto)]
 
 mod lines;

@@ -12,7 +12,7 @@ use ly_print::{
 };
 use std::io::Write;
 
-/// Appends the line of a rule's lexeme that stands there, if its token has a name. It fails where memory runs out.
+/// Appends the line of a rule's lexeme at this place, if its token has a name. Fails if memory runs out.
 pub(crate) fn push_lexeme<N: TokenNames>(
     out: &mut Vec<u8>,
     form: AnswerForm,
@@ -34,7 +34,7 @@ pub(crate) fn push_lexeme<N: TokenNames>(
     }
 }
 
-/// Appends the line of a token of this name that stands there. It fails where memory runs out.
+/// Appends the line of a token with this name at this place. Fails if memory runs out.
 fn push_token(
     out: &mut Vec<u8>,
     form: AnswerForm,
@@ -65,7 +65,7 @@ fn push_token(
     Ok(())
 }
 
-/// Appends the last line of a run that ends so, if it has one. It fails where memory runs out.
+/// Appends the last line for the given end, if it has one. Fails if memory runs out.
 pub(crate) fn push_end(
     out: &mut Vec<u8>,
     form: AnswerForm,
@@ -81,7 +81,7 @@ pub(crate) fn push_end(
     }
 }
 
-/// Appends the last line, where no rule matches at a byte of the text. It fails where memory runs out.
+/// Appends the last line, which reports at which byte of the text no rule matches. Fails if memory runs out.
 fn push_stuck(
     out: &mut Vec<u8>,
     form: AnswerForm,
@@ -107,7 +107,7 @@ fn push_stuck(
     Ok(())
 }
 
-/// Appends a number. It fails where memory runs out.
+/// Appends a number. Fails if memory runs out.
 fn push_number(out: &mut Vec<u8>, number: u64) -> Result<(), OutOfMemory>
     ensures { OnOk result (out.new.items ≡ out.old.items ++ decimal number) }
 {

@@ -13,13 +13,13 @@ use std::alloc::Global;
 /// The tokens of a text.
 #[derive(Debug, Drop)]
 pub struct Listing {
-    /// A line for each, and a last one where no rule matches.
+    /// A line for each token, and a last one if no rule matches somewhere.
     pub lines: Vec<u8>,
-    /// How they end.
+    /// How the tokens end.
     pub end: End,
 }
 
-/// The tokens that a lexer finds in a text, by these names, in a form. It fails where memory runs out.
+/// Lists the tokens that a lexer finds in a text, with these names, in the given format. Fails if memory runs out.
 pub fn list_tokens<N: TokenNames>(
     alloc: Global,
     lexer: &Lexer,
@@ -51,7 +51,7 @@ pub fn list_tokens<N: TokenNames>(
                 push_end(&mut lines, form, &starts, end)?;
                 return Ok(Listing { lines, end });
             }
-            // the end decides
+            // at the end of the text every match is decided
             Ok(None) => unreachable!(),
         }
     }

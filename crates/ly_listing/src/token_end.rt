@@ -1,11 +1,11 @@
 /// How the tokens of a text end.
 #[derive(Clone, Copy, Debug, PartialEq, Eq)]
 pub enum TokenEnd {
-    /// The whole text is tokens.
+    /// The whole text consists of tokens.
     Clean,
     /// No rule matches at this byte, counted from 0.
     Stuck {
-        /// The byte's place.
+        /// The byte's offset.
         byte: u64,
     },
 }

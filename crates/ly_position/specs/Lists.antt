@@ -1,7 +1,7 @@
 -- Lists stored one after another in one list, given the end of each.
 use Rattle.std.specs.Prelude.{◌≡◌, ℕ, zero, suc, ◌-◌, ◌≤◌, List, [], ◌∷◌, take, drop, slice_index}
 
--- the lists with these ends, the first of which starts here
+-- the lists with these ends; the first starts here
 abbrev pub lists_from : ℕ → List ℕ → List ℕ → List (List ℕ)
 lists_from start [] members = []
 lists_from start (end ∷ ends) members = take (end - start) members ∷ lists_from end ends (drop (end - start) members)

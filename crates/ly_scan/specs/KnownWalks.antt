@@ -5,7 +5,7 @@ use Rattle.std.specs.Map.{lookup}
 use Rattle.ly_base.specs.declared.numbers.RuleNo.{RuleNo}
 use Rattle.ly_scan.specs.Walk.{IsBest, Walk}
 
--- The stands of walks, each a state's number and the number of bytes left. For each the longest match from there, as
+-- The points of walks, each a state's number and the number of bytes left. For each the longest match from there, as
 -- its length and its rule, or none.
 abbrev pub Known : Type 0
 Known = List ((ℕ × ℕ) × Option (ℕ × RuleNo))

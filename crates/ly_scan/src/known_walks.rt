@@ -11,17 +11,17 @@ use std::alloc::Global;
 use std::collections::HashMap;
 use std::marker::Model;
 
-/// A stand of a walk: the number of its state, and the number of bytes of the text that were left.
+/// A point of a walk: the number of its state, and the number of bytes of the text that were left.
 type Stand = (usize, usize);
 
 /// The length of the longest match and its rule, if there is one.
 pub(crate) type Longest = Option<(usize, RuleNo)>;
 
-/// Matches are cached only for stands with a multiple of this many bytes left.
+/// Matches are cached only for points with a multiple of this many bytes left.
 const STRIDE: usize = 16;
 
-/// A walk records a stand each time its length has grown by this fraction. So it records few stands. A walk that starts
-/// a few bytes later meets one of them before it has gone that fraction of those bytes.
+/// A walk records a point each time its length has grown by 1 / `PART`. So it records few points. A walk that starts a
+/// few bytes later meets one of them before it has gone 1 / `PART` of those bytes.
 const PART: usize = 4;
 
 /// The number of matches that are cached before one of them has to be hit.
@@ -36,18 +36,18 @@ const MOST: usize = 1 << 19;
 /// The number of cached matches at which those that can't be hit any more are first dropped.
 const FULL: usize = 1 << 10;
 
-/// A cache of the longest matches in one text, by the stands that walks have passed. A walk stops when it meets a
-/// cached stand. So scanning takes linear time, even if long walks fail again and again (Reps 1998). The size of the
+/// A cache of the longest matches in one text, by the points that walks have passed. A walk stops when it meets a
+/// cached point. So scanning takes linear time, even if long walks fail again and again (Reps 1998). The size of the
 /// cache is bounded by the text, and it stays small if nothing is hit.
 ///
 /// If memory runs out, the cache is cleared, and the matches found are the same.
 #[derive(Drop)]
 pub struct KnownWalks {
-    /// For each cached stand the longest match from there.
+    /// For each cached point the longest match from there.
     found: HashMap<Stand, Longest>,
-    /// The stands of the last walk.
+    /// The points of the last walk.
     trail: Vec<Stand>,
-    /// The number of bytes left at the last cached stand, or the greatest number if nothing is cached.
+    /// The number of bytes left at the last cached point, or the greatest number if nothing is cached.
     reach: usize,
     /// The number of matches that may still be cached.
     credit: usize,
@@ -77,13 +77,13 @@ impl KnownWalks {
         }
     }
 
-    /// Whether matches are cached for stands after this many bytes left.
+    /// Whether matches are cached for points after this many bytes left.
     #[inline(always)]
     pub fn reaches(&self, left: usize) -> bool {
         self.reach < left
     }
 
-    /// Finds the longest match of one or more bytes from a start. The walk stops when it meets a cached stand. `ended`
+    /// Finds the longest match of one or more bytes from a start. The walk stops when it meets a cached point. `ended`
     /// is whether the text ends after these bytes. Returns `None` if the bytes don't decide the match.
     pub(crate) fn find<S: Steps>(
         &mut self,
@@ -100,7 +100,7 @@ impl KnownWalks {
     {
         self.trail.clear();
         if bytes.len() <= self.reach {
-            // only stands that were passed are cached
+            // only points that were passed are cached
             self.found.clear();
             self.reach = usize::MAX;
         }
@@ -131,7 +131,7 @@ impl KnownWalks {
     }
 }
 
-/// Once `full` matches are cached, drops those of stands that were passed, which can't be hit any more. Returns the
+/// Once `full` matches are cached, drops those of points that were passed, which can't be hit any more. Returns the
 /// size at which to do so next: by then as many are added as are visited.
 fn give_up_passed(found: &mut HashMap<Stand, Longest>, full: usize, left: usize) -> usize
     ensures { (ahead : ℕ → Walk) (ended : Bool) (text : List ℕ) → AreKnown ahead ended text found.old.entries
@@ -167,8 +167,8 @@ fn taken_by<S: Steps>(steps: &S, longest: Longest, bytes: usize) -> usize {
     }
 }
 
-/// Walks from a start to a cached stand, or until the walk ends, and returns the longest match. `trail` becomes the
-/// stands on the way, and `met` whether a cached one was reached.
+/// Walks from a start to a cached point, or until the walk ends, and returns the longest match. `trail` becomes the
+/// points on the way, and `met` whether a cached one was reached.
 fn walk_on_known<S: Steps>(
     steps: &S,
     found: &HashMap<Stand, Longest>,
@@ -208,7 +208,7 @@ fn walk_on_known<S: Steps>(
     if ended { Some(longest) } else { None }
 }
 
-/// The cached match from a stand.
+/// The cached match from a point.
 #[inline(never)] // leaves the registers to the walk
 fn known_at(found: &HashMap<Stand, Longest>, stand: Stand) -> Option<&Longest>
     ensures { option_copied result ≡ known_at found.now.entries stand }
@@ -216,8 +216,8 @@ fn known_at(found: &HashMap<Stand, Longest>, stand: Stand) -> Option<&Longest>
     found.get(&stand)
 }
 
-/// Records a stand in the trail if the walk is long enough. Returns the length at which to do so next. If the
-/// allocation fails, the stand isn't recorded, and a later walk will pass it again.
+/// Records a point in the trail if the walk is long enough. Returns the length at which to do so next. If the
+/// allocation fails, the point isn't recorded, and a later walk will pass it again.
 #[inline(never)] // likewise
 fn note(trail: &mut Vec<Stand>, stand: Stand, passed: usize, noted: usize) -> usize
     ensures { (walk : Walk) (ahead : ℕ → Walk) (text : List ℕ) → HasStood walk ahead text stand
@@ -242,7 +242,7 @@ fn joined(longest: Longest, bytes: usize, left: usize, ahead: Longest) -> Longes
     }
 }
 
-/// The longest match from a stand that the walk has passed.
+/// The longest match from a point that the walk has passed.
 fn from_passed(longest: Longest, passed: usize) -> Longest
     ensures { result ≡ from_passed longest passed }
 {
@@ -252,7 +252,7 @@ fn from_passed(longest: Longest, passed: usize) -> Longest
     }
 }
 
-/// Caches the longest match for the stands of a walk over this many bytes, wherever a match may still begin. Returns
+/// Caches the longest match for the points of a walk over this many bytes, wherever a match may still begin. Returns
 /// the number of bytes left at the last of them.
 fn keep(
     found: &mut HashMap<Stand, Longest>,

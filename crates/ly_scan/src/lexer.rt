@@ -46,7 +46,7 @@ impl Model for Lexer {
 }
 
 impl Lexer {
-    /// Makes the lexer of a scanner. `passed` tells for each rule whether its lexemes are skipped. Fails if memory runs
+    /// Makes the lexer of a scanner. `passed` has for each rule whether its lexemes are skipped. Fails if memory runs
     /// out.
     pub fn new(alloc: Global, scanner: Scanner, passed: Vec<bool>) -> Result<Lexer, OutOfMemory>
         ensures { IfOk result (λ l. l ≡ record { scanner = scanner; passed = passed.items }) }
@@ -105,7 +105,7 @@ impl Lexer {
 
     /// Skips lexemes of one byte, and determines the next lexeme from the fact of the state where its walk ends.
     /// Returns `None` in some cases although there is a lexeme: in a condition other than the initial one, if the fact
-    /// is 0, if the walk reaches the end of the bytes, and if matches are cached for stands after it.
+    /// is 0, if the walk reaches the end of the bytes, and if matches are cached for points after it.
     #[inline(always)] // leaves the registers to a loop over such lexemes
     pub fn tell(&self, facts: &[u32], place: &mut Place<'_>, known: &KnownWalks) -> Option<Told>
         requires full { length facts.now ≡ length self.now.scanner.rules }
@@ -139,7 +139,7 @@ impl Lexer {
     }
 
     /// Determines the next lexeme as `tell` does, with a start that was looked up. The caller checks whether matches
-    /// are cached for stands after the place.
+    /// are cached for points after the place.
     #[inline(always)] // as `tell`
     pub fn tell_from<B: Beginning>(
         &self,

@@ -16,7 +16,7 @@
 //! walk goes on as far as it can and looks for a rule where it ends; only if there is none does it look at the states
 //! before. Functions for rare cases aren't inlined, which leaves the registers to the loop.
 //!
-//! Scanning takes time linear in the text, whatever the rules: the longest matches from the stands of long walks are
+//! Scanning takes time linear in the text, whatever the rules: the longest matches from the points of long walks are
 //! cached (`KnownWalks`, after Reps 1998), at every 16th byte, once a walk has gone 64 bytes and its token is shorter
 //! than the walk. If memory for the cache runs out, it is cleared, and the result is the same.
 //!

@@ -29,7 +29,7 @@ impl Model for LoneBytes {
 }
 
 impl LoneBytes {
-    /// Finds the lone bytes of a walk. `passed` tells for each rule whether its lexemes are skipped. Fails if memory
+    /// Finds the lone bytes of a walk. `passed` has for each rule whether its lexemes are skipped. Fails if memory
     /// runs out.
     pub fn find<S: Steps>(
         alloc: Global,

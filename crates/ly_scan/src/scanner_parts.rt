@@ -7,7 +7,7 @@ use ly_base::{Cut, RuleNo};
 pub struct ScannerParts {
     /// The start states of each condition.
     pub starts: Vec<Starts>,
-    /// The transitions of the states. A column stands for a byte.
+    /// The transitions of the states. There is a column for each byte.
     pub rows: StateRows,
     /// The rule of each state, if it has one.
     pub rules: Vec<Option<RuleNo>>,

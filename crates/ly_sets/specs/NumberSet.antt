@@ -31,6 +31,6 @@ passing_below p (suc n) = if p n then set.insert (passing_below p n) n else pass
 unfoldable pub set_of : List ℕ → NumberSet
 set_of words = passing_below (has_bit words) (64 * length words)
 
--- the same, of the row of `len` words from `start` on
+-- the same for the row of `len` words from `start` on
 abbrev pub row_set : ℕ → ℕ → List ℕ → NumberSet
 row_set start len words = set_of (chunk start len words)

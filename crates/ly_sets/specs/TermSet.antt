@@ -1,4 +1,4 @@
--- What a `TermSet` shows.
+-- The value of a `TermSet`.
 use Rattle.std.specs.Prelude.{ℕ, refl}
 use Rattle.std.specs.Coded.{Coded, code_by, coded×, coded_ℕ}
 use Rattle.std.specs.FinSet as set

@@ -2,8 +2,8 @@
 use Rattle.std.specs.Prelude.{◌≡◌, ◌<◌, ◌≤◌, ◌+◌, ◌⊎◌, ℕ, Bool, true, false, List, slice_index, bit_or}
 use lib.Lanes.{chunk, zip2}
 
--- The `len` words from `to` on were united with those from `from` on, the others are as they were, and the answer says
--- whether a word grew.
+-- The `len` words from `from` on were added to those from `to` on, and the others are unchanged. The result is whether
+-- a word grew.
 pub record IsUnited (old new : List ℕ) (to from len : ℕ) (result : Bool) : Type 0 where
   pub united : (k : ℕ) → k < len
       → slice_index new (to + k) ≡ bit_or (slice_index old (to + k)) (slice_index old (from + k))

@@ -1,7 +1,7 @@
 //! Rows of words as sets of numbers: number `n` is bit `n % 64` of word `n / 64`.
 //!
-//! A row is whole blocks of four words, so a union has no tail: the words past the width are words
-//! like the others, in which no bit is ever set.
+//! A row consists of whole blocks of four words, so a union needs no special case for the last words. Bits past the
+//! width are never set.
 ghost use Rattle.std.specs.Prelude.{◌≡◌, ◌+◌, ◌*◌, ◌-◌, ◌/◌, ◌<◌, ◌≤◌, ◌↔◌, ◌⊎◌, ℕ, length, true, false, slice_index};
 ghost use Rattle.std.specs.Prelude.{IsTrue};
 ghost use Rattle.std.specs.FinSet as set;
@@ -11,12 +11,12 @@ ghost use lib.Lanes.{chunk, put_chunk};
 
 use std::simd::u64x4;
 
-/// How many words a block has: those that one vector holds.
+/// The number of words in a block: those of one vector register.
 const LANES: usize = 4;
 
 const WORD_BITS: usize = 64;
 
-/// How many words hold the numbers below `width`, in whole blocks.
+/// The number of words for the numbers below `width`, in whole blocks.
 pub(crate) fn words_for(width: usize) -> usize
     ensures room { width ≤ 64 * result }
     ensures blocks { (result / 4) * 4 ≡ result }
@@ -43,7 +43,7 @@ pub(crate) fn insert_bit(words: &mut [u64], start: usize, len: usize, number: us
     words[start + number / WORD_BITS] |= 1 << (number % WORD_BITS);
 }
 
-/// How many numbers are in the row of `len` words from `start` on.
+/// The number of members of the row of `len` words from `start` on.
 pub(crate) fn count_bits(words: &[u64], start: usize, len: usize, width: usize) -> usize
     requires inside { start + len ≤ length words.now }
     requires below { AllBelow width (row_set start len words.now) }
@@ -56,7 +56,7 @@ pub(crate) fn count_bits(words: &[u64], start: usize, len: usize, width: usize) 
     count
 }
 
-/// Whether the row from `of` on has all numbers of the one from `from` on.
+/// Whether the row from `of` on contains all members of the row from `from` on.
 pub(crate) fn holds_row(words: &[u64], of: usize, from: usize, len: usize) -> bool
     requires of_inside { of + len ≤ length words.now }
     requires from_inside { from + len ≤ length words.now }
@@ -71,7 +71,7 @@ pub(crate) fn holds_row(words: &[u64], of: usize, from: usize, len: usize) -> bo
     true
 }
 
-/// Puts the row from `from` on into the one from `to` on, and tells whether that one grew.
+/// Adds the row from `from` on to the row from `to` on. Returns whether that row grew.
 pub(crate) fn union_rows(words: &mut [u64], to: usize, from: usize, len: usize) -> bool
     requires to_inside { to + len ≤ length words.old }
     requires from_inside { from + len ≤ length words.old }
@@ -84,7 +84,7 @@ pub(crate) fn union_rows(words: &mut [u64], to: usize, from: usize, len: usize) 
     union_words(words, to, from, len)
 }
 
-/// Joins a row of words to another, word by word, and answers whether the other grew.
+/// Adds a row of words to another, word by word. Returns whether the other grew.
 fn union_words(words: &mut [u64], to: usize, from: usize, len: usize) -> bool
     requires to_inside { to + len ≤ length words.old }
     requires from_inside { from + len ≤ length words.old }
@@ -102,7 +102,7 @@ fn union_words(words: &mut [u64], to: usize, from: usize, len: usize) -> bool
     grew
 }
 
-/// Joins one block of words to another, and answers whether the other grew.
+/// Adds one block of words to another. Returns whether the other grew.
 fn union_block(words: &mut [u64], to: usize, from: usize) -> bool
     requires to_inside { to + 4 ≤ length words.old }
     requires from_inside { from + 4 ≤ length words.old }
@@ -111,7 +111,7 @@ fn union_block(words: &mut [u64], to: usize, from: usize) -> bool
     union_lanes(words, to, from)
 }
 
-/// Joins one block of words to another as two vectors, and answers whether the other grew.
+/// Adds one block of words to another as two vectors. Returns whether the other grew.
 fn union_lanes(words: &mut [u64], to: usize, from: usize) -> bool
     requires to_inside { to + 4 ≤ length words.old }
     requires from_inside { from + 4 ≤ length words.old }

@@ -1,7 +1,7 @@
-//! Rows of words, of which those with the same members may be kept once.
+//! Rows of words. Rows with the same members may share a stored row.
 //!
-//! A row names a stored row. More than one may name the same, until a member comes to one of them: then that one gets a
-//! copy of its own. So a row that takes all of another's members, and has no others, costs no words.
+//! A row refers to a stored row, and several rows may refer to the same one. When one of them gets a new member, it
+//! gets a copy of its own. So a row that takes all of another's members, and has no others, costs no words.
 ghost use Rattle.std.specs.Prelude.{◌≡◌, ◌+◌, ◌*◌, ◌<◌, ◌≤◌, ◌↔◌, ◌++◌, ◌∷◌, [], ℕ, length, true, false, replicate};
 ghost use Rattle.std.specs.Prelude.{slice_index};
 ghost use Rattle.std.specs.Prelude.{slice_index_or, slice_set, slice_range, IsTrue, IfOk, OnOk, OnErr};
@@ -14,13 +14,13 @@ use std::alloc::Global;
 /// Rows of sets of numbers below one width.
 #[derive(Drop)]
 pub(crate) struct Rows {
-    /// For each row the number of the stored row that has its members.
+    /// For each row the number of its stored row.
     stored: Vec<u32>,
-    /// For each stored row whether more than one row may name it.
+    /// For each stored row whether several rows may refer to it.
     shared: Vec<bool>,
-    /// The bits of the stored rows, one behind the other.
+    /// The bits of the stored rows, one after another.
     words: Vec<u64>,
-    /// How many words a stored row has: whole blocks.
+    /// The number of words of a stored row, in whole blocks.
     stride: usize,
 }
 
@@ -29,7 +29,7 @@ impl Rows {
     ghost use Rattle.ly_sets.specs.SetMatrix.{row};
     ghost use Rattle.ly_sets.specs.Rows.{sets_of, IsLaidOut, IsAlone, IsCopied, HasRow};
 
-    /// So many rows, each without members, with room for the numbers below `width`.
+    /// Makes this many empty rows for numbers below `width`.
     pub(crate) fn new(alloc: Global, rows: usize, width: usize) -> Result<Rows, OutOfMemory>
         ensures laid { IfOk result IsLaidOut }
         ensures room { IfOk result (λ r. width ≤ 64 * r.stride) }
@@ -44,7 +44,7 @@ impl Rows {
         })
     }
 
-    /// How many rows there are.
+    /// The number of rows.
     pub(crate) fn len(&self) -> usize
         ensures { result ≡ length (sets_of self.now) }
     {
@@ -61,7 +61,7 @@ impl Rows {
         contains_bit(&self.words, self.start(i), self.stride, number)
     }
 
-    /// How many numbers are in row `i`.
+    /// The number of members of row `i`.
     pub(crate) fn count(&self, i: usize, width: usize) -> usize
         requires laid { IsLaidOut self.now }
         requires row { HasRow self.now i }
@@ -71,7 +71,7 @@ impl Rows {
         count_bits(&self.words, self.start(i), self.stride, width)
     }
 
-    /// Adds a number to row `i`. After the fault the sets are as they were.
+    /// Adds a number to row `i`. On an error the sets are unchanged.
     pub(crate) fn insert(&mut self, i: usize, number: usize) -> Result<(), OutOfMemory>
         requires laid { IsLaidOut self.old }
         requires row { HasRow self.old i }
@@ -87,8 +87,8 @@ impl Rows {
         Ok(())
     }
 
-    /// Puts row `j` into row `i`, and tells whether row `i` grew. A row that has nothing of its own comes to share the
-    /// other's words. After the fault the sets are as they were.
+    /// Adds row `j` to row `i`. Returns whether row `i` grew. If all members of row `i` are in row `j`, it shares the
+    /// other's words. On an error the sets are unchanged.
     pub(crate) fn unite(&mut self, i: usize, j: usize) -> Result<bool, OutOfMemory>
         requires laid { IsLaidOut self.old }
         requires to { HasRow self.old i }
@@ -114,7 +114,7 @@ impl Rows {
         Ok(self.unite_alone(i, j))
     }
 
-    /// Where the words of row `i` begin.
+    /// The index of the first word of row `i`.
     fn start(&self, i: usize) -> usize
         requires laid { IsLaidOut self.now }
         requires row { HasRow self.now i }
@@ -124,7 +124,7 @@ impl Rows {
         self.stored[i] as usize * self.stride
     }
 
-    /// Whether another row may name the stored row of row `i`.
+    /// Whether another row may refer to the stored row of row `i`.
     fn is_shared(&self, i: usize) -> bool
         requires laid { IsLaidOut self.now }
         requires row { HasRow self.now i }
@@ -133,7 +133,7 @@ impl Rows {
         self.shared[self.stored[i] as usize]
     }
 
-    /// Whether row `i` has all numbers of row `j`.
+    /// Whether row `i` contains all members of row `j`.
     fn holds(&self, i: usize, j: usize) -> bool
         requires laid { IsLaidOut self.now }
         requires of { HasRow self.now i }
@@ -145,7 +145,7 @@ impl Rows {
             || holds_row(&self.words, self.start(i), self.start(j), self.stride)
     }
 
-    /// Adds a number to a row whose words no other row has.
+    /// Adds a number to a row that shares its words with no other row.
     fn insert_alone(&mut self, i: usize, number: usize)
         requires laid { IsLaidOut self.old }
         requires row { HasRow self.old i }
@@ -160,7 +160,7 @@ impl Rows {
         insert_bit(&mut self.words, start, self.stride, number);
     }
 
-    /// Puts row `j` into row `i`, whose words no other row has, and tells whether row `i` grew.
+    /// Adds row `j` to row `i`, which shares its words with no other row. Returns whether row `i` grew.
     fn unite_alone(&mut self, i: usize, j: usize) -> bool
         requires laid { IsLaidOut self.old }
         requires to { HasRow self.old i }
@@ -178,7 +178,7 @@ impl Rows {
         union_rows(&mut self.words, to, from, self.stride)
     }
 
-    /// Gives row `i` the stored row of row `j`.
+    /// Makes row `i` refer to the stored row of row `j`.
     fn share(&mut self, i: usize, j: usize)
         requires laid { IsLaidOut self.old }
         requires to { HasRow self.old i }
@@ -192,7 +192,8 @@ impl Rows {
         self.stored[i] = stored;
     }
 
-    /// Makes row `i` the only one that names its stored row, which becomes a copy if others may name it. The sets stay.
+    /// Makes row `i` the only one that refers to its stored row. Copies that row if others may refer to it. The sets
+    /// are unchanged.
     fn own(&mut self, i: usize) -> Result<(), OutOfMemory>
         requires laid { IsLaidOut self.old }
         requires row { HasRow self.old i }
@@ -210,7 +211,7 @@ impl Rows {
         Ok(())
     }
 
-    /// Adds a stored row, with the words from `start` on, and answers its number.
+    /// Adds a stored row with a copy of the words from `start` on. Returns its number.
     fn push_copy(&mut self, start: usize) -> Result<u32, OutOfMemory>
         requires { start + self.old.stride ≤ length self.old.words.items }
         ensures ok { IfOk result (IsCopied self.old self.new start) }

@@ -6,15 +6,15 @@ use ly_base::{OutOfMemory, Sym};
 use std::alloc::Global;
 use std::marker::Model;
 
-/// Rows of sets of symbols below one width, with a count of the changes that were made. Rows that have the same
-/// members because one took all of the other's are kept once.
+/// Rows of sets of symbols below one width, with a count of the changes. Rows that are equal because one took all
+/// members of the other are stored once.
 #[derive(Drop)]
 pub struct SetMatrix {
     /// The sets.
     rows: Rows,
-    /// Every member is below it.
+    /// All members are below this.
     width: usize,
-    /// How many changes were made.
+    /// The number of changes.
     changes: u64,
 }
 
@@ -35,8 +35,7 @@ impl SetMatrix {
     ghost use Rattle.ly_sets.specs.NumberSet.{AllBelow};
     ghost use Rattle.ly_sets.specs.SetMatrix.{row, with_row};
 
-    /// A matrix of so many rows, each the set without members, with room for the symbols below
-    /// `width`.
+    /// Makes a matrix with this many empty rows for symbols below `width`.
     pub fn new(alloc: Global, rows: usize, width: usize) -> Result<SetMatrix, OutOfMemory>
         ensures { IfOk result (λ m. m ≡ record { width = width; sets = replicate rows set.empty; changes = 0 }) }
     {
@@ -47,14 +46,14 @@ impl SetMatrix {
         })
     }
 
-    /// How many rows there are.
+    /// The number of rows.
     pub fn rows(&self) -> usize
         ensures { result ≡ length self.now.sets }
     {
         self.rows.len()
     }
 
-    /// The width: every member of a row is below it.
+    /// The width. All members are below it.
     pub fn width(&self) -> usize
         ensures value { result ≡ self.now.width }
         ensures bounds { (i : ℕ) → AllBelow result (row self.now.sets i) }
@@ -62,14 +61,14 @@ impl SetMatrix {
         self.width
     }
 
-    /// How many calls of `insert` and `union_row` were answered. It stays at `u64::MAX`.
+    /// The number of calls of `insert` and `union_row` that succeeded. It stays at `u64::MAX`.
     pub fn changes(&self) -> u64
         ensures { result ≡ self.now.changes }
     {
         self.changes
     }
 
-    /// Adds a symbol to row `i`. After the fault the matrix is as it was.
+    /// Adds a symbol to row `i`. On an error the matrix is unchanged.
     pub fn insert(&mut self, i: usize, symbol: Sym) -> Result<(), OutOfMemory>
         requires row { i < length self.old.sets }
         requires below { symbol.0 < self.old.width }
@@ -91,7 +90,7 @@ impl SetMatrix {
         self.rows.contains(i, symbol.0 as usize)
     }
 
-    /// How many symbols are in row `i`.
+    /// The number of symbols in row `i`.
     pub fn count(&self, i: usize) -> usize
         requires { i < length self.now.sets }
         ensures { result ≡ set.len (row self.now.sets i) }
@@ -99,7 +98,7 @@ impl SetMatrix {
         self.rows.count(i, self.width)
     }
 
-    /// Puts row `j` into row `i`, and tells whether row `i` grew. After the fault the matrix is as it was.
+    /// Adds row `j` to row `i`. Returns whether row `i` grew. On an error the matrix is unchanged.
     pub fn union_row(&mut self, i: usize, j: usize) -> Result<bool, OutOfMemory>
         requires to { i < length self.old.sets }
         requires from { j < length self.old.sets }

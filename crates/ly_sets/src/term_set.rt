@@ -6,12 +6,12 @@ use ly_base::{OutOfMemory, Sym};
 use std::alloc::Global;
 use std::marker::Model;
 
-/// A set of symbols below a width. Only `new` takes memory.
+/// A set of symbols below a width. Only `new` allocates.
 #[derive(Drop)]
 pub struct TermSet {
-    /// The bits of the members, in whole blocks.
+    /// The bits of the members, in whole blocks of words.
     words: Vec<u64>,
-    /// Every member is below it.
+    /// All members are below this.
     width: usize,
 }
 
@@ -32,7 +32,7 @@ impl Model for TermSet {
 impl TermSet {
     ghost use Rattle.ly_sets.specs.NumberSet.{AllBelow};
 
-    /// The set without members, with room for the symbols below `width`.
+    /// Makes the empty set for symbols below `width`.
     pub fn new(alloc: Global, width: usize) -> Result<TermSet, OutOfMemory>
         ensures { IfOk result (λ s. s ≡ record { width = width; members = set.empty }) }
     {
@@ -42,7 +42,7 @@ impl TermSet {
         })
     }
 
-    /// The width: every member is below it.
+    /// The width. All members are below it.
     pub fn width(&self) -> usize
         ensures value { result ≡ self.now.width }
         ensures bounds { AllBelow result self.now.members }
@@ -67,7 +67,7 @@ impl TermSet {
         contains_bit(&self.words, 0, self.words.len(), symbol.0 as usize)
     }
 
-    /// How many members there are.
+    /// The number of members.
     pub fn count(&self) -> usize
         ensures { result ≡ set.len self.now.members }
     {

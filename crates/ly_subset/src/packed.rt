@@ -68,8 +68,8 @@ fn is_next(before: u32, number: u32) -> bool
     number > 0 && number - 1 == before
 }
 
-/// Packs an ascending list by its runs if these are long, else by blocks. The first word of the row says which. The row
-/// is at most three words longer than twice the list, and takes little more than two bits for each possible number.
+/// Packs an ascending list by its runs if these are long, else by blocks. The first word of the row records which. The
+/// row is at most three words longer than twice the list, and takes little more than two bits for each possible number.
 pub(crate) fn pack(alloc: Global, numbers: &[u32]) -> Result<Vec<u32>, AllocError>
     ensures packed { IfOk result (λ r. r.items ≡ pack numbers.now) }
     ensures words { AreWords numbers.now }
