@@ -1,7 +1,7 @@
-//! A sentence with two trees that take the two actions of a conflict, sought from the conflict on outwards: two
-//! readings go on at once behind its place, and get rules around them, until both are of one nonterminal and have come
-//! to the same tokens (in the manner of Isradisaikul and Myers 2015). What is found is asked of `ly_examples` before it
-//! is said.
+//! Searches for an ambiguous sentence: a sentence with two trees that take the two actions of a conflict. The search
+//! goes outwards from the conflict point (in the manner of Isradisaikul and Myers 2015). Two partial parses advance
+//! over the same tokens and get enclosing rules, until both derive the same nonterminal from the same tokens. The
+//! search isn't proved. `ly_examples` checks each sentence before it is printed.
 ghost use Rattle.std.specs.Prelude.{◌≡◌, IfOk};
 ghost use Rattle.ly_resolve.specs.Values.{conflict_from, IsInside};
 ghost use Rattle.ly_accepted.specs.Told.{IsFoundIn};
@@ -21,33 +21,33 @@ use ly_lr0::{Item, Lr0};
 use ly_resolve::{Action, Conflict, ConflictKind};
 use std::alloc::{AllocError, Global};
 
-/// How many pairs of readings of whole texts are looked at for a conflict, at most.
+/// The greatest number of pairs of parses of whole texts that are visited for a conflict.
 const MOST_WHOLE: usize = 2_000;
 
-/// How many pairs of other readings are looked at for a conflict, at most.
+/// The greatest number of other pairs of parses that are visited for a conflict.
 const MOST: usize = 6_000;
 
-/// How many steps are made for all sentences together, at most: what is looked at or copied, of which a pair takes some
-/// more, and so does a derived symbol.
+/// The greatest number of steps for all sentences together. A step is something that is visited or copied; a pair and a
+/// derived symbol take some more.
 const STEPS: usize = 1_000_000_000;
 
 /// A sentence with two trees.
 #[derive(Drop)]
 pub(crate) struct Ambiguity {
-    /// Its tokens.
+    /// The tokens.
     pub(crate) sentence: Vec<Sym>,
-    /// The rules of the first tree, each in front of those below it.
+    /// The rules of the first tree in preorder.
     pub(crate) one: Vec<usize>,
-    /// The rules of the second tree, each in front of those below it.
+    /// The rules of the second tree in preorder.
     pub(crate) other: Vec<usize>,
 }
 
-/// What sentences are sought by.
+/// The data for the search.
 #[derive(Drop)]
 pub(crate) struct Finder<'a> {
-    /// The conflicts, and what leads backwards to states and waits for nonterminals.
+    /// The conflicts, the predecessors of states, and the items with the dot before each nonterminal.
     pub(crate) examples: &'a Examples<'a>,
-    /// The automaton, which knows the rules of each nonterminal.
+    /// The automaton, which has the rules of each nonterminal.
     pub(crate) lr0: &'a Lr0<'a>,
     /// The items of its states.
     pub(crate) cores: &'a Cores<'a>,
@@ -55,14 +55,14 @@ pub(crate) struct Finder<'a> {
     pub(crate) grammar: &'a Grammar,
     /// The shortest yields of nonterminals.
     pub(crate) yields: &'a Yields,
-    /// How many steps may still be made.
+    /// The number of steps that are left.
     steps: usize,
-    /// How much searches for examples may still look at.
+    /// The budget that is left for searches for counterexamples.
     pub(crate) patience: Patience,
 }
 
 impl<'a> Finder<'a> {
-    /// What sentences of a grammar with conflicts are sought by.
+    /// Prepares the search for a grammar with conflicts.
     pub(crate) fn new(
         examples: &'a Examples<'a>,
         cores: &'a Cores<'a>,
@@ -82,8 +82,9 @@ impl<'a> Finder<'a> {
         }
     }
 
-    /// A sentence with two trees, which take the two actions of a conflict. It is sought first behind the ways to both
-    /// at a string, from the start on, and then from the conflict on outwards.
+    /// Searches for a sentence with two trees that take the two actions of a conflict. First both derivations after a
+    /// common string, from the start symbol on, are completed. If that fails, the search goes outwards from the
+    /// conflict.
     pub(crate) fn find(
         &mut self,
         alloc: Global,
@@ -111,7 +112,7 @@ impl<'a> Finder<'a> {
         Ok(found)
     }
 
-    /// Goes on with a search for a sentence of a conflict, over so many pairs at most.
+    /// Continues a search for a sentence of a conflict, over at most this many pairs.
     fn search(
         &self,
         alloc: Global,
@@ -134,7 +135,7 @@ impl<'a> Finder<'a> {
         Ok(None)
     }
 
-    /// Adds the pair of whole texts that two ways to the same string begin.
+    /// Adds the pair of parses of whole texts that begins with two paths for the same string.
     fn begin_whole(
         &self,
         alloc: Global,
@@ -160,7 +161,7 @@ impl<'a> Finder<'a> {
         Ok(search.push(self.yields, pair)?)
     }
 
-    /// Adds the pairs with which a search begins.
+    /// Adds the initial pairs of a search.
     fn begin(
         &self,
         alloc: Global,
@@ -190,7 +191,7 @@ impl<'a> Finder<'a> {
         Item { rule, dot }
     }
 
-    /// Adds the pair with which a search begins: both items are in the state.
+    /// Adds the initial pair with these two items of the state.
     fn begin_with(
         &self,
         alloc: Global,

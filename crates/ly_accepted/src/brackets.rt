@@ -1,4 +1,5 @@
-//! The rules that are under way behind a string of symbols, drawn with brackets.
+//! Prints the partially parsed rules at the end of a string of symbols, with brackets. A rule that is all of another
+//! one's body gets none, since chains of such rules are long in real grammars and carry no information.
 use crate::bodies::{behind_dot, body_of, rest_of};
 use crate::cores::END;
 use crate::cut::say_left_out;
@@ -8,48 +9,49 @@ use ly_lr0::Item;
 use ly_page::Page;
 use std::alloc::{AllocError, Global};
 
-/// How trees and rules under way are said: with brackets around the rules that have more than one symbol, or with
-/// brackets around all rules, and the names of their left sides before them.
+/// How trees and partially parsed rules are printed: with brackets around rules that have more than one symbol, or with
+/// brackets around all rules and the names of their left sides before them.
 #[derive(Clone, Copy, PartialEq, Eq)]
 pub(crate) enum Style {
-    /// With brackets alone.
+    /// With brackets only.
     Brackets,
     /// With names.
     Names,
 }
 
-/// A rule under way, and what stands before the bracket behind its dot.
+/// A partially parsed rule, and the number of symbols before the bracket that follows its dot.
 #[derive(Clone, Copy)]
 struct Under {
     /// The rule.
     item: Item,
-    /// How many symbols stand before the bracket.
+    /// The number of symbols before the bracket.
     before: usize,
 }
 
-/// A part of what is drawn.
+/// An element of a drawing.
 #[derive(Clone, Copy)]
 enum Piece {
     /// A symbol.
     Symbol(Symbol),
-    /// The beginning of a bracket, and the left side before it, where that is said.
+    /// The start of a bracket, with the left side before it if names are printed.
     Open(Option<Sym>),
     /// The end of a bracket.
     Close,
 }
 
-/// What is drawn on one side of the dot.
+/// The drawing on one side of the dot.
 #[derive(Drop)]
 struct Side {
-    /// Its parts.
+    /// The elements.
     pieces: Vec<Piece>,
-    /// How many of them are symbols.
+    /// The number of symbols among them.
     symbols: usize,
 }
 
-/// Draws the rules of a way: a bracket where one begins below another, the symbols before the dots, and at the end a
-/// dot and what stands behind it in each rule, from the inmost one on. Of no way nothing is said.
-/// Of many symbols on a side of the dot the middle is counted alone, and the brackets that begin there aren't said.
+/// Prints the rules of a path: a bracket for each rule that begins inside another, the symbols before the dots, and
+/// then a dot and what follows the dot in each rule, from the innermost one on. For an empty path it prints nothing. If
+/// one side of the dot has many symbols, those in the middle are only counted, and brackets that begin there aren't
+/// printed.
 pub(crate) fn say_way(
     alloc: Global,
     page: &mut Page,
@@ -87,8 +89,8 @@ pub(crate) fn say_way(
     Ok(())
 }
 
-/// What stands behind the dots of the rules under way, the inmost one first. In each but that one the symbol behind the
-/// dot is the rule within. So many symbols stand before the dot.
+/// What follows the dots of the partially parsed rules, the innermost one first. In each other rule, the symbol after
+/// the dot is the rule inside it. `before` symbols precede the dot.
 fn rests_of(
     alloc: Global,
     spec: &Spec,
@@ -110,13 +112,13 @@ fn rests_of(
     Ok(side)
 }
 
-/// Whether what stands behind so many symbols of a row is said: that isn't in the middle of a long one.
+/// Whether the symbol after `behind` others in a row is printed: it isn't in the middle of a long row.
 fn is_said(behind: usize, symbols: usize) -> bool {
     behind < END || behind >= symbols.saturating_sub(END)
 }
 
 impl Side {
-    /// Nothing so far.
+    /// Returns an empty side.
     fn new(alloc: Global) -> Side {
         Side {
             pieces: Vec::new(alloc),
@@ -131,7 +133,7 @@ impl Side {
         Ok(())
     }
 
-    /// Adds the symbol behind an item's dot, if there is one.
+    /// Adds the symbol after an item's dot, if there is one.
     fn pass(&mut self, spec: &Spec, item: Item) -> Result<(), AllocError> {
         match behind_dot(spec.grammar(), item) {
             Some(symbol) => self.add(symbol),
@@ -139,7 +141,7 @@ impl Side {
         }
     }
 
-    /// Adds the beginning of the bracket around what stands behind an item's dot, if it gets one.
+    /// Adds the start of the bracket around what follows an item's dot, if it gets one.
     fn open(&mut self, spec: &Spec, item: Item, style: Style) -> Result<(), AllocError> {
         if !is_bracketed_in(spec, item, style) {
             return Ok(());
@@ -152,7 +154,7 @@ impl Side {
         Ok(())
     }
 
-    /// Adds what stands behind so many symbols of a rule's body; of rule 0 nothing.
+    /// Adds the symbols of a rule's body after the first `passed`; for rule 0 nothing.
     fn add_rest(&mut self, spec: &Spec, rule: usize, passed: usize) -> Result<(), AllocError> {
         if rule > 0 {
             for symbol in rest_of(spec.grammar(), rule, passed) {
@@ -162,8 +164,8 @@ impl Side {
         Ok(())
     }
 
-    /// Says its parts, a space before each symbol and bracket that doesn't begin a bracket. Answers whether the
-    /// beginning of a bracket was said last.
+    /// Prints the elements, with a space before each symbol and bracket that isn't first in a bracket. Returns whether
+    /// the last element printed is the start of a bracket.
     fn say(&self, page: &mut Page, spec: &Spec) -> bool {
         let (mut behind, mut opened) = (0, false);
         for piece in &self.pieces {
@@ -183,7 +185,7 @@ impl Side {
     }
 }
 
-/// Says a part. Answers whether it is the beginning of a bracket, and is told whether the last one was.
+/// Prints an element. `opened` is whether the last one was the start of a bracket. Returns whether this one is.
 fn say_piece(page: &mut Page, spec: &Spec, piece: Piece, opened: bool) -> bool {
     if let Piece::Close = piece {
         page.say(b"]");
@@ -203,8 +205,8 @@ fn say_piece(page: &mut Page, spec: &Spec, piece: Piece, opened: bool) -> bool {
     matches!(piece, Piece::Open(_))
 }
 
-/// Whether what stands behind the dot of an item gets brackets: with names always, and else where it is a part of
-/// another rule than rule 0, and not all of it.
+/// Whether what follows the dot of an item gets brackets. With names it always does. Otherwise it does if it is a
+/// proper part of a rule other than rule 0.
 fn is_bracketed_in(spec: &Spec, item: Item, style: Style) -> bool {
     style == Style::Names || item.rule > 0 && body_of(spec.grammar(), item.rule).len() > 1
 }

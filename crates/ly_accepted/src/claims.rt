@@ -1,4 +1,4 @@
-//! The claims that are looked at on the way from an action back to the start, each on a beginning of one string.
+//! The claims that are visited on the way from an action back to the start. Each is about a prefix of one string.
 use crate::bodies::behind_dot;
 use crate::cores::Cores;
 use indexmap::{IndexMap, IndexSet};
@@ -8,60 +8,60 @@ use ly_join::Symbol;
 use ly_lr0::Item;
 use std::alloc::{AllocError, Global};
 
-/// How many claims are looked at, at most, to find how an action comes about.
+/// The greatest number of claims that are visited to find how an action arises.
 pub(crate) const MOST: usize = 50_000;
 
-/// How many items of states are gone through, at most, for that.
+/// The greatest number of items of states that are visited for that.
 const MOST_ITEMS: usize = 5_000_000;
 
-/// A claim on a beginning of the string.
+/// A claim about a prefix of the string.
 #[derive(Clone, Copy, PartialEq, Eq, Hash)]
 pub(crate) struct Claimed {
-    /// How many symbols the beginning has.
+    /// The number of symbols in the prefix.
     pub(crate) length: usize,
-    /// What is claimed of it.
+    /// The claim.
     pub(crate) claim: Claim,
 }
 
-/// A rule that begins behind a beginning of the string.
+/// A rule that begins at the end of a prefix of the string.
 #[derive(Clone, Copy, PartialEq, Eq, Hash)]
 pub(crate) struct Opening {
-    /// How many symbols the beginning has.
+    /// The number of symbols in the prefix.
     pub(crate) length: usize,
     /// The left side of the rule.
     pub(crate) left: Sym,
-    /// Whether it is claimed with any terminal.
+    /// Whether it is claimed with any terminal as lookahead.
     pub(crate) in_core: bool,
 }
 
-/// The claims that were found on the way back to the start.
+/// The claims found on the way back to the start.
 #[derive(Drop)]
 pub(crate) struct Search {
-    /// Each with the place of the one that is true by it.
+    /// Each claim, with the index of the claim that it implies.
     pub(crate) found: IndexMap<Claimed, usize>,
-    /// The openings of those that were looked at.
+    /// The openings of the claims that were visited.
     opened: IndexSet<Opening>,
-    /// The core that was asked for last.
+    /// The core that was used last.
     last: Option<Core>,
-    /// How many items of states were gone through.
+    /// The number of items of states that were visited.
     items: usize,
 }
 
-/// The items of a state that wait for nonterminals.
+/// The items of a state with the dot before a nonterminal.
 #[derive(Drop)]
 struct Core {
     /// The state.
     state: StateNo,
-    /// How many items it has, with those that wait for none.
+    /// The number of all items of the state.
     count: usize,
     /// The nonterminals.
     lefts: IndexSet<u32>,
-    /// For each of them the items, in the order in which they were found.
+    /// For each nonterminal the items with the dot before it, in the order in which they were found.
     waiting: Vec<Vec<Item>>,
 }
 
 impl Core {
-    /// The core of a state.
+    /// Computes the core of a state.
     fn of(alloc: Global, cores: &Cores<'_>, state: StateNo) -> Result<Core, AllocError> {
         let grammar = cores.lr0().reduced().grammar();
         let items = cores.items(alloc, state)?;
@@ -79,7 +79,7 @@ impl Core {
         Ok(core)
     }
 
-    /// Adds an item that waits for a nonterminal.
+    /// Adds an item with the dot before a nonterminal.
     fn add(&mut self, alloc: Global, left: Sym, item: Item) -> Result<(), AllocError> {
         if self.lefts.insert(left.0)? {
             self.waiting.push(Vec::new(alloc))?;
@@ -92,7 +92,7 @@ impl Core {
         Ok(())
     }
 
-    /// The items that wait for a nonterminal.
+    /// The items with the dot before a nonterminal.
     fn waiting(&self, left: Sym) -> &[Item] {
         match self.lefts.get_index_of(&left.0) {
             Some(place) => match self.waiting.get(place) {
@@ -105,7 +105,7 @@ impl Core {
 }
 
 impl Search {
-    /// A search that has found nothing.
+    /// Returns a search that has found nothing.
     pub(crate) fn new(alloc: Global) -> Search {
         Search {
             found: IndexMap::new(alloc),
@@ -115,7 +115,7 @@ impl Search {
         }
     }
 
-    /// The claim at a place; none behind so many that the search ends.
+    /// The claim at an index. `None` if there are so many that the search ends.
     pub(crate) fn claimed(&self, place: usize) -> Option<Claimed> {
         if self.found.len() > MOST || self.items > MOST_ITEMS {
             return None;
@@ -124,8 +124,8 @@ impl Search {
         Some(*claimed)
     }
 
-    /// The items of a state that wait for a nonterminal. Claims on one beginning mostly follow one another, so the core
-    /// of the last one is kept.
+    /// The items of a state with the dot before a nonterminal. The core of the last state is cached, since claims about
+    /// one prefix mostly follow one another.
     pub(crate) fn waiting(
         &mut self,
         alloc: Global,
@@ -148,7 +148,7 @@ impl Search {
         }
     }
 
-    /// Whether a claim depends on an opening that was met before. A new one is met here.
+    /// Whether a claim depends on an opening that was visited before. A new opening is recorded.
     pub(crate) fn opens_again(&mut self, opening: Option<Opening>) -> Result<bool, AllocError> {
         let Some(opening) = opening else {
             return Ok(false);
@@ -160,8 +160,8 @@ impl Search {
         Ok(again)
     }
 
-    /// Adds claims by which the one at a place is true, up to the one on the start, and answers whether that is among
-    /// them and new.
+    /// Adds claims that imply the one at `place`, up to the one about the start. Returns whether that is a new one
+    /// among them.
     pub(crate) fn has_start(
         &mut self,
         claims: &[Claimed],
@@ -179,7 +179,7 @@ impl Search {
         Ok(false)
     }
 
-    /// The items of the claims from the last one back to the first, each found from the next.
+    /// The items of the claims from the last one back to the first. Each was found from the next.
     pub(crate) fn way_back(&self, alloc: Global) -> Result<Vec<Item>, OutOfMemory> {
         let mut way = Vec::new(alloc);
         let mut place = self.found.len().saturating_sub(1);
@@ -200,7 +200,7 @@ impl Search {
 }
 
 impl Claimed {
-    /// Whether it is the one on the start that is always true.
+    /// Whether it is the claim about the start, which always holds.
     pub(crate) fn is_start(&self) -> bool {
         self.length == 0 && self.claim == Claim::InCore(Item { rule: 0, dot: 0 })
     }

@@ -1,4 +1,5 @@
-//! The conflicts: what is done, why precedence doesn't settle it, and an example at which both actions are possible.
+//! The report of the conflicts: the resolution, why precedence doesn't settle it, and a counterexample where both
+//! actions are possible.
 ghost use Rattle.std.specs.Prelude.{◌≡◌, ◌<◌, ℕ, Contains, IfOk, length};
 ghost use Rattle.ly_resolve.specs.Conflicts as spec;
 ghost use Rattle.ly_resolve.specs.Values.{conflict_from, IsInside};
@@ -26,13 +27,14 @@ use ly_report::ConflictCounts;
 use ly_resolve::{Action, Conflict, ConflictKind};
 use std::alloc::Global;
 
-/// How much is looked at for all examples together, at most: demands, and symbols behind nonterminals.
+/// The budget of all searches for counterexamples together, counted in demands and symbols after nonterminals that are
+/// visited.
 const LOOKS: usize = 1_000_000_000;
 
-/// What conflicts are told by.
+/// The data for the report of conflicts.
 #[derive(Clone, Copy)]
 struct Teller<'a> {
-    /// The conflicts, and where examples of them are sought.
+    /// The conflicts, and the search for their counterexamples.
     examples: &'a Examples<'a>,
     /// The items of the states.
     cores: &'a Cores<'a>,
@@ -42,8 +44,9 @@ struct Teller<'a> {
     spec: &'a Spec,
 }
 
-/// Says how many conflicts there are, and each with an example; or as JSON the members of an object that say so. Those
-/// of one state that differ in the terminal alone, and that have examples alike, are a group, which is told together.
+/// Prints the number of conflicts, and each conflict with a counterexample; or, for JSON, prints these as members of an
+/// object. Conflicts of one state that differ only in the terminal, and whose searches had the same result, form a
+/// group that is printed as one.
 pub(crate) fn say_conflicts(
     alloc: Global,
     page: &mut Page,
@@ -83,7 +86,7 @@ pub(crate) fn say_conflicts(
     Ok(())
 }
 
-/// Says groups of conflicts.
+/// Prints groups of conflicts.
 fn say_all(
     alloc: Global,
     page: &mut Page,
@@ -97,7 +100,7 @@ fn say_all(
     Ok(())
 }
 
-/// Says groups of conflicts as a member of a JSON object.
+/// Prints groups of conflicts as a member of a JSON object.
 fn say_json(
     alloc: Global,
     page: &mut Page,
@@ -115,14 +118,14 @@ fn say_json(
     Ok(())
 }
 
-/// Says how many conflicts there are of each kind.
+/// Prints the number of conflicts of each kind.
 fn say_counts(page: &mut Page, counts: ConflictCounts) {
     let before = b" shift/reduce, ";
     say_numbered(page, b"\nConflicts: ", counts.shift_reduce as u64, before);
     say_numbered(page, b"", counts.reduce_reduce as u64, b" reduce/reduce.\n");
 }
 
-/// Says as JSON which token's precedence settles the most groups, and how many groups more aren't told.
+/// Prints as JSON the token whose precedence settles the most groups, and the number of groups that aren't printed.
 fn say_rest(page: &mut Page, spec: &Spec, cure: Option<Cure>, untold: usize) {
     page.say_json_key(b"cure");
     match cure {
@@ -140,7 +143,7 @@ fn say_rest(page: &mut Page, spec: &Spec, cure: Option<Cure>, untold: usize) {
 }
 
 impl Teller<'_> {
-    /// The groups of conflicts as they are told, up to so many.
+    /// Collects the data of the groups of conflicts, up to a number of groups.
     fn all_told<'g>(
         &self,
         alloc: Global,
@@ -158,7 +161,7 @@ impl Teller<'_> {
         Ok(all)
     }
 
-    /// A group of conflicts, as it is told.
+    /// Collects the data of a group of conflicts.
     fn told<'g>(
         &self,
         alloc: Global,
@@ -179,7 +182,7 @@ impl Teller<'_> {
         })
     }
 
-    /// The conflict of an index.
+    /// The conflict with this index.
     fn conflict(&self, index: usize) -> Conflict
         requires { index < length self.now.examples.now.conflicts }
         ensures { IsAt self.now.examples.now index result }
@@ -187,7 +190,7 @@ impl Teller<'_> {
         self.examples.resolved().conflicts().get(index).unwrap()
     }
 
-    /// The terminals of the conflicts of these indices.
+    /// The terminals of the conflicts with these indices.
     fn terminals(&self, alloc: Global, group: &[usize]) -> Result<Vec<Sym>, OutOfMemory>
         requires { (i : ℕ) → Contains group.now i → i < length self.now.examples.now.conflicts }
         ensures { IfOk result (λ terminals. AreTerminalsOf self.now.examples.now group.now terminals.items) }
@@ -199,7 +202,7 @@ impl Teller<'_> {
         Ok(terminals)
     }
 
-    /// What is known of how the conflicts of a group come about, of which this is the first.
+    /// How the conflicts of a group arise, as far as it is known. `conflict` is the first of them.
     fn shown<'g>(
         &self,
         alloc: Global,
@@ -224,7 +227,7 @@ impl Teller<'_> {
         }
     }
 
-    /// What is known of a string behind which both actions of a conflict are possible.
+    /// A string after which both actions of a conflict are possible, with what is known of it.
     fn spot<'g>(
         &self,
         alloc: Global,
@@ -250,7 +253,7 @@ impl Teller<'_> {
         })
     }
 
-    /// How both actions of a conflict come about behind a string.
+    /// How both actions of a conflict arise after a string.
     fn readings(
         &self,
         alloc: Global,
@@ -271,7 +274,7 @@ impl Teller<'_> {
         Ok(Readings::Ways(ways, found))
     }
 
-    /// Where each rule of a conflict is possible, if only merging makes the conflicts of these indices.
+    /// Where each rule of a conflict applies, if the conflicts with these indices come only from the merging of states.
     fn merged<'g>(
         &self,
         alloc: Global,
@@ -298,7 +301,7 @@ impl Teller<'_> {
         Ok(Shown::Merged(None))
     }
 
-    /// What the ways to the actions of a conflict are drawn by.
+    /// The data for drawing the paths to the actions of a conflict.
     fn drawn<'c>(&'c self, conflict: &'c Conflict) -> Drawn<'c> {
         Drawn {
             cores: self.cores,
@@ -308,7 +311,7 @@ impl Teller<'_> {
     }
 }
 
-/// Whether a conflict is between two rules that are the same.
+/// Whether a conflict is between two equal rules.
 fn is_between_same(grammar: &Grammar, conflict: &Conflict) -> bool {
     match (conflict.kind, conflict.choice) {
         (ConflictKind::ReduceReduce, Action::Reduce(rule)) => {

@@ -1,4 +1,4 @@
-//! The items of all states and the strings that lead to them, found in one pass over the states.
+//! The items of all states and the strings that lead to the states, computed in one pass over the states.
 use crate::bodies::behind_dot;
 use crate::leading::{goto_of, symbol_to};
 use indexmap::IndexSet;
@@ -7,47 +7,47 @@ use ly_join::{Grammar, Symbol};
 use ly_lr0::{Item, Lr0};
 use std::alloc::{AllocError, Global};
 
-/// How many symbols of each end of a string are known, at most.
+/// The greatest number of symbols that are known of each end of a string.
 pub(crate) const END: usize = 100;
 
-/// How many items a kernel may have that is kept beside that of the state before.
+/// The greatest size of a kernel that is stored in addition to that of the state before.
 const SHORT: usize = 100;
 
-/// How each state is come to, and with which items.
+/// For each state the first way to reach it, and its items.
 #[derive(Drop)]
 pub(crate) struct Cores<'a> {
     /// The automaton.
     lr0: &'a Lr0<'a>,
-    /// Of each state how it is come to first.
+    /// For each state the first way to reach it.
     entries: Vec<Entry>,
 }
 
-/// How a state is come to first.
+/// The first way to reach a state.
 #[derive(Drop)]
 struct Entry {
-    /// The state before the last step; none before the first state.
+    /// The state before the last step; `None` for the first state.
     from: Option<StateNo>,
-    /// How many steps there are.
+    /// The number of steps.
     depth: usize,
-    /// The state behind the first of them, as many as are known.
+    /// The state after the first of these steps, at most as many as are stored.
     early: StateNo,
-    /// The items behind the last one; nothing where there are many, and those of the state before are kept.
+    /// The items after the last step. `None` if there are many; then they are computed from those of the state before.
     kernel: Option<Vec<Item>>,
 }
 
-/// The least string that leads to a state; of a long one the ends.
+/// The least string that leads to a state, or the two ends of a long one.
 #[derive(Drop)]
 pub(crate) struct Prefix {
-    /// Its first symbols; all of them, where none is left out.
+    /// Its first symbols; all of them if none is left out.
     pub(crate) front: Vec<Symbol>,
-    /// How many are left out behind these.
+    /// The number of symbols that are left out after these.
     pub(crate) left_out: usize,
     /// Its last symbols.
     pub(crate) back: Vec<Symbol>,
 }
 
 impl<'a> Cores<'a> {
-    /// Those of an automaton's states.
+    /// Computes the cores of an automaton's states.
     pub(crate) fn of(alloc: Global, lr0: &'a Lr0<'a>) -> Result<Cores<'a>, AllocError> {
         let mut entries = Vec::with_capacity(alloc, lr0.states())?;
         for _ in 0..lr0.states() {
@@ -75,7 +75,7 @@ impl<'a> Cores<'a> {
         self.lr0
     }
 
-    /// The items of a state, in the order in which they were found; none of a number that no state has.
+    /// The items of a state, in the order in which they were found; empty for a number without a state.
     pub(crate) fn items(&self, alloc: Global, state: StateNo) -> Result<Vec<Item>, AllocError> {
         match self.kernel(state) {
             Some(kernel) => closed(alloc, self.lr0, kernel),
@@ -83,13 +83,13 @@ impl<'a> Cores<'a> {
         }
     }
 
-    /// The kernel of a state, where it is kept.
+    /// The kernel of a state, if it is stored.
     fn kernel(&self, state: StateNo) -> Option<&[Item]> {
         let kernel = self.entries.get(state.0 as usize)?.kernel.as_ref()?;
         Some(kernel)
     }
 
-    /// The kernel of a state, from the items of the state before; nothing where these aren't kept.
+    /// Computes the kernel of a state from the items of the state before; empty if these aren't stored.
     fn kernel_again(&self, alloc: Global, state: StateNo) -> Result<Vec<Item>, AllocError> {
         let mut again = Vec::new(alloc);
         let from = self
@@ -131,7 +131,7 @@ impl<'a> Cores<'a> {
         })
     }
 
-    /// The symbols of the last steps to a state, so many at most.
+    /// The symbols of the last steps to a state, at most so many.
     fn last_steps(
         &self,
         alloc: Global,
@@ -178,7 +178,7 @@ impl<'a> Cores<'a> {
 }
 
 impl Entry {
-    /// Takes a step to the state of a number, the first one, from one that so many steps lead to.
+    /// Records the first step to a state. It comes from a state at this depth.
     fn enter(&mut self, number: StateNo, from: StateNo, depth: usize, early: StateNo) {
         if self.from.is_none() {
             self.from = Some(from);
@@ -187,8 +187,8 @@ impl Entry {
         }
     }
 
-    /// Adds an item behind a step from a state, if that is the first one. The kernel isn't kept if it has more items
-    /// than so many.
+    /// Adds an item that a step from a state leads to, if that step is the first one to its target. A kernel that gets
+    /// more than `most` items isn't stored.
     fn add(&mut self, from: StateNo, item: Item, most: usize) -> Result<(), AllocError> {
         let mut is_long = false;
         if self.from == Some(from)
@@ -204,7 +204,7 @@ impl Entry {
     }
 }
 
-/// An item with its dot behind the next symbol.
+/// The item with its dot after the next symbol.
 fn behind(item: Item) -> Item {
     Item {
         dot: item.dot.saturating_add(1),
@@ -212,7 +212,7 @@ fn behind(item: Item) -> Item {
     }
 }
 
-/// The items that a kernel closes to, its own first.
+/// The closure of a kernel, the kernel's items first.
 fn closed(alloc: Global, lr0: &Lr0<'_>, kernel: &[Item]) -> Result<Vec<Item>, AllocError> {
     let grammar = lr0.reduced().grammar();
     let mut items = Vec::from_slice(alloc, kernel)?;
@@ -236,7 +236,7 @@ fn closed(alloc: Global, lr0: &Lr0<'_>, kernel: &[Item]) -> Result<Vec<Item>, Al
     Ok(items)
 }
 
-/// Enters the nonterminal behind the dot of an item, if there is one.
+/// Adds the nonterminal after the dot of an item, if there is one.
 fn enter(grammar: &Grammar, item: Item, entered: &mut IndexSet<u32>) -> Result<(), AllocError> {
     if let Some(Symbol::Nonterminal(left)) = behind_dot(grammar, item) {
         entered.insert(left.0)?;
@@ -244,7 +244,7 @@ fn enter(grammar: &Grammar, item: Item, entered: &mut IndexSet<u32>) -> Result<(
     Ok(())
 }
 
-/// The rules of a nonterminal; none of a number that no nonterminal has.
+/// The rules of a nonterminal; empty for a number without a nonterminal.
 fn rules_of<'l>(lr0: &'l Lr0<'_>, left: Sym) -> &'l [usize] {
     if left.0 > lr0.reduced().grammar().accept().0 {
         return &[];

@@ -1,4 +1,4 @@
-//! Which precedences decide something: where a shift meets a reduction, and both have one.
+//! Which precedences have an effect: those of a shift and a reduction that meet in a state, if both have one.
 ghost use Rattle.std.specs.Prelude.{◌<◌, length};
 ghost use Rattle.ly_lookahead.specs.Lookaheads.{AreLookaheads};
 
@@ -11,19 +11,19 @@ use ly_lr0::{Item, Lr0};
 use ly_resolve::Resolved;
 use std::alloc::Global;
 
-/// What precedences decide.
+/// The precedences that have an effect.
 #[derive(Drop)]
 pub(crate) struct Decided {
-    /// Whether the precedence of each terminal meets that of a rule.
+    /// For each terminal whether its precedence meets that of a rule.
     terminals: Vec<bool>,
-    /// Whether the `%prec` of each rule settles a shift otherwise than the last terminal of its body does.
+    /// For each rule whether its `%prec` settles some shift in another way than the last terminal of its body would.
     rules: Vec<bool>,
-    /// Whether a rule whose precedence is declared at each place does so.
+    /// For each precedence declaration whether a rule with its precedence has an effect.
     levels: Vec<bool>,
 }
 
 impl Decided {
-    /// What the precedences of a specification decide.
+    /// Computes which precedences of a specification have an effect.
     pub(crate) fn of(
         alloc: Global,
         resolved: &Resolved<'_>,
@@ -41,7 +41,7 @@ impl Decided {
         Ok(decided)
     }
 
-    /// Marks what meets in the states.
+    /// Marks the meetings in all states.
     fn mark_all(&mut self, spec: &Spec, lr0: &Lr0<'_>, sets: &Lookaheads)
         requires { AreLookaheads lr0.now sets.now }
     {
@@ -50,7 +50,7 @@ impl Decided {
         }
     }
 
-    /// Whether the precedence of a terminal decides something, or that of a rule that has it from the same declaration.
+    /// Whether the precedence of a terminal has an effect, or that of a rule which has it from the same declaration.
     pub(crate) fn by_terminal(&self, spec: &Spec, terminal: Sym) -> bool {
         let number = terminal.0 as usize;
         if is_marked(&self.terminals, number) {
@@ -62,12 +62,12 @@ impl Decided {
         }
     }
 
-    /// Whether the `%prec` of a rule decides something.
+    /// Whether the `%prec` of a rule has an effect.
     pub(crate) fn by_rule(&self, rule: usize) -> bool {
         is_marked(&self.rules, rule)
     }
 
-    /// Marks what meets in a state.
+    /// Marks the meetings in a state.
     fn mark_state(&mut self, spec: &Spec, lr0: &Lr0<'_>, sets: &Lookaheads, state: StateNo)
         requires state { state.0 < length lr0.now.states }
         requires sets { AreLookaheads lr0.now sets.now }
@@ -87,7 +87,7 @@ impl Decided {
         }
     }
 
-    /// Marks what the precedences of a terminal and a rule decide that meet.
+    /// Marks the effect of the precedences of a terminal and a rule that meet.
     fn mark_meeting(&mut self, spec: &Spec, terminal: Sym, rule: usize) {
         let Some(of_terminal) = rank_of(spec, terminal) else {
             return;
@@ -103,10 +103,10 @@ impl Decided {
     }
 }
 
-/// How a shift against a reduction is settled.
+/// How a shift/reduce conflict is settled.
 #[derive(Clone, Copy, PartialEq, Eq)]
 enum Settled {
-    /// It is a conflict.
+    /// It isn't.
     Not,
     /// By the shift.
     Shift,
@@ -116,7 +116,7 @@ enum Settled {
     Error,
 }
 
-/// How a shift of a terminal that has a precedence is settled against a reduction.
+/// How the shift of a terminal with a precedence is settled against a reduction.
 fn outcome(rule: Option<Precedence>, terminal: Precedence) -> Settled {
     let Some(rule) = rule else {
         return Settled::Not;
@@ -139,7 +139,7 @@ pub(crate) fn rank_of(spec: &Spec, terminal: Sym) -> Option<Precedence> {
     *spec.precedences().get(terminal.0 as usize)?
 }
 
-/// The precedence that a rule has without its `%prec`, if it has one: that of its last terminal.
+/// The precedence that a rule has without its `%prec`: that of its last terminal, if this has one.
 fn last_rank(spec: &Spec, rule: usize) -> Option<Precedence> {
     rank_of(spec, last_terminal(spec, rule)?)
 }
@@ -159,7 +159,7 @@ pub(crate) fn precedence_of(spec: &Spec, rule: usize) -> Option<Precedence> {
     spec.notes().get(rule)?.precedence
 }
 
-/// How many places the declarations of a specification's precedences have.
+/// The number of precedence declarations of a specification.
 fn levels_of(spec: &Spec) -> usize {
     let mut levels = 0;
     for ranked in spec.precedences() {
@@ -175,7 +175,7 @@ pub(crate) fn is_marked(marks: &[bool], number: usize) -> bool {
     marks.get(number) == Some(&true)
 }
 
-/// Marks a number. One that has no mark is passed over.
+/// Marks a number. A number outside the list is ignored.
 fn mark(marks: &mut Vec<bool>, number: usize) {
     if let Some(place) = marks.get_mut(number) {
         *place = true;

@@ -1,9 +1,9 @@
-//! Doubts as values: what may not be meant, and where it stands.
+//! Warnings as values: what may be a mistake, and where.
 use crate::patterns::Surprise;
 use ly_base::{Location, Sym};
 use ly_yaccread::SymbolName;
 
-/// Which of both files.
+/// One of the two files.
 #[derive(Clone, Copy, Debug, PartialEq, Eq)]
 pub(crate) enum Side {
     /// The lex file.
@@ -12,73 +12,73 @@ pub(crate) enum Side {
     Yacc,
 }
 
-/// Something that may not be meant.
+/// A warning: something that may be a mistake.
 #[derive(Drop)]
 pub(crate) struct Doubt<'a> {
-    /// The file in which it stands.
+    /// The file that it is in.
     pub(crate) side: Side,
-    /// Where it stands; nowhere, where others are counted alone.
+    /// Its location. `None` for a warning that only counts others.
     pub(crate) at: Option<Location>,
-    /// What it is.
+    /// The kind of warning.
     pub(crate) kind: DoubtKind<'a>,
 }
 
-/// What may not be meant.
+/// The kinds of warnings.
 #[derive(Drop)]
 pub(crate) enum DoubtKind<'a> {
     /// No action sets this condition.
     UnsetCondition(&'a [u8]),
     /// No rule is active in this condition.
     IdleCondition(&'a [u8]),
-    /// A pattern means something else than it may seem to.
+    /// A pattern has another meaning than it may seem to have.
     Surprise {
-        /// What does.
+        /// The construct with that meaning.
         surprise: Surprise,
-        /// The line in which it stands.
+        /// The line of the pattern.
         line: &'a [u8],
-        /// How many bytes of the line stand before it.
+        /// The offset of the construct in the line.
         offset: usize,
     },
     /// A line among the rules begins with a blank.
     IndentedLine,
     /// A rule of the lex file never matches.
     UnmatchedRule(Hiding),
-    /// This literal is returned, and the yacc file doesn't name it.
+    /// This literal is returned, but the yacc file doesn't name it.
     UnnamedLiteral(u8),
-    /// No text has this rule.
+    /// This rule occurs in no tree of the start symbol.
     UselessRule(usize),
     /// No state reduces by this rule.
     UnreducedRule(usize),
-    /// This rule has no action, and loses the trees of its other symbols.
+    /// This rule has no action, so the trees of its other symbols are lost.
     LosingRule(usize),
-    /// This terminal stands in no rule.
+    /// This terminal occurs in no rule.
     UnusedTerminal(Sym),
-    /// So many terminals more stand in no rule.
+    /// So many more terminals occur in no rule.
     MoreUnused(usize),
     /// No rule of the lex file returns this terminal.
     UnreturnedTerminal(Sym),
-    /// So many terminals more are returned by no rule.
+    /// So many more terminals are returned by no rule.
     MoreUnreturned(usize),
-    /// This token is declared before.
+    /// This token was declared before.
     DeclaredAgain {
-        /// It.
+        /// The token.
         symbol: &'a SymbolName,
-        /// The line on which it is declared first.
+        /// The line of its first declaration.
         first: u64,
     },
-    /// The precedence of this terminal decides nothing.
+    /// The precedence of this terminal has no effect.
     IdlePrecedence(Sym),
-    /// The `%prec` of this rule decides nothing.
+    /// The `%prec` of this rule has no effect.
     IdlePrec(usize),
 }
 
-/// What takes all that a rule of the lex file could match.
+/// Why a rule of the lex file never matches.
 #[derive(Drop)]
 pub(crate) enum Hiding {
-    /// Earlier rules; which of them was too much to look at.
+    /// Earlier rules match its strings. Finding out which took too many steps.
     Earlier,
-    /// The rule has the empty string alone.
+    /// The rule matches only the empty string.
     EmptyAlone,
-    /// The rules that begin on these lines, which rise.
+    /// The rules on these lines match its strings. The lines ascend.
     Lines(Vec<u64>),
 }

@@ -1,4 +1,4 @@
-//! Doubts put into words, and their names.
+//! Warnings as text, and their names.
 use crate::bodies::body_of;
 use crate::doubt::{Doubt, DoubtKind, Hiding, Side};
 use crate::patterns::Surprise;
@@ -9,7 +9,7 @@ use ly_join::{Grammar, Symbol};
 use ly_page::{Named, Page};
 use ly_yaccread::SymbolName;
 
-/// How many rules are named that take what another one could, at most.
+/// The greatest number of rules that are named as the reason why another one never matches.
 const NAMED: usize = 5;
 
 /// The file of a side.
@@ -20,7 +20,7 @@ pub(crate) fn file_of<'a>(files: &Accepted<'a>, side: Side) -> Named<'a> {
     }
 }
 
-/// Says a doubt on a line: the file, where it stands there, and what it is. Of a pattern its line follows.
+/// Prints a warning on a line: the file, the location, and the message. For a pattern its line follows.
 pub(crate) fn say_doubt(page: &mut Page, files: &Accepted<'_>, doubt: &Doubt<'_>) {
     let file = file_of(files, doubt.side);
     match doubt.at {
@@ -33,12 +33,12 @@ pub(crate) fn say_doubt(page: &mut Page, files: &Accepted<'_>, doubt: &Doubt<'_>
     say_kind(page, files, &doubt.kind);
     page.say(b"\n");
     if let DoubtKind::Surprise { line, offset, .. } = &doubt.kind {
-        // The line by itself, so that it isn't sought from the front of the file.
+        // Only this line is passed, so that it isn't searched from the start of the file.
         page.say_excerpt(Named::new(file.name, line), locate(line, *offset));
     }
 }
 
-/// Says what may not be meant.
+/// Prints the message of a warning.
 pub(crate) fn say_kind(page: &mut Page, files: &Accepted<'_>, kind: &DoubtKind<'_>) {
     match kind {
         DoubtKind::UnsetCondition(name) => say_about(page, b"no action sets the condition ", name),
@@ -64,13 +64,13 @@ pub(crate) fn say_kind(page: &mut Page, files: &Accepted<'_>, kind: &DoubtKind<'
     }
 }
 
-/// Says words, and a name behind them.
+/// Prints words and then a name.
 fn say_about(page: &mut Page, words: &[u8], name: &[u8]) {
     page.say(words);
     page.say(name);
 }
 
-/// Says what may not be meant of a rule of the grammar.
+/// Prints the message of a warning about a rule of the grammar.
 fn say_of_rule(page: &mut Page, files: &Accepted<'_>, kind: &DoubtKind<'_>) {
     match kind {
         DoubtKind::UselessRule(rule) => {
@@ -109,7 +109,7 @@ fn say_of_rule(page: &mut Page, files: &Accepted<'_>, kind: &DoubtKind<'_>) {
     }
 }
 
-/// Whether the body of a rule is its left side alone.
+/// Whether the body of a rule consists of its left side alone.
 fn is_roundabout(grammar: &Grammar, rule: usize) -> bool {
     match (grammar.rules().get(rule), body_of(grammar, rule)) {
         (Some(rule), [Symbol::Nonterminal(only)]) => rule.left() == *only,
@@ -117,7 +117,7 @@ fn is_roundabout(grammar: &Grammar, rule: usize) -> bool {
     }
 }
 
-/// Says what may not be meant of a terminal, or of so many more.
+/// Prints the message of a warning about a terminal, or about the number of further ones.
 fn say_of_terminal(page: &mut Page, files: &Accepted<'_>, kind: &DoubtKind<'_>) {
     let spec = files.spec;
     match kind {
@@ -162,7 +162,7 @@ fn say_of_terminal(page: &mut Page, files: &Accepted<'_>, kind: &DoubtKind<'_>) 
     }
 }
 
-/// Says why a rule of the lex file never matches.
+/// Prints why a rule of the lex file never matches.
 fn say_hiding(page: &mut Page, hiding: &Hiding) {
     page.say(b"this rule never matches: ");
     match hiding {
@@ -174,7 +174,7 @@ fn say_hiding(page: &mut Page, hiding: &Hiding) {
     }
 }
 
-/// Says by their lines which rules take all that a rule could.
+/// Prints the lines of the rules that match all strings of another rule.
 fn say_rules(page: &mut Page, lines: &[u64]) {
     let count = lines.len();
     page.say(if count == 1 {
@@ -203,7 +203,7 @@ fn say_rules(page: &mut Page, lines: &[u64]) {
     });
 }
 
-/// The name of a doubt, which stays as it is.
+/// The name of a warning. Names never change.
 pub(crate) fn name_of(kind: &DoubtKind<'_>) -> &'static [u8] {
     match kind {
         DoubtKind::UnsetCondition(_) => b"UnsetCondition",
@@ -223,7 +223,7 @@ pub(crate) fn name_of(kind: &DoubtKind<'_>) -> &'static [u8] {
     }
 }
 
-/// The name of what is surprising in a pattern.
+/// The name of a warning about a pattern.
 fn name_of_surprise(surprise: Surprise) -> &'static [u8] {
     match surprise {
         Surprise::Letter(_) => b"EscapedLetter",

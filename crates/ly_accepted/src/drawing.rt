@@ -1,4 +1,4 @@
-//! How an action comes about behind a string of symbols: the rules that are under way there.
+//! How an action arises after a string of symbols: the partially parsed rules at its end.
 use crate::bodies::{behind_dot, rest_of};
 use crate::claims::{Claimed, MOST, Opening, Search, item_of, with_item};
 use crate::cores::Cores;
@@ -10,25 +10,25 @@ use ly_join::{Grammar, Symbol};
 use ly_lr0::{Item, Lr0};
 use std::alloc::Global;
 
-/// A string of symbols behind which an action is drawn.
+/// A string of symbols, and the data to find how an action arises after it.
 #[derive(Drop)]
 pub(crate) struct Drawing<'a> {
     /// What is known of the grammar.
     reduced: &'a Reduced<'a>,
     /// The grammar.
     grammar: &'a Grammar,
-    /// The string, its first symbol first.
+    /// The string, from its first symbol on.
     string: &'a [Symbol],
-    /// What stands next.
+    /// The next terminal.
     terminal: Sym,
     /// The items of the states.
     cores: &'a Cores<'a>,
-    /// For each beginning of the string, the empty one first, the state to which it leads.
+    /// The state after each prefix of the string, from the empty one on.
     states: Vec<StateNo>,
 }
 
 impl<'a> Drawing<'a> {
-    /// What is drawn behind this string.
+    /// Prepares the search for this string.
     pub(crate) fn new(
         alloc: Global,
         cores: &'a Cores<'a>,
@@ -46,8 +46,8 @@ impl<'a> Drawing<'a> {
         })
     }
 
-    /// The way to a claim behind the string: the items of the claims from that on the start to this one, each of which
-    /// is true by the one before it; none where that isn't found.
+    /// The path to a claim about the whole string: the items of the claims from that about the start to this one. Each
+    /// claim implies the next. Empty if none is found.
     pub(crate) fn way(&self, alloc: Global, last: Claim) -> Result<Vec<Item>, OutOfMemory> {
         let mut search = Search::new(alloc);
         let last = Claimed {
@@ -57,7 +57,7 @@ impl<'a> Drawing<'a> {
         self.way_to(alloc, &mut search, last)
     }
 
-    /// The way to a claim, found by a search that has looked at nothing.
+    /// The path to a claim, found by a search that has visited nothing.
     fn way_to(
         &self,
         alloc: Global,
@@ -76,7 +76,7 @@ impl<'a> Drawing<'a> {
         Ok(Vec::new(alloc))
     }
 
-    /// Adds the claims by which the one at a place is true, and answers whether that on the start is among them.
+    /// Adds the claims that imply the one at an index. Returns whether that about the start is among them.
     fn reaches_start(
         &self,
         alloc: Global,
@@ -91,7 +91,8 @@ impl<'a> Drawing<'a> {
         Ok(search.has_start(&before, place)?)
     }
 
-    /// What a claim on a rule with nothing before its dot is true by depends on alone.
+    /// The opening of a claim about a rule with its dot at the start. What implies the claim depends on the opening
+    /// alone.
     fn opening(&self, claimed: Claimed) -> Option<Opening> {
         let item = item_of(claimed.claim)?;
         if item.dot > 0 {
@@ -105,7 +106,7 @@ impl<'a> Drawing<'a> {
         })
     }
 
-    /// The claims by which one is true.
+    /// The claims that imply a claim.
     fn before(
         &self,
         alloc: Global,
@@ -135,7 +136,8 @@ impl<'a> Drawing<'a> {
         Ok(found)
     }
 
-    /// Adds the claims on the items of a core that wait for the left side of a rule with nothing before its dot.
+    /// Adds the claims about the items of a core whose dot is before the left side of a rule that has its dot at the
+    /// start.
     fn push_waiting(
         &self,
         found: &mut Vec<Claimed>,
@@ -160,8 +162,8 @@ impl<'a> Drawing<'a> {
         Ok(())
     }
 
-    /// Whether a claim is true by the item that waits for its rule in the core, with any terminal, and whether by that
-    /// item with the terminal that stands next.
+    /// Whether an item with its dot before the left side of a rule implies a claim about that rule: first with any
+    /// terminal as the item's lookahead, then with the next terminal.
     fn is_true_by(&self, claim: Claim, waiting: Item) -> (bool, bool) {
         if let Claim::InCore(_) = claim {
             return (true, false);
@@ -171,7 +173,7 @@ impl<'a> Drawing<'a> {
     }
 }
 
-/// The states to which the beginnings of a string lead, up to where it leads nowhere.
+/// The states after the prefixes of a string, as far as it leads to states.
 fn states_along(
     alloc: Global,
     lr0: &Lr0<'_>,
@@ -190,7 +192,7 @@ fn states_along(
     Ok(states)
 }
 
-/// Whether a terminal begins what symbols yield, and whether that may be empty.
+/// Whether a terminal can begin what symbols derive, and whether they can derive the empty string.
 pub(crate) fn begin(reduced: &Reduced<'_>, symbols: &[Symbol], terminal: Sym) -> (bool, bool) {
     let grammar = reduced.grammar();
     for symbol in symbols {

@@ -1,5 +1,5 @@
-//! Which conflicts are told together: those of one state that differ in the terminal alone, and that have examples
-//! alike.
+//! Groups the conflicts: a group has conflicts of one state that differ only in the terminal and whose searches for
+//! counterexamples had the same result.
 ghost use Rattle.std.specs.Prelude.{◌≡◌, ◌<◌, ◌+◌, ◌++◌, [], ◌∷◌, Contains, IfOk, OnOk, length};
 ghost use Rattle.ly_resolve.specs.Resolved.{Resolved};
 ghost use Rattle.ly_resolve.specs.Values.{conflict_from, IsInside};
@@ -13,49 +13,49 @@ use ly_examples::{Example, Examples, Patience};
 use ly_resolve::Conflict;
 use std::alloc::Global;
 
-/// How many demands a search for an example looks at, at most.
+/// The greatest number of demands that a search for a counterexample visits.
 pub(crate) const BOUND: usize = 20_000;
 
-/// Of how many conflicts an example is sought, at most.
+/// The greatest number of conflicts for which a counterexample is searched.
 const SEARCHES: usize = 2_000;
 
-/// Behind how many conflicts with more demands no example is sought any more.
+/// After this many conflicts with more demands, no more counterexamples are searched.
 const ENDLESS: usize = 40;
 
-/// How many groups of conflicts are told, at most.
+/// The greatest number of groups that are printed.
 pub(crate) const TOLD: usize = 100;
 
-/// Conflicts that are told together.
+/// A group of conflicts that are printed as one.
 #[derive(Drop)]
 pub(crate) struct Group {
-    /// Their indices among all conflicts, rising.
+    /// The indices of the conflicts, ascending.
     pub(crate) conflicts: Vec<usize>,
-    /// The example of the first of them; nothing where none was sought.
+    /// The counterexample of the first conflict; `None` if none was searched.
     pub(crate) example: Option<Example>,
 }
 
-/// The groups so far, and what the conflicts of each have in common.
+/// The groups so far, with their keys.
 #[derive(Drop)]
 pub(crate) struct Groups {
     /// The groups.
     pub(crate) list: Vec<Group>,
-    /// What their conflicts have in common, at the place of each.
+    /// The keys of the groups, at the same indices.
     pub(crate) keys: Keys,
-    /// What the conflicts of those that are told have in common, whatever was answered.
+    /// The shared properties of the conflicts in the groups that are printed, whatever the result of their searches.
     pub(crate) told: IndexSet<Common>,
 }
 
-/// How many examples may still be sought.
+/// The number of searches that are left.
 #[derive(Clone, Copy)]
 struct Allowed {
-    /// How many conflicts may still be asked.
+    /// The number of conflicts that may still be searched.
     searches: usize,
-    /// How many of them may still have more demands than are looked at.
+    /// The number of them that may still exceed the limit of demands.
     endless: usize,
 }
 
-/// All conflicts in groups, which are in the order of their first ones. Examples are sought as long as there is
-/// patience.
+/// Puts all conflicts into groups, in the order of their first conflicts. Searches for counterexamples as long as there
+/// is budget.
 pub(crate) fn groups_of(
     alloc: Global,
     examples: &Examples<'_>,
@@ -85,7 +85,7 @@ pub(crate) fn groups_of(
     Ok(list)
 }
 
-/// The example of a conflict, if one may still be sought.
+/// The counterexample of a conflict, if it may still be searched.
 fn example_of(
     alloc: Global,
     examples: &Examples<'_>,
@@ -109,7 +109,7 @@ fn example_of(
 }
 
 impl Groups {
-    /// No groups.
+    /// Returns no groups.
     fn new(alloc: Global) -> Groups
         ensures keys { result.keys ≡ [] }
         ensures list { result.list.items ≡ [] }
@@ -121,8 +121,8 @@ impl Groups {
         }
     }
 
-    /// Whether an example of a conflict is sought: one of those that are told, or that may belong to them. Shifts
-    /// against a reduction that differ in the terminal alone have examples all, so one of them is asked.
+    /// Whether to search for a counterexample of a conflict: it is in a group that is printed, or may be. Shift/reduce
+    /// conflicts that differ only in the terminal all have counterexamples, so only one of them is searched.
     fn asks_for(&self, conflict: &Conflict) -> bool {
         let key = Key::of(conflict, &None);
         if key.common.is_shift && self.keys.find(key).is_some() {
@@ -131,7 +131,7 @@ impl Groups {
         self.list.len() < TOLD || self.told.contains(&key.common)
     }
 
-    /// Adds the conflict of an index to its group, or as a group of its own.
+    /// Adds the conflict with this index to its group, or as a new group.
     fn add(
         &mut self,
         alloc: Global,
@@ -150,7 +150,7 @@ impl Groups {
         }
     }
 
-    /// Adds the conflict of an index to the group at a place.
+    /// Adds the conflict with this index to the group at an index.
     fn join(&mut self, place: usize, index: usize) -> Result<(), OutOfMemory>
         requires { place < length self.old.list.items }
         ensures list { OnOk result (IsJoinedBy place index self.old.list.items self.new.list.items) }
@@ -160,7 +160,7 @@ impl Groups {
         Ok(())
     }
 
-    /// Adds a group of the conflict of an index alone, whose key isn't there.
+    /// Adds a new group with the conflict with this index.
     fn open(
         &mut self,
         alloc: Global,

@@ -1,4 +1,4 @@
-//! How two readings go on: behind the place of the conflict by what is ahead, and outwards by rules around them.
+//! How a pair of partial parses grows: forward over the next symbols, and outwards by enclosing rules.
 ghost use Rattle.std.specs.Prelude.{IfOk};
 ghost use Rattle.ly_resolve.specs.Values.{conflict_from, IsInside};
 ghost use Rattle.ly_accepted.specs.Told.{IsFoundIn};
@@ -16,38 +16,38 @@ use ly_join::Symbol;
 use ly_resolve::Conflict;
 use std::alloc::{AllocError, Global};
 
-/// How far two readings go on together.
+/// Where two parses stop advancing together.
 #[derive(Clone, Copy)]
 enum Course {
-    /// To where one of them has to replace a nonterminal.
+    /// One of them has to expand a nonterminal.
     Open,
-    /// To where one of them has nothing ahead.
+    /// One of them has no symbols ahead.
     Ended,
-    /// To where they can't come to the same tokens.
+    /// They can't read the same tokens.
     Parted,
 }
 
-/// How many steps a pair takes beside what it holds.
+/// The number of steps that a pair takes in addition to its size.
 const PAIR: usize = 50;
 
-/// How many steps a derived symbol takes.
+/// The number of steps that a derived symbol takes.
 const DERIVED: usize = 50;
 
 /// A search for a sentence.
 #[derive(Drop)]
 pub(crate) struct Search {
-    /// The pairs that are to be looked at.
+    /// The pairs that are still to be visited.
     queue: Queue,
-    /// What tells those apart that were looked at.
+    /// The keys of the pairs that were visited.
     seen: IndexSet<Vec<u32>>,
     /// The terminal of the conflict.
     terminal: Sym,
-    /// How many steps may still be made: what is looked at or copied.
+    /// The number of steps that are left. A step is something that is visited or copied.
     pub(crate) steps: usize,
 }
 
 impl Search {
-    /// A search for a sentence of a conflict over so many steps, which has no pairs yet.
+    /// Returns a search for a sentence of a conflict with this many steps and without pairs.
     pub(crate) fn new(
         alloc: Global,
         conflict: &Conflict,
@@ -61,12 +61,12 @@ impl Search {
         })
     }
 
-    /// Makes so many steps.
+    /// Subtracts so many steps.
     pub(crate) fn take_steps(&mut self, count: usize) {
         self.steps = self.steps.saturating_sub(count);
     }
 
-    /// The pair that is looked at next, if there is one and steps may still be made.
+    /// The next pair to visit, if there is one and steps are left.
     pub(crate) fn next(&mut self) -> Option<Pair> {
         if self.steps == 0 {
             return None;
@@ -80,12 +80,12 @@ impl Search {
         self.queue.push(yields, pair)
     }
 
-    /// Whether no pair is added any more.
+    /// Whether no more pairs are added.
     fn is_closed(&self) -> bool {
         self.steps == 0 || self.queue.is_full()
     }
 
-    /// Whether no pair with this key was looked at. It is noted.
+    /// Whether no pair with this key was visited. Records the key.
     fn is_new(&mut self, key: Vec<u32>) -> Result<bool, OutOfMemory> {
         self.take_steps(key.len());
         Ok(self.seen.insert(key)?)
@@ -93,7 +93,7 @@ impl Search {
 }
 
 impl Finder<'_> {
-    /// Looks at a pair for a conflict: answers the sentence that it has come to, or adds those that it becomes.
+    /// Visits a pair for a conflict. Returns the sentence that it completes, or adds its successors.
     pub(crate) fn look_at(
         &self,
         alloc: Global,
@@ -127,7 +127,7 @@ impl Finder<'_> {
         Ok(None)
     }
 
-    /// Goes on with two readings as long as they have the same symbol ahead.
+    /// Advances two parses as long as they have the same symbol ahead.
     fn go_on(
         &self,
         alloc: Global,
@@ -156,7 +156,7 @@ impl Finder<'_> {
         Ok(Course::Parted)
     }
 
-    /// Goes on with two readings behind the symbol that both have ahead.
+    /// Advances two parses over the symbol that both have ahead.
     fn pass_both(
         &self,
         alloc: Global,
@@ -172,7 +172,7 @@ impl Finder<'_> {
         pair.other.rules.extend_from_slice(&passed.rules)
     }
 
-    /// Adds the pairs that a pair becomes where a nonterminal that is ahead is replaced.
+    /// Adds the successors of a pair in which a nonterminal ahead is expanded.
     fn push_derived(
         &self,
         alloc: Global,
@@ -186,7 +186,7 @@ impl Finder<'_> {
         self.push_replaced(alloc, search, pair, Which::Other)
     }
 
-    /// Adds the pairs that a pair becomes where readings replace the nonterminal that is ahead, if one is.
+    /// Adds the successors of a pair in which these parses expand the next nonterminal, if it is one.
     fn push_replaced(
         &self,
         alloc: Global,
@@ -218,7 +218,7 @@ impl Finder<'_> {
         Ok(())
     }
 
-    /// Adds the pairs that a pair becomes where a reading that has nothing ahead gets a rule around it.
+    /// Adds the successors of a pair in which a parse that has nothing ahead gets an enclosing rule.
     fn push_around(
         &self,
         alloc: Global,
@@ -234,7 +234,7 @@ impl Finder<'_> {
         }
     }
 
-    /// Adds the pairs in which readings get a rule around them.
+    /// Adds the pairs in which parses get an enclosing rule.
     fn push_within(
         &self,
         alloc: Global,
@@ -263,7 +263,7 @@ impl Finder<'_> {
         Ok(())
     }
 
-    /// The trees of symbols that have the fewest tokens.
+    /// The trees of symbols with the fewest tokens.
     pub(crate) fn yielded(
         &self,
         alloc: Global,

@@ -1,4 +1,4 @@
-//! The trees of two readings that have come to the same tokens.
+//! The trees of two parses that have read the same tokens.
 ghost use Rattle.std.specs.Prelude.{IfOk};
 ghost use Rattle.ly_resolve.specs.Values.{conflict_from, IsInside};
 ghost use Rattle.ly_accepted.specs.Told.{IsFoundIn};
@@ -17,15 +17,15 @@ use ly_lr0::Item;
 use ly_resolve::Conflict;
 use std::alloc::{AllocError, Global};
 
-/// From how many states it is tried to lead to a pair.
+/// The number of states from which the search for a prefix to a pair is tried.
 const STATES: usize = 4;
 
-/// How many steps such a try takes.
+/// The number of steps that such a try takes.
 const TRY: usize = 1_000_000;
 
 impl Finder<'_> {
-    /// The sentence that two readings of one nonterminal have come to, if a string leads to where they begin, and its
-    /// trees take both actions of a conflict.
+    /// The sentence of two parses of one nonterminal, if a string leads to where they begin and their trees take both
+    /// actions of a conflict.
     pub(crate) fn joined(
         &self,
         alloc: Global,
@@ -62,8 +62,8 @@ impl Finder<'_> {
         Ok(None)
     }
 
-    /// How the nonterminal of two readings comes about behind a prefix: the way to the item that waits for it; an empty
-    /// one where it is that of the whole text, and none where that isn't found.
+    /// How the nonterminal of two parses arises after a prefix: the path to the item with the dot before it. Empty if
+    /// they are parses of the whole text; `None` if no path is found.
     fn way_to(
         &self,
         alloc: Global,
@@ -89,8 +89,8 @@ impl Finder<'_> {
         Ok(Some(way))
     }
 
-    /// The rules of the tree that a reading has below the last item of a way, each in front of those below it. What
-    /// the way passes and what stands behind the reading is of the fewest tokens.
+    /// The rules, in preorder, of the tree that a parse has below the last item of a path. What the path skips and what
+    /// follows the parse is derived with the fewest tokens.
     fn rules_of(
         &self,
         alloc: Global,
@@ -116,7 +116,8 @@ impl Finder<'_> {
         Ok(rules)
     }
 
-    /// Goes on to an item of a way: the inmost open rule has passed a symbol, which is derived, or another is opened.
+    /// Advances to an item of a path. Either the innermost open rule moves its dot over a symbol, which is derived, or
+    /// the item opens a new rule.
     fn pass(
         &self,
         alloc: Global,
@@ -136,7 +137,7 @@ impl Finder<'_> {
         Ok(())
     }
 
-    /// Adds the rules of the shortest yield of the symbol behind an item's dot.
+    /// Adds the rules of the shortest derivation of the symbol after an item's dot.
     fn derive_behind(
         &self,
         alloc: Global,
@@ -150,7 +151,7 @@ impl Finder<'_> {
         rules.extend_from_slice(&passed.rules)
     }
 
-    /// Adds a rule under way, and the rules of the shortest yields of what stands before its dot.
+    /// Adds a partially parsed rule, and the rules of the shortest derivations of the symbols before its dot.
     fn push_opened(
         &self,
         alloc: Global,

@@ -1,4 +1,4 @@
-//! What is doubtful in a lex file that is accepted.
+//! The warnings about an accepted lex file.
 ghost use Rattle.ly_subset.specs.Automaton.{IsBreadthFirst};
 
 use crate::decided::is_marked;
@@ -15,16 +15,16 @@ use ly_join::TerminalName;
 use ly_lexread::Returned;
 use std::alloc::{AllocError, Global};
 
-/// What finds doubts about a lex file.
+/// The search for warnings about a lex file.
 #[derive(Drop)]
 struct Finder<'a> {
     /// The files.
     files: Accepted<'a>,
-    /// Those that are found.
+    /// The warnings found so far.
     doubts: Vec<Doubt<'a>>,
 }
 
-/// What is doubtful in the lex file.
+/// Finds the warnings about the lex file.
 pub(crate) fn lex_doubts<'a>(
     alloc: Global,
     files: Accepted<'a>,
@@ -50,13 +50,13 @@ pub(crate) fn lex_doubts<'a>(
     Ok(doubts)
 }
 
-/// Where a line begins.
+/// The location of the start of a line.
 fn first_of_line(line: u64) -> Location {
     Location { line, column: 1 }
 }
 
 impl<'a> Finder<'a> {
-    /// Adds a doubt about what stands at a location.
+    /// Adds a warning at a location.
     fn add(&mut self, at: Location, kind: DoubtKind<'a>) -> Result<(), OutOfMemory> {
         Ok(
             self.doubts.push(Doubt {
@@ -67,7 +67,7 @@ impl<'a> Finder<'a> {
         )
     }
 
-    /// Finds which conditions no action sets, and in which no rule is active.
+    /// Finds the conditions that no action sets, and those in which no rule is active.
     fn find_conditions(&mut self, alloc: Global) -> Result<(), OutOfMemory> {
         let file = self.files.file;
         let count = file.start_conditions.len();
@@ -99,7 +99,7 @@ impl<'a> Finder<'a> {
         Ok(())
     }
 
-    /// Finds which literals are returned that the yacc file doesn't name.
+    /// Finds the literals that are returned but not named in the yacc file.
     fn find_unnamed_literals(
         &mut self,
         alloc: Global,
@@ -122,7 +122,7 @@ impl<'a> Finder<'a> {
         Ok(())
     }
 
-    /// The marks of the bytes whose literals are terminals.
+    /// Marks the bytes whose literals are terminals.
     fn literals(&self, alloc: Global) -> Result<Vec<bool>, AllocError> {
         let mut known = vec![in alloc; false; 256]?;
         for name in self.files.spec.terminals() {
@@ -133,7 +133,7 @@ impl<'a> Finder<'a> {
         Ok(known)
     }
 
-    /// Finds what in the patterns of the lex file means something else than it may seem to.
+    /// Finds constructs in the patterns of the lex file that have another meaning than they may seem to have.
     fn find_surprises(&mut self, alloc: Global) -> Result<(), OutOfMemory> {
         let (file, text) = (self.files.file, self.files.lex.bytes);
         let mut lines = Lines::of(text);
@@ -150,7 +150,8 @@ impl<'a> Finder<'a> {
         Ok(())
     }
 
-    /// Finds what is surprising in the pattern at the front of the end of a line, which begins at this location.
+    /// Finds such constructs in the pattern at the start of `end`, which is the end of `line`. The line begins at
+    /// `start`.
     fn find_surprises_in(
         &mut self,
         alloc: Global,
@@ -178,7 +179,7 @@ impl<'a> Finder<'a> {
         Ok(())
     }
 
-    /// Finds which lines among the rules of the lex file aren't used.
+    /// Finds the lines among the rules of the lex file that are ignored.
     fn find_indented(&mut self) -> Result<(), OutOfMemory> {
         for line in first_of(self.files.indented, MOST) {
             self.add(first_of_line(*line), DoubtKind::IndentedLine)?;
@@ -187,7 +188,7 @@ impl<'a> Finder<'a> {
     }
 }
 
-/// Marks a number. One that has no mark is passed over.
+/// Marks a number. A number outside the list is ignored.
 fn mark(marks: &mut Vec<bool>, number: u32) {
     if let Some(place) = marks.get_mut(number as usize) {
         *place = true;
@@ -200,7 +201,7 @@ fn line_from(text: &[u8], start: usize) -> &[u8] {
     rest.split(|byte| *byte == b'\n').next().unwrap_or(rest)
 }
 
-/// What stands behind the conditions at the front of the line of a rule.
+/// What follows the conditions at the start of a rule's line.
 fn behind_conditions(line: &[u8]) -> &[u8] {
     if !line.starts_with(b"<") {
         return line;
@@ -211,7 +212,7 @@ fn behind_conditions(line: &[u8]) -> &[u8] {
     }
 }
 
-/// What stands behind the name at the front of a definition, and the blanks behind that.
+/// What follows the name at the start of a definition and blanks.
 fn behind_name(line: &[u8]) -> &[u8] {
     let Some((_name, rest)) = leading_name(line, Language::Lex) else {
         return line;

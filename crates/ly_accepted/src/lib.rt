@@ -1,15 +1,21 @@
-//! From two files that are accepted, and what is known of them, to what is said of them to people: `survey`. What is
-//! said of refused files is in `ly_refused`.
+//! The report on accepted files: warnings, conflicts with counterexamples, and the numbered rules (`survey`). On
+//! request it also has the states of the scanner and of the parser, and a picture of them. Rejected files are reported
+//! by `ly_refused`.
 //!
-//! It says the doubts, the conflicts with an example each, and the rules by their numbers; and if they are asked for,
-//! the states of the scanner and of the parser, and their picture.
+//! Proved: the number of conflicts (`AreFoundIn`), the grouping of conflicts (`AreGroups`), and for each group its
+//! counterexample, or that there is none (`AreTold`). The searches are those of `ly_examples`. The wording, and whether
+//! there are warnings, is tested and not proved.
 //!
-//! What is said is found by `ly_examples`, whose contracts it has: which rules and tokens are of no use, and at which
-//! strings both actions of a conflict are possible. How many conflicts there are is counted (`AreFoundIn`). They are in
-//! groups (`AreGroups`), and of each group what is told is so (`AreTold`), before it is put into words. How things are
-//! worded, and whether anything is doubtful, is tested alone.
+//! Conflicts of one state that differ only in the terminal are printed as one group with the first one's
+//! counterexample: an operator without precedence makes a conflict for each other operator. Reduce/reduce conflicts are
+//! searched one by one, since merging states may make one and not the next. How two actions arise is searched again for
+//! the drawing, backwards by the same steps. The searches count what they visit and copy against one budget for the
+//! whole file.
 //!
-//! Left out: whether files are accepted, which is given.
+//! The output is bounded where it would repeat itself: the middle of a string of more than 200 symbols is counted, and
+//! so are groups after the hundredth.
+//!
+//! Not covered: whether the files are accepted. The caller knows that.
 #![tactic(auto)]
 
 mod ambiguity;

@@ -1,4 +1,4 @@
-//! Two readings of one sentence that isn't whole yet, which take the two actions of a conflict at the same place.
+//! Two partial parses of one sentence, which take the two actions of a conflict at the same point.
 use crate::bodies::body_of;
 use crate::drawing::begin;
 use crate::growing::Search;
@@ -11,26 +11,26 @@ use ly_join::{Grammar, Symbol};
 use ly_lr0::{Item, Lr0};
 use std::alloc::{AllocError, Global};
 
-/// Two readings of one sentence.
+/// Two partial parses of one sentence.
 #[derive(Drop)]
 pub(crate) struct Pair {
-    /// The one that shifts, or reduces by the rule that is chosen.
+    /// The parse that shifts, or reduces by the rule that is chosen.
     pub(crate) one: Reading,
-    /// The one that reduces by the rule of the conflict.
+    /// The parse that reduces by the rule of the conflict.
     pub(crate) other: Reading,
-    /// The symbols before the place in the longer of them, from the place back.
+    /// The symbols before the conflict point in the longer of them, from the point backwards.
     pub(crate) string: Vec<Symbol>,
-    /// The states from which these lead to that of the conflict.
+    /// The states from which these symbols lead to the state of the conflict.
     pub(crate) states: Vec<StateNo>,
-    /// Whether the terminal of the conflict is still to come.
+    /// Whether the terminal of the conflict isn't read yet.
     pub(crate) pending: bool,
-    /// How many tokens were read behind the place.
+    /// The number of tokens read after the conflict point.
     pub(crate) read: u64,
-    /// How many rules were taken to come here.
+    /// The number of rules that were added on the way to this pair.
     pub(crate) taken: u64,
 }
 
-/// Which of two readings.
+/// One of two parses, or both.
 #[derive(Clone, Copy, PartialEq, Eq)]
 pub(crate) enum Which {
     /// The first one.
@@ -41,17 +41,17 @@ pub(crate) enum Which {
     Both,
 }
 
-/// What stands before the place of two readings.
+/// What precedes the conflict point of two parses.
 #[derive(Drop)]
 pub(crate) struct Before {
-    /// The symbols, from the place back.
+    /// The symbols, from the point backwards.
     string: Vec<Symbol>,
-    /// The states from which these lead to that of the conflict.
+    /// The states from which these symbols lead to the state of the conflict.
     states: Vec<StateNo>,
 }
 
 impl Pair {
-    /// Whether both readings are of the same nonterminal, from the same symbol on, and have nothing ahead.
+    /// Whether both parses are of the same nonterminal, from the same symbol on, and have nothing ahead.
     pub(crate) fn is_joined(&self, grammar: &Grammar) -> bool {
         self.one.ahead.is_empty()
             && self.other.ahead.is_empty()
@@ -59,7 +59,7 @@ impl Pair {
             && self.one.left(grammar) == self.other.left(grammar)
     }
 
-    /// Whether both readings are of the whole text, and have nothing ahead.
+    /// Whether both parses are of the whole text, and have nothing ahead.
     pub(crate) fn is_whole(&self, grammar: &Grammar) -> bool {
         self.is_joined(grammar)
             && match self.one.outmost() {
@@ -68,14 +68,14 @@ impl Pair {
             }
     }
 
-    /// How many symbols, states and rules it holds.
+    /// The number of symbols, states and rules that the pair holds.
     pub(crate) fn size(&self) -> usize {
         let readings = self.one.size().saturating_add(self.other.size());
         let before = self.string.len().saturating_add(self.states.len());
         readings.saturating_add(before)
     }
 
-    /// One of the readings; of both, the first one.
+    /// One of the parses; for both, the first one.
     pub(crate) fn reading(&self, which: Which) -> &Reading {
         match which {
             Which::One | Which::Both => &self.one,
@@ -83,7 +83,7 @@ impl Pair {
         }
     }
 
-    /// Which of two readings, of which one has nothing ahead at least, gets a rule around it; none where each may.
+    /// Which of two parses gets an enclosing rule. At least one of them has nothing ahead. `None` if either may.
     pub(crate) fn shorter(&self, grammar: &Grammar) -> Option<Which> {
         if self.is_joined(grammar) {
             return Some(Which::Both);
@@ -103,8 +103,8 @@ impl Pair {
         None
     }
 
-    /// What stands before the place where a reading gets the rule of an item around it; none where no such string
-    /// leads to the state of the conflict. It takes steps of a search.
+    /// What precedes the conflict point after a parse gets the rule of an item as its enclosing rule; `None` if no such
+    /// string leads to the state of the conflict. It takes steps of the search.
     pub(crate) fn before_within(
         &self,
         alloc: Global,
@@ -153,8 +153,8 @@ impl Pair {
         Ok(Some(before))
     }
 
-    /// Whether one of the states is come to by a symbol, if there is one. It is asked of each rule that may stand
-    /// around a reading, and mostly answers no.
+    /// Whether one of the states is reached by this symbol, if there is one. It is called for each possible enclosing
+    /// rule, and mostly returns false.
     fn goes_back_over(&self, lr0: &Lr0<'_>, symbol: Option<&Symbol>) -> bool {
         match symbol {
             Some(symbol) => self
@@ -165,7 +165,7 @@ impl Pair {
         }
     }
 
-    /// The pair in which readings have the rule of an item around them, behind what stands before the place.
+    /// The pair whose parses have the rule of an item as enclosing rule. `before` precedes the conflict point in it.
     pub(crate) fn within(
         &self,
         alloc: Global,
@@ -194,7 +194,7 @@ impl Pair {
         })
     }
 
-    /// The pair in which readings have the body of a rule in place of the symbol that is ahead next.
+    /// The pair whose parses have the next symbol expanded to the body of a rule.
     pub(crate) fn with_rule(
         &self,
         alloc: Global,
@@ -221,8 +221,8 @@ impl Pair {
         })
     }
 
-    /// Whether a reading may go on with symbols: with the terminal of the conflict where that is to come, and else with
-    /// the terminal that is ahead in the other reading, if one is.
+    /// Whether a parse can continue with symbols: with the terminal of the conflict if it isn't read yet, and else with
+    /// the next terminal of the other parse, if it has one.
     pub(crate) fn may_meet(
         &self,
         lr0: &Lr0<'_>,
@@ -248,8 +248,8 @@ impl Pair {
         }
     }
 
-    /// How dear it is: the tokens that it has or needs at least, and the rules that were taken; none where that isn't
-    /// known.
+    /// The cost of the pair: the tokens that it has or needs at least, and the rules that were added. `None` if it is
+    /// unknown.
     pub(crate) fn price(&self, yields: &Yields) -> Option<u64> {
         let before = yields.length(&self.string)?;
         let ahead = yields
@@ -263,7 +263,7 @@ impl Pair {
         )
     }
 
-    /// Numbers that are the same of two pairs that go on alike.
+    /// A key that is equal for pairs with the same continuations.
     pub(crate) fn key(&self, alloc: Global, grammar: &Grammar) -> Result<Vec<u32>, AllocError> {
         let mut key = Vec::new(alloc);
         key.push(self.pending as u32)?;
@@ -278,7 +278,7 @@ impl Pair {
     }
 }
 
-/// Those of states in which a rule begins.
+/// Selects the states in which a rule begins.
 pub(crate) fn beginning(
     alloc: Global,
     lr0: &Lr0<'_>,
@@ -317,7 +317,7 @@ fn terminal_of(symbol: Option<Symbol>) -> Option<Sym> {
     }
 }
 
-/// Adds numbers that are the same of two readings that go on alike.
+/// Adds numbers to a key that are equal for parses with the same continuations.
 fn push_reading(
     key: &mut Vec<u32>,
     grammar: &Grammar,
@@ -330,7 +330,7 @@ fn push_reading(
     push_symbols(key, &reading.ahead)
 }
 
-/// Adds symbols as numbers, and how many there are.
+/// Adds symbols to a key as numbers, and how many there are.
 fn push_symbols(key: &mut Vec<u32>, symbols: &[Symbol]) -> Result<(), AllocError> {
     key.push(u32::try_from(symbols.len()).unwrap_or(u32::MAX))?;
     for symbol in symbols {

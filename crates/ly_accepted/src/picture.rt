@@ -9,8 +9,8 @@ use ly_lr0::{Item, Lr0, Transition};
 use ly_page::Page;
 use std::alloc::Global;
 
-/// Says the picture: a box a state, with the items that have something before their dots, and an arrow a transition,
-/// dashed by nonterminals.
+/// Prints the picture: a box for each state, with its kernel items, and an arrow for each transition, dashed for
+/// nonterminals.
 pub(crate) fn say_picture(
     alloc: Global,
     page: &mut Page,
@@ -30,7 +30,7 @@ pub(crate) fn say_picture(
     Ok(())
 }
 
-/// Says the box of a state.
+/// Prints the box of a state.
 fn say_box(
     alloc: Global,
     page: &mut Page,
@@ -52,12 +52,12 @@ fn say_box(
     Ok(())
 }
 
-/// Whether an item is in its state by a symbol before its dot, or begins all.
+/// Whether an item is in the kernel: its dot isn't at the start, or it is the first item of all.
 fn is_kernel(item: Item) -> bool {
     item.dot > 0 || item.rule == 0
 }
 
-/// Says the arrows that leave a state.
+/// Prints the arrows that leave a state.
 fn say_arrows(
     alloc: Global,
     page: &mut Page,
@@ -71,7 +71,7 @@ fn say_arrows(
     say_each_arrow(alloc, page, spec, state, lr0.gotos(state))
 }
 
-/// Says the arrows of transitions that leave a state.
+/// Prints the arrows for these transitions of a state.
 fn say_each_arrow(
     alloc: Global,
     page: &mut Page,
@@ -93,7 +93,7 @@ fn say_each_arrow(
     Ok(())
 }
 
-/// Appends bytes as they stand in a string of `dot`.
+/// Appends bytes as the inside of a string of `dot`.
 fn say_escaped(page: &mut Page, bytes: &[u8]) {
     for byte in bytes {
         if *byte == b'"' || *byte == b'\\' {

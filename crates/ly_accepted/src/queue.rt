@@ -1,27 +1,27 @@
-//! Pairs of readings that are to be looked at, the cheapest first.
+//! A priority queue of pairs of parses, the cheapest first.
 use crate::pair::Pair;
 use crate::yields::Yields;
 use std::alloc::{AllocError, Global};
 
-/// How many pairs are kept for a conflict, at most.
+/// The greatest number of pairs that are queued for a conflict.
 const KEPT: usize = 60_000;
 
-/// How dear a pair may be.
+/// The greatest cost of a pair.
 const DEAREST: usize = 200;
 
-/// Pairs that are to be looked at, by how dear they are.
+/// The pairs still to be visited, by their cost.
 #[derive(Drop)]
 pub(crate) struct Queue {
-    /// For each price the pairs.
+    /// The pairs of each cost.
     pairs: Vec<Vec<Pair>>,
-    /// How many were put in.
+    /// The number of pairs that were added.
     count: usize,
-    /// No pair is cheaper than this.
+    /// No pair costs less than this.
     cheapest: usize,
 }
 
 impl Queue {
-    /// No pairs.
+    /// Returns an empty queue.
     pub(crate) fn new(alloc: Global) -> Result<Queue, AllocError> {
         let mut pairs = Vec::with_capacity(alloc, DEAREST)?;
         for _ in 0..DEAREST {
@@ -34,12 +34,12 @@ impl Queue {
         })
     }
 
-    /// Whether no pair is added any more.
+    /// Whether no more pairs are added.
     pub(crate) fn is_full(&self) -> bool {
         self.count >= KEPT
     }
 
-    /// Adds a pair, but none that is too dear, and none behind so many.
+    /// Adds a pair, unless it costs too much or the queue is full.
     pub(crate) fn push(&mut self, yields: &Yields, pair: Pair) -> Result<(), AllocError> {
         let Some(price) = pair.price(yields) else {
             return Ok(());
@@ -56,7 +56,7 @@ impl Queue {
         Ok(())
     }
 
-    /// Takes one of the cheapest pairs.
+    /// Removes one of the cheapest pairs.
     pub(crate) fn pop(&mut self) -> Option<Pair> {
         for price in self.cheapest..DEAREST {
             if let Some(pairs) = self.pairs.get_mut(price)

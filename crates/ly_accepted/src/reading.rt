@@ -1,4 +1,4 @@
-//! A reading of a sentence that isn't whole yet: what is under way round the place of a conflict.
+//! A partial parse of a sentence around the conflict point.
 use crate::bodies::{body_of, rest_of};
 use crate::yields::push_reversed;
 use ly_base::Sym;
@@ -6,25 +6,26 @@ use ly_join::{Grammar, Symbol};
 use ly_lr0::Item;
 use std::alloc::{AllocError, Global};
 
-/// How many symbols a reading has ahead, and how many rules it has under way or behind it, at most.
+/// The greatest number of symbols that a parse has ahead, and of rules that are open in it or completed after the
+/// point.
 pub(crate) const LONGEST: usize = 300;
 
-/// A reading of a sentence.
+/// A partial parse of a sentence.
 #[derive(Drop)]
 pub(crate) struct Reading {
-    /// The rules under way, the inmost first: of that the dot is at the place, of each other one before the rule
-    /// within.
+    /// The partially parsed rules, the innermost first. The dot of that one is at the conflict point; the dot of each
+    /// other is before the rule inside it.
     pub(crate) open: Vec<Item>,
-    /// How many symbols stand before the place in them.
+    /// The number of their symbols before the conflict point.
     pub(crate) passed: usize,
-    /// The rules of what was read behind the place.
+    /// The rules of what was read after the conflict point.
     pub(crate) rules: Vec<usize>,
-    /// The symbols that are ahead in them, the next one last.
+    /// The symbols ahead in the rules, the next one last.
     pub(crate) ahead: Vec<Symbol>,
 }
 
 impl Reading {
-    /// A reading that begins with the rule of an item, whose dot is at the place.
+    /// Returns the parse that begins with the rule of an item, whose dot is at the conflict point.
     pub(crate) fn of(alloc: Global, grammar: &Grammar, item: Item) -> Result<Reading, AllocError> {
         let mut open = Vec::new(alloc);
         open.push(item)?;
@@ -38,7 +39,7 @@ impl Reading {
         })
     }
 
-    /// The reading of a whole text that a way begins.
+    /// Returns the parse of a whole text that a path begins.
     pub(crate) fn of_way(
         alloc: Global,
         grammar: &Grammar,
@@ -67,35 +68,35 @@ impl Reading {
         })
     }
 
-    /// The symbol that is ahead next.
+    /// The next symbol.
     pub(crate) fn next(&self) -> Option<Symbol> {
         self.ahead.last().copied()
     }
 
-    /// How many rules and symbols it holds.
+    /// The number of rules and symbols in the parse.
     pub(crate) fn size(&self) -> usize {
         let rules = self.open.len().saturating_add(self.rules.len());
         rules.saturating_add(self.ahead.len())
     }
 
-    /// Whether it isn't gone on with.
+    /// Whether the parse is too long to be continued.
     pub(crate) fn is_long(&self) -> bool {
         self.ahead.len() > LONGEST || self.rules.len() > LONGEST || self.open.len() > LONGEST
     }
 
-    /// The outmost rule under way.
+    /// The outermost partially parsed rule.
     pub(crate) fn outmost(&self) -> Option<Item> {
         self.open.last().copied()
     }
 
-    /// The left side of the outmost rule under way.
+    /// The left side of the outermost partially parsed rule.
     pub(crate) fn left(&self, grammar: &Grammar) -> Option<Sym> {
         let outmost = self.outmost()?;
         let rule = grammar.rules().get(outmost.rule)?;
         Some(rule.left())
     }
 
-    /// The reading with the body of a rule in place of the symbol that is ahead next.
+    /// The parse with the next symbol expanded to the body of a rule.
     pub(crate) fn with_rule(
         &self,
         alloc: Global,
@@ -109,8 +110,8 @@ impl Reading {
         Ok(reading)
     }
 
-    /// The reading with a rule around its outmost one, which stands behind the dot of this item. Nothing is ahead but
-    /// what stands behind it there.
+    /// The parse with an enclosing rule, in which the outermost rule follows the dot of this item. Only what follows it
+    /// there is ahead.
     pub(crate) fn within(
         &self,
         alloc: Global,

@@ -1,4 +1,4 @@
-//! A group of conflicts as it is told, before it is put into words.
+//! The data of a group of conflicts that is reported.
 use crate::ambiguity::Ambiguity;
 use crate::cores::Prefix;
 use crate::ways::Ways;
@@ -7,50 +7,51 @@ use ly_base::Sym;
 use ly_join::Symbol;
 use ly_resolve::Conflict;
 
-/// A group of conflicts, as it is told.
+/// The data of a group of conflicts.
 #[derive(Drop)]
 pub(crate) struct Told<'g> {
-    /// The first of them; the others differ from it in the terminal alone.
+    /// The first conflict. The others differ from it only in the terminal.
     pub(crate) conflict: Conflict,
     /// The terminals of all of them.
     pub(crate) terminals: Vec<Sym>,
-    /// What leads to their state.
+    /// The string that leads to their state.
     pub(crate) prefix: Prefix,
-    /// What is known of how they come about.
+    /// How they arise, as far as it is known.
     pub(crate) shown: Shown<'g>,
 }
 
-/// What is known of how a conflict comes about.
+/// How a conflict arises, as far as it is known.
 #[derive(Drop)]
 pub(crate) enum Shown<'g> {
-    /// Nothing, since it wasn't sought.
+    /// Unknown, since no search was made.
     Unsought,
-    /// Both actions are possible behind a string.
+    /// Both actions are possible after a string.
     At(Spot<'g>),
-    /// Only merging makes the conflict. The ways to each action are behind strings of their own, where they are found.
+    /// Only the merging of states makes the conflict. The paths to each action are after strings of their own, if they
+    /// were found.
     Merged(Option<Ways>),
-    /// No string was found, and perhaps a sentence with two trees.
+    /// No string was found. There may be a sentence with two trees.
     Unknown(Option<Ambiguity>),
 }
 
-/// A string behind which both actions of a conflict are possible.
+/// A string after which both actions of a conflict are possible.
 #[derive(Drop)]
 pub(crate) struct Spot<'g> {
     /// The string.
     pub(crate) string: &'g [Symbol],
-    /// The shortest tokens of it.
+    /// Its shortest tokens.
     pub(crate) derived: Derived,
-    /// Whether the parser comes to the conflict by them, as far as they are known.
+    /// Whether the parser reaches the conflict on these tokens, as far as they are known.
     pub(crate) is_met: bool,
-    /// How both actions come about.
+    /// How both actions arise.
     pub(crate) readings: Readings,
 }
 
-/// How both actions of a conflict come about behind a string.
+/// How both actions of a conflict arise after a string.
 #[derive(Drop)]
 pub(crate) enum Readings {
-    /// By two rules that are the same.
+    /// From two equal rules.
     Same,
-    /// By these ways, and perhaps with a sentence that has two trees.
+    /// By these paths, and perhaps with a sentence that has two trees.
     Ways(Ways, Option<Ambiguity>),
 }

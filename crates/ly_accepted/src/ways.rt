@@ -1,4 +1,4 @@
-//! How the two actions of a conflict come about, each behind a string of symbols, as it is drawn.
+//! How the two actions of a conflict arise, each after a string of symbols, as a drawing.
 use crate::bodies::{behind_dot, body_of};
 use crate::brackets::{Style, say_way};
 use crate::cores::Cores;
@@ -12,7 +12,7 @@ use ly_page::Page;
 use ly_resolve::{Action, Conflict, ConflictKind};
 use std::alloc::Global;
 
-/// What the ways to the actions of a conflict are drawn by.
+/// The data for drawing the paths to the actions of a conflict.
 #[derive(Clone, Copy)]
 pub(crate) struct Drawn<'a> {
     /// The items of the states.
@@ -23,17 +23,17 @@ pub(crate) struct Drawn<'a> {
     pub(crate) conflict: &'a Conflict,
 }
 
-/// How the two actions of a conflict come about.
+/// How the two actions of a conflict arise.
 #[derive(Drop)]
 pub(crate) struct Ways {
-    /// The way to the shift, or to the rule that is chosen.
+    /// The path to the shift, or to the rule that is chosen.
     pub(crate) one: Vec<Item>,
-    /// The way to the rule of the conflict.
+    /// The path to the rule of the conflict.
     pub(crate) other: Vec<Item>,
 }
 
 impl Drawn<'_> {
-    /// How both actions come about, each behind a string of its own.
+    /// How both actions arise, each after a string of its own.
     pub(crate) fn ways(
         &self,
         alloc: Global,
@@ -46,7 +46,7 @@ impl Drawn<'_> {
         })
     }
 
-    /// The way to a claim behind a string.
+    /// The path to a claim about a string.
     fn way(
         &self,
         alloc: Global,
@@ -56,14 +56,14 @@ impl Drawn<'_> {
         Drawing::new(alloc, self.cores, string, self.conflict.terminal)?.way(alloc, claim)
     }
 
-    /// What is claimed where a reduction by a rule is possible.
+    /// The claim that a reduction by a rule is possible.
     fn reduction(&self, rule: usize) -> Claim {
         let dot = body_of(self.spec.grammar(), rule).len();
         Claim::With(Item { rule, dot })
     }
 
-    /// What is claimed for what stands against the rule of the conflict: of a shift, by the first item that has the
-    /// terminal behind its dot.
+    /// The claim for the alternative to the rule of the conflict. For a shift it is about the first item with the
+    /// terminal after its dot.
     fn rival(&self, alloc: Global) -> Result<Claim, OutOfMemory> {
         match reduced_rival(self.conflict) {
             Some(rule) => Ok(self.reduction(rule)),
@@ -75,7 +75,7 @@ impl Drawn<'_> {
     }
 }
 
-/// What is claimed where a terminal is shifted: the first of these items that has it behind its dot.
+/// The claim for the shift of a terminal, about the first of these items that has it after its dot.
 fn shift(grammar: &Grammar, core: &[Item], terminal: Sym) -> Claim {
     for item in core {
         if behind_dot(grammar, *item) == Some(Symbol::Terminal(terminal)) {
@@ -85,7 +85,7 @@ fn shift(grammar: &Grammar, core: &[Item], terminal: Sym) -> Claim {
     Claim::Settled
 }
 
-/// The rule that stands against that of a conflict; none where a shift does.
+/// The rule that is the alternative to that of a conflict; `None` if a shift is.
 pub(crate) fn reduced_rival(conflict: &Conflict) -> Option<usize> {
     match (conflict.kind, conflict.choice) {
         (ConflictKind::ReduceReduce, Action::Reduce(rule)) => Some(rule.0 as usize),
@@ -93,7 +93,7 @@ pub(crate) fn reduced_rival(conflict: &Conflict) -> Option<usize> {
     }
 }
 
-/// Both ways as they are drawn. Brackets have the names of left sides where both look alike without them.
+/// Both paths as drawings. Brackets have the names of left sides if the drawings are equal without them.
 pub(crate) fn drawn_ways(
     alloc: Global,
     spec: &Spec,
@@ -109,7 +109,7 @@ pub(crate) fn drawn_ways(
     Ok((one, other))
 }
 
-/// A way as it is drawn.
+/// A path as a drawing.
 fn drawn_way(
     alloc: Global,
     spec: &Spec,
@@ -121,7 +121,7 @@ fn drawn_way(
     page.finish()
 }
 
-/// Says how both actions of a conflict come about.
+/// Prints how both actions of a conflict arise.
 pub(crate) fn say_ways(
     alloc: Global,
     page: &mut Page,
@@ -142,7 +142,7 @@ pub(crate) fn say_ways(
     Ok(())
 }
 
-/// Says which rule it is that a reduction is drawn of.
+/// Prints the rule whose reduction is drawn.
 fn say_label(page: &mut Page, rule: usize) {
     let behind = if rule < 10 { b": ".as_slice() } else { b":" };
     say_numbered(page, b"    rule ", rule as u64, behind);

@@ -9,7 +9,7 @@ use std::alloc::Global;
 use std::marker::Model;
 
 /// The bytes that are skipped lexemes by themselves, such as a blank between two words, depending on the byte after
-/// them. They are recognised by two table look-ups, without a walk and without a branch.
+/// them. They are recognised by two table look-ups, without a walk.
 #[derive(Drop)]
 pub struct LoneBytes {
     /// For each byte whether it begins such a lexeme.
