@@ -123,8 +123,8 @@ fn can_end(rest: &[u8]) -> bool
     }
 }
 
-/// The error of groups that are still open at the end of a side. It depends on the byte there. If the byte is allowed,
-/// the error is that the innermost group isn't closed.
+/// The error of groups that are still open at the end of a side. A `/` there is `StrayOperator`, and a `$` is
+/// `AnchorInside`. Otherwise the error is that the innermost group isn't closed.
 fn open_fault(line: &[u8], end: usize, groups: usize) -> SyntaxFault
     requires { end ≤ length line.now }
     ensures { IsLeftIn line.now result }

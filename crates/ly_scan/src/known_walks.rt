@@ -100,7 +100,7 @@ impl KnownWalks {
     {
         self.trail.clear();
         if bytes.len() <= self.reach {
-            // only points that were passed are cached
+            // all cached points were passed, so none can be hit any more
             self.found.clear();
             self.reach = usize::MAX;
         }
