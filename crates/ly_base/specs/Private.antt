@@ -1,3 +1,4 @@
--- What contracts of private functions cite: what a reader finds on its way. No public contract rests on it.
+-- Definitions for contracts of private functions: the intermediate results of readers. No public contract depends on
+-- them.
 pub mod Escapes
 pub mod Names

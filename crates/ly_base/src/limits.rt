@@ -23,7 +23,8 @@ pub struct Limits {
     parser_states: u32,
     /// The greatest number of scanner states before the DFA is minimised.
     scanner_states: u32,
-    /// The greatest weight of one pattern or definition.
+    /// The greatest weight of one pattern or definition: the number of its byte sets and empty strings, with
+    /// repetitions and names expanded.
     pattern_weight: u32,
     /// The greatest weight of all patterns together.
     total_weight: u32,

@@ -108,7 +108,7 @@ closed_row start end New s root = s
 closed_row start end (Open k) s root = if nat_lt start k && nat_lt k end then set.union s root else s
 closed_row start end Done s root = s
 
--- the nodes at the positions from `start` on and below `end` are done and got the row of the root, which is at `start`
+-- the nodes at the positions from `start` on and below `end` are done and have the row of the root, which is at `start`
 pub record IsClosed (m m' : Matrix) (ps ps' : List Place) (start end root : ℕ) : Type 0 where
   pub places_len : length ps' ≡ length ps
   pub places : (x : ℕ) → place ps' x ≡ closed_place start end (place ps x)
@@ -118,7 +118,7 @@ pub record IsClosed (m m' : Matrix) (ps ps' : List Place) (start end root : ℕ)
   pub paid : m'.changes + sum_by undone_one ps' ≤ m.changes + sum_by undone_one ps
   pub unseen : sum_by unseen_one ps' ≡ sum_by unseen_one ps
 
--- what a part of the walk does to the walk and to the matrix
+-- the effect of a part of the walk on the walk and on the matrix
 pub record Continues (g : Digraph) (m : Matrix) (w : Walk) (m' : Matrix) (w' : Walk) : Type 0 where
   pub at : IsAt g m'.sets w'
   pub between : IsBetween g m.sets m'.sets

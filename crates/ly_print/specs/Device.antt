@@ -2,7 +2,7 @@
 use Rattle.std.specs.Prelude.{◌≡◌, ℕ, ◌+◌, ◌%◌, ◌^◌, Bool, true, false, Result, Ok, Err, nat_eq, nat_lt, ◌&&◌}
 use Rattle.std.specs.Prelude.{if◌then◌else◌, Option, None, Some, min, ◌-◌}
 
--- the count after one more failure; it goes round at 2^64, so it is never the count before
+-- the count after one more failure; it wraps around at 2^64, so it is never the count before
 abbrev pub next_count : ℕ → ℕ
 next_count n = (n + 1) % 2 ^ 64
 
