@@ -1,9 +1,16 @@
-//! From the bytes of a yacc file to its declarations and its rules.
+//! Parses the bytes of a yacc file into its declarations and rules.
 //!
-//! `read_yacc` reads a file. Its answer is the one thing that the bytes say (`yacc_text_is_one`), and it refuses only a
-//! text that says nothing. A file is taken apart into words first, and the grammar speaks of these.
+//! `read_yacc` reads a file. The result is unique for each text (`yacc_text_is_one`), and a text is rejected only if it
+//! has no such result. The file is split into words first; the grammar of declarations and rules is defined over words.
 //!
-//! Left out: what the names mean, which takes the lex file too.
+//! - The scan for words always succeeds: if some bytes are no word, the last word is `Other`, which no rule accepts. So
+//!   the grammar needs no case of its own for that error.
+//! - While a file is read, a rule or a token is located by the number of words left from it on. Offsets in bytes are
+//!   computed at the end.
+//! - Consecutive rules with one left side share its name (`RcSlice`), and the symbol of a `%prec` and a node are boxed,
+//!   because most rules have none. That keeps a rule small.
+//!
+//! Not done here: the meaning of names, which takes the lex file too.
 #![tactic(auto)]
 
 mod action;
