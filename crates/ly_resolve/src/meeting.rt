@@ -75,7 +75,7 @@ impl<'a> Meeting<'a> {
         None
     }
 
-    /// Whether precedence overrules the shift by an error: some reduction and the shift are both refused.
+    /// Whether precedence rejects both the shift and some reduction.
     fn is_refused(&self) -> bool
         ensures { IsTrue result ↔ ((p : ℕ) × Contains self.now.reductions.now p
             × (judge_of self.now.spec.now p self.now.terminal.0 ≡ to_error)) }
