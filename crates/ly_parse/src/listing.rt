@@ -1,5 +1,5 @@
-//! Which terminals tables would read, or accept with, next: each is run on a copy of the stack, until it is known, or
-//! shares the last run.
+//! The terminals that tables would read next, or accept if it is the end: each is run on a copy of the stack until this
+//! is known, or shares the last run.
 ghost use Rattle.std.specs.Prelude.{◌<◌, All, IfOk, map};
 ghost use Rattle.ly_pack.specs.Machine.{states_of};
 ghost use Rattle.ly_pack.specs.Steady.{IsSteady};
@@ -13,8 +13,8 @@ use ly_base::{OutOfMemory, StateNo, Sym};
 use ly_pack::{MachineView, Rows, TableAction};
 use std::alloc::Global;
 
-/// The terminals that a parser's tables would read, or accept with, from a stack of states, rising. The stack stays as
-/// it is.
+/// The terminals that a parser's tables would read, or accept if it is the end, from a stack of states, in rising
+/// order. The stack isn't changed.
 #[inline(never)] // so that a token that is read has the registers
 pub(crate) fn expected<A: Rows<TableAction> + Drop, G: Rows<StateNo> + Drop>(
     alloc: Global,
