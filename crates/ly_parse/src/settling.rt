@@ -37,7 +37,7 @@ impl<A: Rows<TableAction> + Drop, G: Rows<StateNo> + Drop> Running<'_, A, G> {
         ensures count { self.new.count ≡ self.old.count }
         ensures over { self.new.over ≡ self.old.over }
     {
-        // else no later step needs to check for the bottom
+        // from here on no step needs to check for the bottom
         if self.stack.len() < 2 {
             return self.settle_low(terminal, before);
         }
