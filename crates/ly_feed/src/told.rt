@@ -37,7 +37,7 @@ fn numbers_of(alloc: Global, rules: &[ScanRule]) -> Result<Vec<u32>, OutOfMemory
     Ok(rules.iter().map(number_of).collect(alloc)?)
 }
 
-/// The number for the action of a rule; 0 if it has none, for example if the rule sets a condition.
+/// The number for the action of a rule. It is 0 if the facts give no action, as for a rule that sets a condition.
 fn number_of(rule: &ScanRule) -> u32
     ensures { result ≡ number_for rule.now }
 {
