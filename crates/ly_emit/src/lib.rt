@@ -10,6 +10,8 @@
 //! - `table_set` takes the specification and not the actions of its states, because its tables are the same for any
 //!   automaton of the useful rules.
 //! - It doesn't take a version: a set is the same in both, and the contract has the ranges of each version.
+//! - The theorem that tables follow the reference machine is about single tokens, for a parser's stack that mirrors the
+//!   machine's. So it holds for texts in chunks too.
 //!
 //! Not done here: minimizing a scanner's automaton, and the bytes of a table file.
 #![tactic(auto)]

@@ -24,7 +24,7 @@ pub fn steady_machine(
     ensures endless { IfErr result (IsRefusedFor resolved.now.spec resolved.now.automaton) }
 {
     let tables = choose_defaults(alloc, machine(alloc, resolved)?)?;
-    // the call's contract says that no entries are outside of the rows
+    // the call's contract guarantees that no entries are outside of the rows
     let _states = tables.states();
     steady(alloc, &tables.view())?;
     Ok(tables)

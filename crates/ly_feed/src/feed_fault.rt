@@ -17,7 +17,7 @@ pub enum FeedFault {
     /// The feed had ended before the call, which changed nothing.
     #[error("the text is answered")]
     Over,
-    /// More than 2^64-1 bytes have come.
+    /// More than 2^64-1 bytes have come, including those already dropped. This is checked before memory is allocated.
     #[error("the text is too long")]
     TooLong,
     /// Out of memory, or the tree has more than 2^48 long leaves or nodes, which no memory holds.

@@ -16,6 +16,11 @@
 //! - Each call marks the feed as ended at its start, and undoes that only with `Need::More`. So no error leaves a feed
 //!   half done; after the end each call returns `Over` and changes nothing.
 //! - A feed borrows its table set, so that one set serves many texts.
+//! - The contracts of a feed are about the rest of a text: the verdict of the table set, continuing from what is held,
+//!   for any bytes that follow. So they don't mention chunks. That decided matches don't change the verdict is a law
+//!   (`decided_matches_change_nothing`).
+//! - `Need::More` also guarantees that all decided matches were skipped or their tokens read, and that the next one
+//!   isn't decided.
 //!
 //! Not done here: reading the chunks, and the relation of tables to the files that they were generated from.
 #![tactic(auto)]

@@ -128,7 +128,7 @@ fn write_line<N: TermNotation, W: Sink>(
 }
 
 /// The result of a text with an error: the outcome, and the lines for it in this form.
-#[inline(never)] // so that a token that is read has the registers
+#[inline(never)] // so that a token that is read gets the registers
 pub(crate) fn told(
     alloc: Global,
     set: &TableSet,

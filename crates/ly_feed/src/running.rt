@@ -87,7 +87,7 @@ pub(crate) fn run_on<'t>(
 
 /// Takes a lexeme at a place: feeds the parser with its token, and returns the outcome. A lexeme of a rule without a
 /// token is skipped, with the outcome of a token that is read.
-#[inline(always)] // by a call a token takes a fifteenth more instructions
+#[inline(always)] // a call would cost a fifteenth more instructions per token
 fn take(
     set: &TableSet,
     parser: &mut TableParser<'_>,
@@ -115,7 +115,7 @@ fn take(
 }
 
 /// The error if the token of a lexeme was rejected.
-#[inline(never)] // so that a token that is read has the registers
+#[inline(never)] // so that a token that is read gets the registers
 fn refusal<'t>(
     set: &TableSet,
     parser: &TableParser<'_>,

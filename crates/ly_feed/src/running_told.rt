@@ -57,7 +57,7 @@ pub(crate) fn run_told_by<'t>(
 
 /// Runs scanner and parser from a place, as long as the facts of states determine the lexemes. Returns the place of the
 /// next one, or an error in the text as soon as it is known.
-#[inline(never)] // so that it has the registers
+#[inline(never)] // so that its loop gets the registers
 fn run_told<'t, B: Beginning>(
     set: &TableSet,
     lexer: &Lexer,
@@ -104,7 +104,7 @@ fn run_told<'t, B: Beginning>(
 
 /// Takes a lexeme at a place by its facts, like `take`. Returns its terminal too, if it has one, so that the facts
 /// needn't be kept for a refusal.
-#[inline(always)] // as `run_told`
+#[inline(always)] // like `run_told`
 fn take_told(
     set: &TableSet,
     parser: &mut TableParser<'_>,
@@ -131,7 +131,7 @@ fn take_told(
 }
 
 /// The first byte.
-#[inline(always)] // as `run_told`
+#[inline(always)] // like `run_told`
 fn first_of(text: &Front<'_>) -> u8
     requires { 0 < length text.now }
     ensures { result ≡ slice_index text.now 0 }
@@ -140,7 +140,7 @@ fn first_of(text: &Front<'_>) -> u8
 }
 
 /// The error if the token of a lexeme of this length was rejected. This is its terminal, which it has.
-#[inline(never)] // so that a token that is read has the registers
+#[inline(never)] // so that a token that is read gets the registers
 fn told_refusal<'t>(
     parser: &TableParser<'_>,
     place: Place<'t>,

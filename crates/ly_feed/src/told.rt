@@ -54,7 +54,7 @@ fn number_of(rule: &ScanRule) -> u32
 
 /// The terminal of a lexeme from the number of its rule and its first byte, if it has one. `literals` has the terminal
 /// of each byte.
-#[inline(always)] // so that the loop over told lexemes has the registers
+#[inline(always)] // so that the loop over lexemes gets the registers
 pub(crate) fn told_terminal(literals: &[Sym], number: u32, first: u8) -> Option<Sym>
     requires literals { length literals.now ≡ 256 }
     requires some { number ≢ 0 }

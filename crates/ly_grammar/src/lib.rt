@@ -8,6 +8,8 @@
 //! - A removed rule keeps its number, and the lists of symbols are unchanged.
 //! - Nullable and FIRST are those of the reduced grammar: a nonterminal all of whose rules are removed isn't nullable,
 //!   and its FIRST set is empty.
+//! - The nonterminals that have trees, and the nullable ones, are found by one search, with and without terminals.
+//!   Those that are reached, and the FIRST sets, are least sets along graphs.
 //!
 //! Not done here: the names of rules and symbols, and precedence.
 #![tactic(auto)]

@@ -71,7 +71,7 @@ abbrev pub IsPrecedenceOf : List (Option Precedence) → Option ℕ → Option P
 IsPrecedenceOf precedences None p = p ≡ None
 IsPrecedenceOf precedences (Some t) p = slice_get precedences t ≡ Some p
 
--- the precedence of a rule: of the terminal behind its `%prec`, or else of the last one of its body
+-- the precedence of a rule: of the terminal after its `%prec`, or else of the last one of its body
 abbrev pub IsRulePrecedence : SymbolTable → Option Word → List Symbol → Option Precedence → Type 0
 IsRulePrecedence m (Some x) body p = (t : ℕ) × IsTerminal m.terminals x t × IsPrecedenceOf m.precedences (Some t) p
 IsRulePrecedence m None body p = IsPrecedenceOf m.precedences (last_terminal body) p

@@ -14,6 +14,7 @@
 //! - An error in a rule is reported before `LimitPassed`, so all rules are checked. Rules past the limit aren't stored.
 //! - Names are numbered in an `IndexSet` and an `IndexMap` while files are joined. A `Spec` has lists made of these,
 //!   because public types that own such a map would bring its specification into every crate that uses them.
+//! - Names are copied from the yacc file, which stays with its owner.
 //!
 //! Not done here: checking that the places of an action are those of its body. The reader of the yacc file does it.
 #![tactic(auto)]

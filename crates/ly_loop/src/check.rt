@@ -49,7 +49,7 @@ impl<A: Rows<TableAction> + Drop, G: Rows<StateNo> + Drop> Listed<'_, A, G> {
         ensures ok { OnOk result (IsSteady self.now) }
         ensures fault { IfErr result (AreTablesRefused self.now) }
     {
-        // the type's invariant says that edges lead to states
+        // the type's invariant guarantees that edges lead to states
         let _machine = self.machine;
         let doubtful = self.doubtful_edges(alloc)?;
         match self.first_passing(alloc, &doubtful)? {

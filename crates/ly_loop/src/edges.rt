@@ -62,7 +62,7 @@ impl<A: Rows<TableAction> + Drop, G: Rows<StateNo> + Drop> Listed<'_, A, G> {
         ensures doubtful { OnOk result
             (AreMoreDoubtful self.now below targets.now doubtful.old.items doubtful.new.items) }
     {
-        // the type's invariant says that the targets are states
+        // the type's invariant guarantees that the targets are states
         let _machine = self.machine;
         known.summaries.turn_to(below);
         for top in targets {

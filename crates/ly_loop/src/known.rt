@@ -53,7 +53,7 @@ impl Lookup {
 pub(crate) struct Pending {
     /// The edge.
     pub(crate) edge: Edge,
-    /// The number of rules of its state on top that need no other edge.
+    /// The number of rules of its state on top, from the first on, that need no other edge.
     pub(crate) passed: usize,
 }
 

@@ -15,6 +15,8 @@
 //! - Summaries are upper bounds, because all terminals are taken together.
 //! - They are kept in a tree and not in a hash map with a fixed seed, because table files may be forged.
 //! - Edges to states that don't reduce are neither kept nor followed: n rules `s : T s` make n * n of them.
+//! - The check of all terminals together only ever accepts. Edges that it doesn't accept are checked terminal by
+//!   terminal, and the error is that of such a run.
 //!
 //! Not accepted: tables with runs that exceed the bound and would still end.
 #![tactic(auto)]

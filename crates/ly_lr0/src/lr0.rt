@@ -88,7 +88,7 @@ impl<'a> Lr0<'a> {
     /// The target of a symbol's transition from a state. `index` is a hint among the transitions over the symbol's
     /// kind: that transition is tried first, and if it isn't the right one, a search follows. After the call, `index`
     /// is one past the transition found. So rising symbols of one kind are found without a search.
-    #[inline(always)] // it is asked for each state and symbol
+    #[inline(always)] // called for each state and symbol
     pub fn goto_near(&self, state: StateNo, symbol: Symbol, index: &mut usize) -> Option<StateNo>
         requires { state.0 < length self.now.states }
         ensures { option_map (λ s. s.0) result ≡ goto_of self.now state.0 (symbol_of symbol) }

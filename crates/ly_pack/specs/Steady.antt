@@ -1,4 +1,4 @@
--- Runs of a parser's tables on one token, without the trees, and tables of which every run ends within a bound.
+-- Runs of a parser's tables on one token, without the trees, and tables whose runs all end within a bound.
 use Rattle.std.specs.Prelude.{◌≡◌, ℕ, suc, ◌-◌, ◌<◌, ◌≤◌, List, [], ◌∷◌, drop, Option, Some, None, slice_get}
 use Rattle.ly_pack.specs.Machine.{Machine, TableAction, TableRule, shift, reduce, accept, error, action_of, goto_at}
 

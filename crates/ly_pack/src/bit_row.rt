@@ -33,7 +33,7 @@ impl BitRow {
     }
 
     /// Adds a position.
-    #[inline(always)] // it is called for each entry
+    #[inline(always)] // called for each entry
     pub(crate) fn insert(&mut self, place: usize) -> Result<(), AllocError>
         requires { place < 2 ^ 33 }
         ensures same { OnOk result (taken self.new.words.items place ≡ 1) }
@@ -58,7 +58,7 @@ impl BitRow {
         }
     }
 
-    /// The least base at which the position of every column is free. No base below `refused` is one.
+    /// The least base at which the position of every column is free. No base below `refused` fits.
     pub(crate) fn first_fit(&self, columns: &[u32], refused: usize) -> usize
         requires some { 0 < length columns.now }
         requires refused { (lower : ℕ) → lower < refused → IsTakenAt self.now.words.items columns.now lower }

@@ -203,7 +203,7 @@ fn drop_by(cells: &mut Vec<Cell<TableAction>>, rule: RuleNo)
 }
 
 /// Sets or removes the entry of a column in a row.
-#[inline(always)] // it is asked for each entry of a table
+#[inline(always)] // called for each entry of a table
 fn put<E: Copy>(cells: &mut Vec<Cell<E>>, column: u32, entry: Option<E>) -> Result<(), AllocError>
     requires { AreRising cells.old.items }
     ensures kept { AreCellsStill column cells.old.items cells.new.items }

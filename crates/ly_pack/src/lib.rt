@@ -14,6 +14,10 @@
 //!   the rows.
 //! - The search for a row's base starts at the base of the last row with the same columns, because slots are never
 //!   freed.
+//! - A machine is its entries, written out state by state, so nothing about runs is proved twice for lists and combs. A
+//!   function as its value would need equality of functions.
+//! - `Packed` is a type of its own, because a machine's value doesn't include the bases of its rows, and the bytes of a
+//!   file depend on them.
 //!
 //! Not done here: combs shorter than those of first fit, and sharing rows between equal states.
 #![tactic(auto)]

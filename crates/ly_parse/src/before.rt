@@ -54,7 +54,7 @@ impl Before {
     }
 
     /// Starts again like `begin`, if there is a state above the bottom.
-    #[inline(always)] // by stores alone
+    #[inline(always)] // only stores
     pub(crate) fn begin_above(&mut self, stack: &[Level], first: StateNo)
         requires { 0 < length stack.now }
         ensures kept { self.new.kept ≤ length stack.now }
@@ -79,7 +79,7 @@ impl Before {
     }
 
     /// Notes the states above a height, some of which are unchanged. The list has enough elements to overwrite.
-    #[inline(never)] // so that reductions have the registers
+    #[inline(never)] // so that reductions get the registers
     fn note_popped(&mut self, stack: &[Level], height: usize) -> Result<(), AllocError>
         requires kept { self.old.kept ≤ length stack.now }
         requires some { height ≤ self.old.kept }
@@ -104,7 +104,7 @@ impl Before {
     }
 
     /// Notes the states above a height, some of which are unchanged. The list has to grow.
-    #[inline(never)] // as few tokens note so many
+    #[inline(never)] // few tokens need this
     fn note_further(&mut self, stack: &[Level], height: usize) -> Result<(), AllocError>
         requires kept { self.old.kept ≤ length stack.now }
         requires some { height ≤ self.old.kept }

@@ -102,7 +102,7 @@ impl Shortcuts<Landing> {
 
     /// The state that the landing of a term of this left side above this state leads to, computed from the tables. The
     /// shortcut is then cached.
-    #[inline(never)] // so that a shortcut that is kept has the registers; a number alone needs no room in memory
+    #[inline(never)] // so that a cached shortcut gets the registers; a single number stays in one
     fn land_by_tables<A: Rows<TableAction> + Drop, G: Rows<StateNo> + Drop>(
         &mut self,
         machine: &MachineView<'_, A, G>,
@@ -144,7 +144,7 @@ impl Shortcuts<Landing> {
 }
 
 /// The action of a state before a terminal, from the tables.
-#[inline(never)] // as `land_by_tables`
+#[inline(never)] // like `land_by_tables`
 fn action_there<A: Rows<TableAction> + Drop, G: Rows<StateNo> + Drop>(
     machine: &MachineView<'_, A, G>,
     state: StateNo,

@@ -17,6 +17,8 @@
 //!   every stack. The cache has a fixed number of places, is allocated at its first use, and takes 16 bytes for a
 //!   shortcut. A shortcut with a number above 65,535 isn't cached. The first 256 shortcuts aren't either, because a
 //!   short text has hardly more, and allocating the cache would take most of its time.
+//! - A terminal is listed as expected if its run ends in a shift, or in accepting with a term. One whose run finds the
+//!   tables faulty isn't listed.
 //!
 //! Not done here: finding tokens, and printing errors.
 #![tactic(auto)]

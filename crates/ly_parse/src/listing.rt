@@ -15,7 +15,7 @@ use std::alloc::Global;
 
 /// The terminals that a parser's tables would read, or accept if it is the end, from a stack of states, in rising
 /// order. The stack isn't changed.
-#[inline(never)] // so that a token that is read has the registers
+#[inline(never)] // so that a token that is read gets the registers
 pub(crate) fn expected<A: Rows<TableAction> + Drop, G: Rows<StateNo> + Drop>(
     alloc: Global,
     machine: &MachineView<'_, A, G>,
@@ -31,7 +31,7 @@ pub(crate) fn expected<A: Rows<TableAction> + Drop, G: Rows<StateNo> + Drop>(
     let mut list = Vec::new(alloc);
     for number in 0..machine.terminals() {
         let Ok(number) = u32::try_from(number) else {
-            return Err(OutOfMemory); // so many terminals have no numbers
+            return Err(OutOfMemory); // there are more terminals than numbers
         };
         let terminal = Sym(number);
         if last.is_expected(machine, terminal, &mut copied)? {

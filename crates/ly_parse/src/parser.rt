@@ -22,7 +22,7 @@ use ly_tree::{Forest, TermRef};
 use std::alloc::Global;
 use std::marker::Model;
 
-/// A parse with tables of which every run ends.
+/// A parse with tables whose runs all end.
 #[derive(Drop)]
 pub struct Parser<'a, A: Rows<TableAction> + Drop, G: Rows<StateNo> + Drop> {
     /// The parse.
@@ -80,7 +80,7 @@ impl<'a, A: Rows<TableAction> + Drop, G: Rows<StateNo> + Drop> Parser<'a, A, G> 
 
     /// Processes a token: makes the reductions before it, and then reads or rejects it. After any result other than
     /// `Reads` the parse has ended. For a rejected token, `refusal` returns the details.
-    #[inline(always)] // for it is one call
+    #[inline(always)] // it is a single call
     pub fn take(&mut self, token: &Token<'_>) -> Answer
         requires not_end { token.now.terminal.0 ≢ 0 }
         requires terminal { token.now.terminal.0 < self.old.machine.terminals }
@@ -94,7 +94,7 @@ impl<'a, A: Rows<TableAction> + Drop, G: Rows<StateNo> + Drop> Parser<'a, A, G> 
     }
 
     /// Processes a token like `take`. The parse must not have ended.
-    #[inline(always)] // for it is one call
+    #[inline(always)] // it is a single call
     pub fn go_on(&mut self, token: &Token<'_>) -> Answer
         requires goes_on { self.old.over ≡ false }
         requires not_end { token.now.terminal.0 ≢ 0 }
@@ -112,7 +112,7 @@ impl<'a, A: Rows<TableAction> + Drop, G: Rows<StateNo> + Drop> Parser<'a, A, G> 
     /// place, or accepted if it is the end, with the stack as it was before the token.
     ///
     /// It fails if an allocation fails, or if tokens have no more numbers.
-    #[inline(never)] // so that the room of the list is made where a token is refused, and at no other
+    #[inline(never)] // so that only a rejected token pays for the list
     pub fn refusal(&self) -> Result<Refusal, OutOfMemory>
         requires { IsTellable self.now }
         ensures number { IfOk result (λ r. r.number ≡ self.now.count + 1) }

@@ -31,7 +31,7 @@ use ly_tree::{Forest, TermRef};
 use std::alloc::Global;
 use std::marker::Model;
 
-/// A parse with tables of which every run ends, without the notes on the stack before the current token.
+/// A parse with tables whose runs all end, without the notes on the stack before the current token.
 #[derive(Drop)]
 pub(crate) struct Running<'a, A: Rows<TableAction> + Drop, G: Rows<StateNo> + Drop> {
     /// The allocator.
@@ -83,7 +83,7 @@ impl<'a, A: Rows<TableAction> + Drop, G: Rows<StateNo> + Drop> Running<'a, A, G>
           asked = [];
         } }
     {
-        // the call's contract says that all states, rules and symbols in the tables exist
+        // the call's contract requires that all states, rules and symbols in the tables exist
         let _states = machine.states();
         Running {
             alloc,
@@ -113,7 +113,7 @@ impl<'a, A: Rows<TableAction> + Drop, G: Rows<StateNo> + Drop> Running<'a, A, G>
 
     /// Processes a token: makes the reductions before it, and then reads or rejects it. After any result other than
     /// `Reads` the parse has ended. If the token is rejected, the stack as it was is noted.
-    #[inline(always)] // by a call a token takes a fifteenth more instructions
+    #[inline(always)] // a call would cost a fifteenth more instructions per token
     pub(crate) fn feed(&mut self, token: &Token<'_>, before: &mut Before) -> Answer
         requires not_end { token.now.terminal.0 ≢ 0 }
         requires terminal { token.now.terminal.0 < self.old.machine.terminals }
@@ -130,7 +130,7 @@ impl<'a, A: Rows<TableAction> + Drop, G: Rows<StateNo> + Drop> Running<'a, A, G>
     }
 
     /// Processes a token like `feed`. The parse must not have ended.
-    #[inline(always)] // so that a token that is read has the registers
+    #[inline(always)] // so that a token that is read gets the registers
     pub(crate) fn go_on(&mut self, token: &Token<'_>, before: &mut Before) -> Answer
         requires goes_on { self.old.over ≡ false }
         requires not_end { token.now.terminal.0 ≢ 0 }
@@ -150,7 +150,7 @@ impl<'a, A: Rows<TableAction> + Drop, G: Rows<StateNo> + Drop> Running<'a, A, G>
 
     /// The outcome for a token: reductions are made before it, and then it is read or rejected. If it is rejected, the
     /// stack as it was is noted.
-    #[inline(always)] // so that the loop over tokens has the registers
+    #[inline(always)] // so that the loop over tokens gets the registers
     fn come(&mut self, token: &Token<'_>, before: &mut Before) -> Answer
         requires not_end { token.now.terminal.0 ≢ 0 }
         requires terminal { token.now.terminal.0 < self.old.machine.terminals }
@@ -162,7 +162,7 @@ impl<'a, A: Rows<TableAction> + Drop, G: Rows<StateNo> + Drop> Running<'a, A, G>
         ensures machine { self.new.machine ≡ self.old.machine }
         ensures over { self.new.over ≡ self.old.over }
     {
-        // the invariant says that the stack as it was can be reconstructed
+        // the invariant guarantees that the stack as it was can be reconstructed
         let _ = &self.machine;
         match self.settle(token.terminal, before) {
             Settled::Reads(state) => match self.read(state, token) {
@@ -212,7 +212,7 @@ impl<'a, A: Rows<TableAction> + Drop, G: Rows<StateNo> + Drop> Running<'a, A, G>
     }
 
     /// Pushes a token that is read onto the stack.
-    #[inline(always)] // so that the loop over tokens has the registers
+    #[inline(always)] // so that the loop over tokens gets the registers
     fn read(&mut self, state: StateNo, token: &Token<'_>) -> Result<(), OutOfMemory>
         requires { action_of self.old.machine (top_of self.old.stack) token.now.terminal.0 ≡ shift state.0 }
         ensures stack { OnOk result (self.new.stack ≡ record {
@@ -233,7 +233,7 @@ impl<'a, A: Rows<TableAction> + Drop, G: Rows<StateNo> + Drop> Running<'a, A, G>
     }
 
     /// Pushes a token that is read and counted, and whose text isn't copied as a block, onto the stack.
-    #[inline(never)] // so that the others have the registers; a token that is handed to it would lie in memory
+    #[inline(never)] // so that the others get the registers; passing it the token would put that into memory
     fn read_long(&mut self, state: StateNo, terminal: Sym, text: &[u8]) -> Result<(), OutOfMemory>
         requires { action_of self.old.machine (top_of self.old.stack) terminal.0 ≡ shift state.0 }
         ensures stack { OnOk result (self.new.stack ≡ record {
@@ -282,7 +282,7 @@ impl<'a, A: Rows<TableAction> + Drop, G: Rows<StateNo> + Drop> Running<'a, A, G>
 }
 
 /// Reserves capacity for one more level, if there is none.
-#[inline(always)] // as `read`
+#[inline(always)] // like `read`
 fn make_room(stack: &mut Vec<Level>) -> Result<(), OutOfMemory>
     ensures items { stack.new.items ≡ stack.old.items }
     ensures room { OnOk result (length stack.new.items < vec_capacity stack.new) }
@@ -294,7 +294,7 @@ fn make_room(stack: &mut Vec<Level>) -> Result<(), OutOfMemory>
 }
 
 /// Reserves capacity for one more level.
-#[inline(never)] // so that most tokens have the registers
+#[inline(never)] // so that most tokens get the registers
 fn grow(stack: &mut Vec<Level>) -> Result<(), OutOfMemory>
     ensures items { stack.new.items ≡ stack.old.items }
     ensures room { OnOk result (length stack.new.items < vec_capacity stack.new) }

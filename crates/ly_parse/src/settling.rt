@@ -28,7 +28,7 @@ use ly_tree::TermRef;
 impl<A: Rows<TableAction> + Drop, G: Rows<StateNo> + Drop> Running<'_, A, G> {
     /// Makes the reductions before a terminal, and returns the outcome. If it is rejected, the stack as it was is
     /// noted.
-    #[inline(always)] // by a call a token takes a fifteenth more instructions
+    #[inline(always)] // a call would cost a fifteenth more instructions per token
     pub(crate) fn settle(&mut self, terminal: Sym, before: &mut Before) -> Settled
         requires { terminal.0 < self.old.machine.terminals }
         ensures settled { IsSettled self.old.machine terminal.0 self.old.stack (states_on self.old.stack) self.new.stack
@@ -52,7 +52,7 @@ impl<A: Rows<TableAction> + Drop, G: Rows<StateNo> + Drop> Running<'_, A, G> {
     }
 
     /// Makes the reductions before a terminal like `settle`, if few states are on the stack.
-    #[inline(never)] // so that the others have the registers
+    #[inline(never)] // so that the common case gets the registers
     fn settle_low(&mut self, terminal: Sym, before: &mut Before) -> Settled
         requires { terminal.0 < self.old.machine.terminals }
         ensures settled { IsSettled self.old.machine terminal.0 self.old.stack (states_on self.old.stack) self.new.stack
@@ -69,7 +69,7 @@ impl<A: Rows<TableAction> + Drop, G: Rows<StateNo> + Drop> Running<'_, A, G> {
 
     /// Makes the reductions before a terminal, the first passes by the tables, and returns the outcome. If it is
     /// rejected, the stack as it was is noted.
-    #[inline(never)] // so that a shortcut that is kept has the registers
+    #[inline(never)] // so that a cached shortcut gets the registers
     fn settle_by_tables(&mut self, terminal: Sym, before: &mut Before) -> Settled
         requires { terminal.0 < self.old.machine.terminals }
         ensures settled { IsSettled self.old.machine terminal.0 self.old.stack (states_on self.old.stack) self.new.stack
@@ -110,7 +110,7 @@ impl<A: Rows<TableAction> + Drop, G: Rows<StateNo> + Drop> Running<'_, A, G> {
     }
 
     /// Executes the actions of the tables before a terminal like `settle_from`, if there is a state above the bottom.
-    #[inline(always)] // so that most tokens needn't ask for it
+    #[inline(always)] // so that most tokens skip it
     fn settle_above(
         &mut self,
         action: TableAction,
@@ -134,7 +134,7 @@ impl<A: Rows<TableAction> + Drop, G: Rows<StateNo> + Drop> Running<'_, A, G> {
 
     /// Executes the actions of the tables before a terminal as long as they reduce, and returns the outcome. If the
     /// terminal is rejected, the notes still describe the same stack as before.
-    #[inline(never)] // so that a token that is read at once has the registers
+    #[inline(never)] // so that a token that is read at once gets the registers
     fn settle_behind(&mut self, action: TableAction, terminal: Sym, before: &mut Before) -> Settled
         requires terminal { terminal.0 < self.old.machine.terminals }
         requires action { action_from action ≡ action_of self.old.machine (top_of self.old.stack) terminal.0 }
@@ -146,7 +146,7 @@ impl<A: Rows<TableAction> + Drop, G: Rows<StateNo> + Drop> Running<'_, A, G> {
         ensures count { self.new.count ≡ self.old.count }
         ensures over { self.new.over ≡ self.old.over }
     {
-        // the invariant says that the run on a token ends
+        // the invariant guarantees that the run on a token ends
         let _ = &self.machine;
         let mut next = action;
         loop {
@@ -167,7 +167,7 @@ impl<A: Rows<TableAction> + Drop, G: Rows<StateNo> + Drop> Running<'_, A, G> {
 
     /// Makes the passes before a terminal, if they are cached as a shortcut. Returns the state that was on top before,
     /// and the next action.
-    #[inline(always)] // as `settle`
+    #[inline(always)] // like `settle`
     fn pass(&mut self, terminal: Sym) -> Option<(StateNo, TableAction)>
         requires { terminal.0 < self.old.machine.terminals }
         ensures first { IfSome result (λ r. r.0.0 ≡ top_of self.old.stack) }
@@ -201,7 +201,7 @@ impl<A: Rows<TableAction> + Drop, G: Rows<StateNo> + Drop> Running<'_, A, G> {
 
     /// Makes the passes before a terminal by the tables, caches their outcome as a shortcut, and returns the next
     /// action.
-    #[inline(never)] // so that a shortcut that is kept has the registers
+    #[inline(never)] // so that a cached shortcut gets the registers
     fn pass_by_tables(&mut self, terminal: Sym) -> Result<TableAction, ParseFault>
         requires { terminal.0 < self.old.machine.terminals }
         ensures leads { OnOk result (LeadsByReductions self.old.machine terminal.0 self.old.stack self.new.stack) }

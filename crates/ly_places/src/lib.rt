@@ -5,6 +5,15 @@
 //!
 //! `parse` returns the parts, or the error in a text, and a `TextParser` does so for many texts. `parse_tokens` takes
 //! tokens that were found otherwise. `drive_placed` reads a text from a reader and writes its result.
+//!
+//! - A text is parsed with the same tables as without spans, and the actions are applied to the derivation. So the
+//!   parser's loop knows nothing of spans, and texts without them have no cost.
+//! - An empty part is at the end of the last token before it, but within the rule around it. With bison's `@$` an empty
+//!   first part extends a node over the whitespace before it.
+//! - A `Part` has the number of its parts and not the index of its end, so a part can be copied out of the list
+//!   unchanged.
+//! - The line of a position is searched first on that of the part before it and on the next line, because most parts
+//!   are there.
 #![tactic(auto)]
 
 mod derivation;

@@ -88,7 +88,7 @@ begin tokens = record { stack = []; rest = tokens }
 abbrev pub AcceptsWith : Grammar → Judge → List (Token ℕ) → Tree → Type 0
 AcceptsWith G judge tokens d = (c : Configuration) × Leads G judge (begin tokens) c × Accepts G judge c d
 
--- the run on the tokens ends because the token after those before is refused
+-- the run on the tokens ends because the token after these is refused
 abbrev pub RefusesAfter : Grammar → Judge → List (Token ℕ) → List (Token ℕ) → Type 0
 RefusesAfter G judge tokens before = (c : Configuration) × Leads G judge (begin tokens) c × Refuses G judge c
     × (tokens ≡ before ++ c.rest)

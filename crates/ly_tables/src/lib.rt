@@ -19,6 +19,8 @@
 //!   needs a parameter for the kind of numbers.
 //! - The numbers of slots are written in blocks of 1,024, because reserving memory for each number takes longer than
 //!   writing it.
+//! - Whether a file's tables are steady is checked on borrowed rows, because a machine's value doesn't include the
+//!   bases of its rows.
 #![tactic(auto)]
 
 mod bounds;

@@ -2,7 +2,7 @@
 //!
 //! A file is a header and three parts with consecutive fields. Counts alone determine where each begins. Each reader
 //! takes the remaining bytes, and returns the value at their front and the bytes after it. If a part is incomplete, its
-//! reader's contract says that it can be completed; so can the file, of which the bytes are a proper prefix. No count
+//! reader's contract guarantees that it can be completed; so the bytes are a proper prefix of a file. No count
 //! is trusted: memory is allocated for what has been read, and for a list of numbers only when all its bytes are there.
 ghost use Rattle.std.specs.Prelude.{◌≡◌, ◌≢◌, ◌++◌, IfOk, IfErr, IfSome, MatchBool, None, codes, length, take};
 ghost use Rattle.std.specs.Int.{w16, to_be_bytes};

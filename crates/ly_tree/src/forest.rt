@@ -111,7 +111,7 @@ impl Forest {
     }
 
     /// Adds a leaf, and returns a reference to it. After an error the forest is unchanged.
-    #[inline(always)] // by a call a token takes a sixth more instructions
+    #[inline(always)] // a call would cost a sixth more instructions per token
     pub fn leaf(&mut self, terminal: Sym, text: &Front<'_>) -> Result<TermRef, OutOfMemory>
         ensures stands { IfOk result (λ r. StandsFor self.new r (leaf terminal.0 text.now)) }
         ensures keeps { OnOk result (Keeps self.old self.new) }
@@ -127,7 +127,7 @@ impl Forest {
 
     /// Adds a leaf whose text is copied as a block, and returns a reference to it. Returns `None` if it isn't short or
     /// there is no capacity for a block; the forest is then unchanged.
-    #[inline(always)] // as `leaf`
+    #[inline(always)] // like `leaf`
     pub fn leaf_as_block(&mut self, terminal: Sym, text: &Front<'_>) -> Option<TermRef>
         ensures stands { IfSome result (λ r. StandsFor self.new r (leaf terminal.0 text.now)) }
         ensures keeps { IfSome result (λ _. Keeps self.old self.new) }
@@ -149,7 +149,7 @@ impl Forest {
     }
 
     /// Adds a leaf like `leaf`, for a text that isn't copied as a block.
-    #[inline(always)] // as `leaf`
+    #[inline(always)] // like `leaf`
     pub fn leaf_without_block(
         &mut self,
         terminal: Sym,
@@ -179,7 +179,7 @@ impl Forest {
     }
 
     /// Adds a long leaf. Its number has these two parts.
-    #[inline(never)] // so that a short one has the registers; an answer without a number needs no room in memory
+    #[inline(never)] // so that a short one gets the registers; a result without a number stays in one
     fn long_leaf(
         &mut self,
         high: u16,
@@ -233,7 +233,7 @@ impl Forest {
     }
 
     /// Adds a long node. Its number has these two parts.
-    #[inline(never)] // as `long_leaf`
+    #[inline(never)] // like `long_leaf`
     fn long_node<R: Refers>(
         &mut self,
         high: u16,
@@ -353,7 +353,7 @@ impl Forest {
     }
 
     /// A long node: its rule and its children.
-    #[inline(never)] // so that a short node has the registers
+    #[inline(never)] // so that a short node gets the registers
     pub(crate) fn long_node_at(&self, high: u16, low: u32) -> (RuleNo, &[TermRef])
         requires { IsSome (term_of self.now (TermRef.LongNode high low)) }
         ensures term { StandsFor self.now (TermRef.LongNode high low)
@@ -374,7 +374,7 @@ fn part(children: &[TermRef], start: usize, count: usize) -> &[TermRef]
 }
 
 /// Appends the terms at these places of a body, counted from 1. After an error the children are unchanged.
-#[inline(always)] // else `node` and `long_node` each call it
+#[inline(always)] // otherwise `node` and `long_node` each call it
 fn pick<R: Refers>(
     children: &mut Vec<TermRef>,
     body: &[R],

@@ -8,7 +8,7 @@ const LOWER: usize = 4_294_967_296;
 
 /// The two parts of the number of a long leaf or node, which have 48 bits together. The error is out of memory, for a
 /// number that needs more bits: so many leaves or nodes would take over 4,000 terabytes.
-#[inline(always)] // so that its answer needs no room in memory
+#[inline(always)] // so that its result stays in registers
 pub(crate) fn parts_of(number: usize) -> Result<(u16, u32), OutOfMemory>
     ensures { IfOk result (λ parts. number_of parts.0 parts.1 ≡ number) }
 {

@@ -28,7 +28,7 @@ impl<W: Words> TermNotation for Plain<'_, W> {
       constructor = W.constructors n.words.now;
     }) };
 
-    #[inline(always)] // so that the loop over terms has the registers
+    #[inline(always)] // so that the loop over terms gets the registers
     fn no_term(&self) -> &[u8] {
         b"()"
     }

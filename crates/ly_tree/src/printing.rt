@@ -24,7 +24,7 @@ pub(crate) struct Printing<'f> {
 impl<'f> Printing<'f> {
     /// Prints a term up to its first child, and returns that child. A term without children is printed completely, with
     /// what precedes the next term. Then the next term is returned, if there is one.
-    #[inline(always)] // so that the loop over terms has the registers
+    #[inline(always)] // so that the loop over terms gets the registers
     pub(crate) fn print<N: TermNotation, S: Sink>(
         &mut self,
         out: &mut TextWriter,
@@ -64,7 +64,7 @@ impl<'f> Printing<'f> {
     }
 
     /// Prints what precedes the next term, and returns that term, if there is one.
-    #[inline(always)] // so that the loop over terms has the registers
+    #[inline(always)] // so that the loop over terms gets the registers
     fn go_on<N: TermNotation, S: Sink>(
         &mut self,
         out: &mut TextWriter,
@@ -105,7 +105,7 @@ impl<'f> Printing<'f> {
 }
 
 /// Prints the opening of a term, which is all of it unless it is a node. Returns the children of a node.
-#[inline(always)] // so that the loop over terms has the registers
+#[inline(always)] // so that the loop over terms gets the registers
 fn begin<'f, N: TermNotation, S: Sink>(
     out: &mut TextWriter,
     writer: &mut S,

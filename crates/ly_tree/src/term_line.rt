@@ -107,7 +107,7 @@ impl<N: TermNotation> TermLine<'_, N> {
     /// Writes the line.
     ///
     /// It fails if the writer does.
-    #[inline(never)] // so that it has the registers
+    #[inline(never)] // so that its loop gets the registers
     pub fn write<S: Sink>(self, writer: &mut S) -> Result<(), WriteFault>
         ensures ok { OnOk result (Appends (S.contents writer.old) (S.contents writer.new) self.entry) }
         ensures cut_short { IfErr result (λ fault.

@@ -58,7 +58,7 @@ pub enum YaccFaultKind {
 }
 
 impl YaccFault {
-    /// The number of the error in a fault line; none for `OutOfMemory`.
+    /// The number that the error is printed with; none for `OutOfMemory`.
     pub fn number(&self) -> Option<u8>
         ensures { result ≡ yacc_number self.now }
     {
@@ -68,7 +68,7 @@ impl YaccFault {
         }
     }
 
-    /// The name of the error in a fault line.
+    /// The name that the error is printed with.
     pub fn name(&self) -> &'static str
         ensures { result.now ≡ yacc_name self.now }
     {
@@ -80,7 +80,7 @@ impl YaccFault {
 }
 
 impl YaccFaultKind {
-    /// The number of the error in a fault line.
+    /// The number that the error is printed with.
     pub fn number(self) -> u8
         ensures { result ≡ kind_number self }
     {
@@ -98,7 +98,7 @@ impl YaccFaultKind {
         }
     }
 
-    /// The name of the error in a fault line.
+    /// The name that the error is printed with.
     pub fn name(self) -> &'static str
         ensures { result.now ≡ kind_name self }
     {

@@ -9,6 +9,16 @@
 //!   computed at the end.
 //! - Consecutive rules with one left side share its name (`RcSlice`), and the symbol of a `%prec` and a node are boxed,
 //!   because most rules have none. That keeps a rule small.
+//! - A name before a `:` begins a rule, even in the declarations. `$` and its number are two words, so `$ 1` is
+//!   accepted; `$$` is one word.
+//! - `error` is rejected wherever it is used as a name, even as a tag or a constructor, because the parser has no error
+//!   recovery.
+//! - A `%prec` before a name that a `:` follows lacks its symbol. A second action is rejected before its words are
+//!   read. A symbol or an action after an action is `MidRuleAction` even with a `%prec` between them.
+//! - A file that ends in the declarations lacks its `%%`, even in the middle of a declaration. A brace that isn't
+//!   closed is `UnclosedComment` only after `%union`; elsewhere it isn't allowed at all.
+//! - Places have 32 bits, so no action can name the last place of a body of 2^32 symbols.
+//! - A rule without an action is stored as such. Its tree is defined where trees are built.
 //!
 //! Not done here: the meaning of names, which takes the lex file too.
 #![tactic(auto)]
