@@ -5,7 +5,7 @@ use crate::outcome::Outcome;
 pub enum Need {
     /// More of the text, or its end: the result isn't known yet.
     More,
-    /// Nothing: the text has this outcome and these bytes as its result, whatever follows. Never a tree, because more of
-    /// the text could invalidate it.
+    /// Nothing: the text has this outcome and these bytes as its result, whatever follows. Never a tree, because more
+    /// text could invalidate it.
     Settled(Outcome, Vec<u8>),
 }
