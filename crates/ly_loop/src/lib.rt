@@ -1,4 +1,5 @@
 //! Checks that a parser's tables are steady: above each edge, the run on every terminal ends within 100,000 reductions.
+//! An edge is a pair of states: the one below has a shift or a goto to the one on top.
 //!
 //! `steady` accepts the tables, or names the first edge and the first terminal whose run makes more reductions. A run
 //! begins with only the two states of an edge. It ends when the terminal is read or rejected, when a goto is missing,

@@ -32,7 +32,7 @@ pub(crate) fn move_of(reduced: &Reduced<'_>, item: Item) -> Option<Move>
     })
 }
 
-/// Enters the nonterminal after the dot of an item, if there is one.
+/// Adds the nonterminal after the dot of an item to `entered`, if there is one.
 fn enter(reduced: &Reduced<'_>, item: Item, entered: &mut SparseSet)
     requires kept { IsKept reduced.now.grammar item.rule }
     requires room { reduced.now.grammar.accept < entered.old.below }
@@ -45,7 +45,7 @@ fn enter(reduced: &Reduced<'_>, item: Item, entered: &mut SparseSet)
     }
 }
 
-/// Enters the nonterminals at the front of rules.
+/// Adds the nonterminals at the front of rules to `entered`.
 fn enter_rules(reduced: &Reduced<'_>, rules: &[usize], entered: &mut SparseSet)
     requires kept { (q : ℕ) → Contains rules.now q → IsKept reduced.now.grammar q }
     requires room { reduced.now.grammar.accept < entered.old.below }
@@ -56,8 +56,8 @@ fn enter_rules(reduced: &Reduced<'_>, rules: &[usize], entered: &mut SparseSet)
     }
 }
 
-/// Enters the nonterminals after the dots of a kernel, and those at the front of the rules of entered ones. The rules
-/// of each nonterminal are visited once.
+/// Adds the nonterminals after the dots of a kernel to `entered`, and those at the front of the rules of entered ones.
+/// The rules of each nonterminal are visited once.
 pub(crate) fn close(
     reduced: &Reduced<'_>,
     by_left: &RulesByLeft,

@@ -1,4 +1,5 @@
-//! Builds the LR(0) automaton of a reduced grammar: one state for each core of a viable prefix.
+//! Builds the LR(0) automaton of a reduced grammar: one state for each core of a viable prefix. The core of a string is
+//! the set of its valid items, without lookaheads.
 //!
 //! `automaton` builds it (Knuth 1965; DeRemer 1971). Two strings lead to the same state exactly if they have the same
 //! core, and a string leads nowhere exactly if it isn't viable (`HasCores`). States are numbered by their access

@@ -62,7 +62,7 @@ pub record EndsWithin (m : Machine) (t : ℕ) (stack : List ℕ) (bound : ℕ) :
   pub stops : move m t last ≡ ends ending
   pub within : count ≤ bound
 
--- An edge: an entry of the state below, or its default, leads to the state on top.
+-- An edge: the state below has a shift or a goto to the state on top.
 pub data IsTableEdge (m : Machine) (below top : ℕ) : Type 0 where
   by_shift : (t : ℕ) → action_of m below t ≡ shift top → IsTableEdge m below top
   by_goto : (left : ℕ) → goto_at m below left ≡ Some top → IsTableEdge m below top

@@ -4,7 +4,8 @@
 //! processes one token (`Feeds`): it makes the reductions, and then reads the token, accepts with a term, or rejects
 //! the token. The tables must be steady, so that every call ends. `take` returns a small value, and `refusal` then
 //! describes a rejected token; `feed` does both. For a rejected token the expected terminals are listed: each is run on
-//! a copy of the stack from before the token, and terminals on which the states of a run do the same share it.
+//! a copy of the stack from before the token, and terminals on which the states of a run do the same share
+//! that run.
 //!
 //! - Expected terminals are those of the stack before any reduction on the token. The entries of the top state would be
 //!   too many, because merged states have the lookaheads of other contexts too. Those after default reductions would be

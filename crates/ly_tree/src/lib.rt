@@ -1,11 +1,11 @@
 //! Stores the terms that a parser builds, and prints them.
 //!
 //! A `Forest` holds the texts of leaves and the children of nodes in flat lists, without a box or a list per node. A
-//! leaf takes its text only, and a node 8 bytes for each child; a long leaf takes 16 bytes more, and a long node 24.
-//! Contracts see terms: a reference that `leaf` or `node` returns represents one, and keeps representing it. `line`
-//! makes all allocations that printing a term needs, so that `TermLine::write` fails only if the writer does. It uses a
-//! stack of its own, so no depth overflows the program's stack. `show` returns the text as bytes. `look` and `children`
-//! give access to the terms.
+//! leaf takes its text only, and a node 8 bytes for each child; a long leaf takes 16 bytes more, and a long node 24. A
+//! place is the number of a symbol of a rule's body, counted from 1. Contracts see terms: a reference that `leaf` or
+//! `node` returns represents one, and keeps representing it. `line` makes all allocations that printing a term needs,
+//! so that `TermLine::write` fails only if the writer does. It uses a stack of its own, so no depth overflows the
+//! program's stack. `show` returns the text as bytes. `look` and `children` give access to the terms.
 //!
 //! - A forest copies the bytes of the tokens, so a parser borrows no text. What the eight bytes of a reference can't
 //!   encode is long and stored in a list: a leaf of more than 255 bytes, of a terminal above 65,535, or after 2^32

@@ -2,6 +2,7 @@
 //!
 //! `read_yacc` reads a file. The result is unique for each text (`yacc_text_is_one`), and a text is rejected only if it
 //! has no such result. The file is split into words first; the grammar of declarations and rules is defined over words.
+//! A place is the number after a `$`: that of a symbol of the body, counted from 1.
 //!
 //! - The scan for words always succeeds: if some bytes are no word, the last word is `Other`, which no rule accepts. So
 //!   the grammar needs no case of its own for that error.
