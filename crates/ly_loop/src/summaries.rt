@@ -45,7 +45,7 @@ impl Summaries {
         self.own.clear();
     }
 
-    /// A map with at least what is known of the edges above a state.
+    /// The map that holds what is known of the edges above a state.
     pub(crate) fn above(&self, below: StateNo) -> &Kept
         ensures { (result.now ≡ self.now.own) ⊎ (result.now ≡ self.now.others) }
     {

@@ -39,7 +39,7 @@ impl Before {
         ensures kept { self.new.kept ≤ length stack.now }
         ensures before { before_of stack.now self.new ≡ levels_with_top first.0 stack.now }
     {
-        // without a look at what was popped before, which would cost a branch misprediction
+        // without a look at what was popped before, because that branch would be mispredicted
         self.noted = 0;
         match stack.len().checked_sub(1) {
             Some(kept) => {
