@@ -1,4 +1,4 @@
--- What is written for the text that a reader gives.
+-- The result written for the text from a reader.
 use Rattle.std.specs.Prelude.{◌≡◌, ◌<◌, ◌≤◌, ◌^◌, ℕ, List, ◌++◌, length, take, false, IfSome, Option}
 use Rattle.std.specs.Io.KnownBytes.{Appends, Consumes}
 use Rattle.ly_base.specs.declared.version.Version.{Version}
@@ -13,42 +13,42 @@ use Rattle.ly_scan.specs.Pieces.{IsUndecided}
 use Rattle.ly_tables.specs.TableSet.{TableSet, machine_of}
 use Rattle.ly_tables.specs.TableText.{TableText}
 
--- A text that the reader gave, where its bytes are known, has this outcome by the set, and its whole answer was
--- written in a form.
+-- The text from the reader, if its bytes are known, has this outcome by the set, and its whole result was written in a
+-- form.
 abbrev pub IsAnsweredBy :
     AnswerForm → TableSet → Option (List ℕ) → Option (List ℕ) → Option (List ℕ) → Outcome → Type 0
 IsAnsweredBy form s given before after outcome = (text : List ℕ) × (answer : List ℕ)
     × IfSome given (λ bytes. text ≡ bytes) × TableAnswer form s text outcome answer × Appends before after answer
 
--- so many bytes of its answer were written, and these are not all
+-- this many bytes of its result were written, but not all
 abbrev pub IsBegunBy : AnswerForm → TableSet → Option (List ℕ) → Option (List ℕ) → Option (List ℕ) → ℕ → Type 0
 IsBegunBy form s given before after written = (text : List ℕ) × (answer : List ℕ) × (outcome : Outcome)
     × IfSome given (λ bytes. text ≡ bytes) × TableAnswer form s text outcome answer × (written < length answer)
     × Appends before after (take written answer)
 
--- the set is at fault on the text that the reader gave
+-- the set is faulty for the text from the reader
 abbrev pub IsFaultyOn : TableSet → Option (List ℕ) → Type 0
 IsFaultyOn s given = (text : List ℕ) × IfSome given (λ bytes. text ≡ bytes) × IsVerdict s text faulty
 
--- the reader gave more bytes than a text may have
+-- more bytes were read than a text may have
 abbrev pub IsTooLong : Option (List ℕ) → Type 0
 IsTooLong given = IfSome given (λ bytes. 2 ^ 64 ≤ length bytes)
 
--- No answer is known after these bytes of a text: all matches that they decide were passed over, or their tokens read,
+-- The result isn't known after these bytes of a text: all matches that they decide were skipped, or their tokens read,
 -- and the next one isn't decided.
 abbrev pub IsOpenAfter : TableSet → List ℕ → Type 0
 IsOpenAfter s bytes = (w : Progress) × Onward false (scan_part_of s) (machine_of s) (begun bytes) w
     × IsUndecided (scanner_in (scan_part_of s)) w.place
 
--- A reader gave no more than an answer asks for: bytes after which none is known, and behind them at most so many.
+-- No more was read than the result needs: bytes after which it isn't known, and at most this many after them.
 abbrev pub IsReadAsNeeded : ℕ → TableSet → Option (List ℕ) → Option (List ℕ) → Type 0
 IsReadAsNeeded most s before after = (open_bytes : List ℕ) × (last : List ℕ)
     × Consumes before after (open_bytes ++ last) × IsOpenAfter s open_bytes × (length last ≤ most)
 
--- A reader gave bytes after which no answer is known. So where a read behind them fails, it was asked for.
+-- Bytes were read after which the result isn't known. So if the next read fails, it was necessary.
 abbrev pub IsOpenBehind : TableSet → Option (List ℕ) → Option (List ℕ) → Type 0
 IsOpenBehind s before after = (bytes : List ℕ) × Consumes before after bytes × IsOpenAfter s bytes
 
--- the bytes of a table file, of whatever version, spell the set, whose parser's runs end
+-- the bytes of a table file, of any version, spell the set, whose parser's runs end
 abbrev pub IsDriven : List ℕ → TableSet → Type 0
 IsDriven tables s = (v : Version) × TableText tables v s × IsSteady (machine_of s)

@@ -18,12 +18,12 @@ use ly_print::{AnswerForm, Sink, Source, write_whole};
 use ly_tables::{TableSet, a_file_has_one_set, read_tables};
 use std::alloc::Global;
 
-/// Answers the text that a reader gives by the bytes of a table file, and writes the answer in a form. Nothing is read
-/// before the table file is read, and at most 4,096 bytes at a time; nothing is written before the outcome is known,
-/// and nothing is asked of the reader after it is, so only at a tree the reader is known to be at its end, and a read
-/// that fails was one that had to be made.
+/// Parses the text from a reader with the bytes of a table file, and writes the result in a form. The text is read
+/// after the table file has been checked, at most 4,096 bytes at a time. Nothing is written before the outcome is
+/// known, and nothing is read after it is. So the reader is known to be at its end only for a tree, and a read that
+/// fails was necessary.
 ///
-/// Its faults are those of `DriveFault`.
+/// The errors are those of `DriveFault`.
 pub fn drive<R: Source, W: Sink>(
     alloc: Global,
     tables: &[u8],
@@ -62,14 +62,14 @@ pub fn drive<R: Source, W: Sink>(
     Ok(answered?)
 }
 
-/// How many bytes are asked for at a time.
+/// The number of bytes requested at a time.
 pub(crate) const PIECE: usize = 4_096;
 
-/// Answers the text that a reader gives by a table set, and writes the answer in a form. Nothing is written before the
-/// outcome is known, and nothing is asked of the reader after it is, so only at a tree the reader is known to be at its
-/// end, and a read that fails was one that had to be made.
+/// Parses the text from a reader with a table set, and writes the result in a form. Nothing is written before the
+/// outcome is known, and nothing is read after it is. So the reader is known to be at its end only for a tree, and a
+/// read that fails was necessary.
 ///
-/// Its faults are those of `TextFault`.
+/// The errors are those of `TextFault`.
 pub fn run<R: Source, W: Sink>(
     alloc: Global,
     set: &TableSet,
@@ -101,8 +101,8 @@ pub fn run<R: Source, W: Sink>(
     answered
 }
 
-/// Feeds a feed to which nothing has come with what a reader gives, so much at a time as there is room for, until the
-/// text is answered or ends, and writes the answer.
+/// Reads from a reader into a new feed, at most the size of the buffer at a time, until the result is known or the text
+/// ends, and writes the result.
 fn feed_all<R: Source, W: Sink>(
     feed: &mut Feed<'_>,
     room: &mut [u8],

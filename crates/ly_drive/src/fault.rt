@@ -6,20 +6,20 @@ use ly_feed::TextFault;
 use ly_tables::TableFault;
 use thiserror::Error;
 
-/// Why there is no answer to a text by a table file.
+/// Why a text has no result with a table file.
 #[derive(Clone, Copy, Debug, PartialEq, Eq, Error)]
 pub enum DriveFault {
-    /// The bytes are no table file that can be driven. Nothing was read or written.
+    /// The bytes are no valid table file. Nothing was read or written.
     #[error("{0}")]
     Tables(TableFault),
-    /// The text has no answer, or not all of it was written. Want of memory where the table file is read is this too:
-    /// nothing was read then.
+    /// The text has no result, or the result wasn't written completely. Running out of memory while the table file is
+    /// read is this too: nothing was read then.
     #[error("{0}")]
     Text(TextFault),
 }
 
 impl DriveFault {
-    /// The fault's number; a device that fails and want of memory have none.
+    /// The error's number; none for a device that fails and for out of memory.
     pub fn number(&self) -> Option<u8>
         ensures { result ≡ drive_number self.now }
     {
@@ -29,7 +29,7 @@ impl DriveFault {
         }
     }
 
-    /// The fault's name.
+    /// The error's name.
     pub fn name(&self) -> &'static str
         ensures { result.now ≡ drive_name self.now }
     {

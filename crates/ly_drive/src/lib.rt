@@ -1,13 +1,15 @@
-//! From a table file and a text to the printed answer.
+//! Parses a text from a reader with a table file, and writes the result.
 //!
-//! `drive` reads a table file, and `run` takes a table set. Both read the text in pieces, into a `Feed` of `ly_feed`,
-//! until its answer is known, and write that (`IsAnsweredBy`); they read no more than it takes (`IsReadAsNeeded`).
-//! `drive_lines` and `run_lines` answer each line as a text of its own, once it has ended (`AreLinesAnswered`).
-//! `drive_tokens` and `run_tokens` list the tokens that a table file's scanner finds (`IsListedFor`). Nothing here
-//! knows of lex and yacc files.
+//! `drive` reads a table file; `run` takes a table set. Both read the text in chunks into a `Feed` of `ly_feed` until
+//! its result is known, and write that (`IsAnsweredBy`). They read only as much as they need (`IsReadAsNeeded`).
+//! `drive_lines` and `run_lines` parse each line as a text of its own when it has ended (`AreLinesAnswered`).
+//! `drive_tokens` and `run_tokens` list the tokens that a table file's scanner finds (`IsListedFor`). This crate knows
+//! nothing of lex and yacc files, so running tables needs no generator.
 //!
-//! Left out: how a text is answered, which is the feed's, and what tables say of the files that they were generated
-//! from.
+//! How much may be read is specified by what is decided: bytes after which the result isn't known, and at most 4,096
+//! after them.
+//!
+//! Not done here: parsing, which is the feed's, and the relation of tables to the files that they were generated from.
 #![tactic(auto)]
 
 mod driving;

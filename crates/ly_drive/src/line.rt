@@ -9,7 +9,7 @@ use ly_print::{AnswerForm, Sink, write_whole};
 use ly_tables::TableSet;
 use std::alloc::Global;
 
-/// Answers a line as a text of its own, and writes the answer in a form.
+/// Parses a line as a text of its own, and writes the result in a form.
 pub(crate) fn answer_line<W: Sink>(
     alloc: Global,
     set: &TableSet,
@@ -31,7 +31,7 @@ pub(crate) fn answer_line<W: Sink>(
     answered
 }
 
-/// Feeds a feed to which nothing has come with a whole text, and writes the answer.
+/// Feeds a new feed with a whole text, and writes the result.
 fn feed_whole<W: Sink>(
     feed: &mut Feed<'_>,
     text: &[u8],
@@ -54,7 +54,7 @@ fn feed_whole<W: Sink>(
         }
         Err(FeedFault::FaultyTables) => Err(TextFault::FaultyTables),
         Err(FeedFault::OutOfMemory) => Err(TextFault::OutOfMemory),
-        // no answer has come yet, and what is in memory has less than 2^64 bytes
+        // the feed hasn't ended yet, and a text in memory has less than 2^64 bytes
         Err(FeedFault::TooLong | FeedFault::Over) => unreachable!(),
     }
 }

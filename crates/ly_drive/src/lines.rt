@@ -25,11 +25,11 @@ use ly_print::{AnswerForm, Sink, Source};
 use ly_tables::{TableSet, a_file_has_one_set, read_tables};
 use std::alloc::Global;
 
-/// Answers each line of the text that a reader gives as a text of its own, by the bytes of a table file, and writes its
-/// answer in a form. Nothing is read before the table file is read, and at most 4,096 bytes at a time; a line that has
-/// come whole is answered before the reader is asked for more.
+/// Parses each line of the text from a reader as a text of its own, with the bytes of a table file, and writes its
+/// result in a form. The text is read after the table file has been checked, at most 4,096 bytes at a time. A complete
+/// line is parsed before more is read.
 ///
-/// Its faults are those of `DriveFault`. What was written before one is the answers of the lines in front.
+/// The errors are those of `DriveFault`. Before an error, the results of the preceding lines have been written.
 pub fn drive_lines<R: Source, W: Sink>(
     alloc: Global,
     tables: &[u8],
@@ -68,10 +68,10 @@ pub fn drive_lines<R: Source, W: Sink>(
     Ok(answered?)
 }
 
-/// Answers each line of the text that a reader gives as a text of its own, by a table set, and writes its answer in a
-/// form. A line that has come whole is answered before the reader is asked for more.
+/// Parses each line of the text from a reader as a text of its own, with a table set, and writes its result in a form.
+/// A complete line is parsed before more is read.
 ///
-/// Its faults are those of `TextFault`. What was written before one is the answers of the lines in front.
+/// The errors are those of `TextFault`. Before an error, the results of the preceding lines have been written.
 pub fn run_lines<R: Source, W: Sink>(
     alloc: Global,
     set: &TableSet,
@@ -97,7 +97,7 @@ pub fn run_lines<R: Source, W: Sink>(
     answer_all(alloc, set, form, &mut room, reader, writer)
 }
 
-/// Answers the lines of what a reader gives, so much at a time as there is room for, until the text ends.
+/// Parses the lines from a reader, at most the size of the buffer at a time, until the text ends.
 fn answer_all<R: Source, W: Sink>(
     alloc: Global,
     set: &TableSet,
@@ -137,17 +137,17 @@ fn answer_all<R: Source, W: Sink>(
     }
 }
 
-/// What is known of lines while their text comes.
+/// The state of the lines while their text is read.
 #[derive(Drop)]
 struct Lines {
-    /// The bytes of the line that hasn't ended.
+    /// The bytes of the incomplete line.
     part: Vec<u8>,
-    /// What is said of the lines before it, which are answered.
+    /// The outcome of the lines before it.
     outcome: LinesOutcome,
 }
 
 impl Lines {
-    /// Those of a text of which nothing has come.
+    /// The lines of a text without any bytes.
     fn new(alloc: Global) -> Lines
         ensures part { result.part.items ≡ [] }
         ensures outcome { result.outcome ≡ AllTrees }
@@ -158,7 +158,7 @@ impl Lines {
         }
     }
 
-    /// Takes the next bytes of the text, and answers each line that ends in them.
+    /// Takes the next bytes of the text, and parses each line that ends in them.
     fn take<W: Sink>(
         &mut self,
         alloc: Global,
@@ -182,7 +182,7 @@ impl Lines {
         Ok(())
     }
 
-    /// Takes the next byte of the text. A newline ends the line, which is answered.
+    /// Takes the next byte of the text. A newline ends the line, which is parsed.
     fn take_byte<W: Sink>(
         &mut self,
         alloc: Global,
@@ -212,7 +212,7 @@ impl Lines {
         Ok(())
     }
 
-    /// Tells that the text has ended: what stands behind the last newline is a line where it isn't empty.
+    /// Ends the text. The bytes after the last newline are a line unless they are empty.
     fn end<W: Sink>(
         self,
         alloc: Global,

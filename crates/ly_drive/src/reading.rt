@@ -5,8 +5,8 @@ ghost use Rattle.ly_drive.specs.Private.Reading.{IsReadInto};
 use ly_feed::{Feed, FeedFault, Need, TextFault};
 use ly_print::Source;
 
-/// Reads what a reader gives at once, at most so much as there is room for, into a feed, and says what that wants next.
-/// None where the text has ended.
+/// Reads once from a reader into a feed, at most the size of the buffer, and returns what the feed needs next. Returns
+/// `None` at the end of the text.
 pub(crate) fn read_into<R: Source>(
     feed: &mut Feed<'_>,
     reader: &mut R,
@@ -30,7 +30,7 @@ pub(crate) fn read_into<R: Source>(
         Err(FeedFault::FaultyTables) => Err(TextFault::FaultyTables),
         Err(FeedFault::TooLong) => Err(TextFault::TooLong),
         Err(FeedFault::OutOfMemory) => Err(TextFault::OutOfMemory),
-        // no answer has come yet
+        // the feed hasn't ended yet
         Err(FeedFault::Over) => unreachable!(),
     }
 }

@@ -25,11 +25,11 @@ use ly_print::{AnswerForm, ReadFault, Sink, Source, read_whole, write_whole};
 use ly_tables::{TableSet, read_tables};
 use std::alloc::Global;
 
-/// Writes the tokens of the text that a reader gives in a form, by the scanner of a table file: a line for each, and a
-/// last line if no rule matches somewhere. Nothing is read before the table file is; then the text is read whole, and
-/// nothing is written before all lines are made.
+/// Writes the tokens of the text from a reader in a form, found by the scanner of a table file: one line for each, and
+/// a last line if no rule matches somewhere. The text is read after the table file has been checked. It is read
+/// completely, and nothing is written before all lines are made.
 ///
-/// Its faults are those of `DriveFault` but `TooLong`.
+/// The errors are those of `DriveFault` except `TooLong`.
 pub fn drive_tokens<R: Source, W: Sink>(
     alloc: Global,
     tables: &[u8],
@@ -65,9 +65,9 @@ pub fn drive_tokens<R: Source, W: Sink>(
     Ok(listed?)
 }
 
-/// Writes the tokens of the text that a reader gives by the scanner of a table set, as `drive_tokens` does.
+/// Writes the tokens of the text from a reader, found by the scanner of a table set, like `drive_tokens`.
 ///
-/// Its faults are those of `TextFault` but `TooLong`.
+/// The errors are those of `TextFault` except `TooLong`.
 pub fn run_tokens<R: Source, W: Sink>(
     alloc: Global,
     set: &TableSet,
@@ -98,7 +98,7 @@ pub fn run_tokens<R: Source, W: Sink>(
     write_tokens(alloc, set, form, &text, writer)
 }
 
-/// Writes the tokens of a text by the scanner of a table set.
+/// Writes the tokens of a text, found by the scanner of a table set.
 fn write_tokens<W: Sink>(
     alloc: Global,
     set: &TableSet,
@@ -125,7 +125,7 @@ fn write_tokens<W: Sink>(
     Ok(end)
 }
 
-/// How tokens end by the end of the lexer's run; where a cut leaves no token, the tables are at fault.
+/// The end of the tokens for the end of the lexer's run. If a trailing context leaves no token, the tables are faulty.
 fn token_end(end: End) -> Result<TokenEnd, TextFault>
     ensures ok { IfOk result (λ t. end ≡ end_of t) }
     ensures fault { IfErr result (λ e. (e ≡ TextFault.FaultyTables) × ((byte : ℕ) × (end ≡ End.BadCut byte))) }
@@ -137,7 +137,7 @@ fn token_end(end: End) -> Result<TokenEnd, TextFault>
     }
 }
 
-/// What comes of the lexemes of a table set's scanner.
+/// The tokens of the lexemes of a table set's scanner.
 #[derive(Clone, Copy)]
 struct SetTokens<'a> {
     /// The table set.
@@ -161,7 +161,7 @@ impl TokenNames for SetTokens<'_> {
     }
 }
 
-/// The printed name of a terminal, nothing where there is no such terminal.
+/// The printed name of a terminal; empty if there is no such terminal.
 fn name_of(set: &TableSet, terminal: Sym) -> &[u8]
     ensures { result.now ≡ name_in set.now.terminals terminal.0 }
 {

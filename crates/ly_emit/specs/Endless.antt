@@ -1,4 +1,4 @@
--- What a refusal by the loop check says of a specification.
+-- The meaning of an error of the loop check for a specification.
 use Rattle.ly_emit.specs.Tables.{IsMachineOf}
 use Rattle.ly_join.specs.Joined.{Spec}
 use Rattle.ly_loop.specs.Endless.{IsFirstEndless}
@@ -7,7 +7,7 @@ use Rattle.ly_loop.specs.declared.fault.LoopFault.TheVariants.{Endless, OutOfMem
 use Rattle.ly_lr0.specs.Automaton.{Lr0Automaton}
 use Rattle.ly_pack.specs.Machine.{Machine, AreEntriesWithin}
 
--- the fault names the first endless run of the specification's tables with default reductions; want of memory says
+-- the error names the first endless run of the specification's tables with default reductions; out of memory means
 -- nothing
 abbrev pub IsRefusedFor : Spec → Lr0Automaton → LoopFault → Type 0
 IsRefusedFor s M (Endless below top token) = (n : Machine) × IsMachineOf s M n × AreEntriesWithin n

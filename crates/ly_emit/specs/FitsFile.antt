@@ -1,4 +1,4 @@
--- What a table file of a version can hold of a specification and of its automata.
+-- What a table file of a version can hold of a specification and its automata.
 use Rattle.std.specs.Prelude.{◌≡◌, ℕ, ◌+◌, ◌*◌, ◌<◌, ◌≤◌, List, All, Some, length, slice_get}
 use Rattle.std.specs.Int.{Width}
 use Rattle.ly_base.specs.declared.scan_action.ScanAction.{ScanAction}
@@ -13,8 +13,8 @@ use Rattle.ly_report.specs.Report.{terminal_name}
 use Rattle.ly_subset.specs.Automaton as scanner
 use Rattle.ly_tables.specs.Ranges.{Counts, IsCutWithin, IsEmittedWithin, IsNameLong, IsShapeShort, counts_of, width_of}
 
--- The first two terminals are the end and the one of no token; there are no more symbols, rules and states than these
--- counts allow, and a rule; and bodies, names of terminals and names of constructors are no longer than a byte counts.
+-- The first two terminals are `$end` and `$undef`; there is at least one rule, and no more symbols, rules and states
+-- than these counts allow; and the lengths of bodies, names of terminals and names of constructors fit in a byte.
 pub record IsGrammarWithin (counts : Counts) (s : Spec) (M : parser.Lr0Automaton) : Type 0 where
   pub end : slice_get s.terminals 0 ≡ Some end
   pub undefined : slice_get s.terminals 1 ≡ Some undefined
@@ -27,14 +27,14 @@ pub record IsGrammarWithin (counts : Counts) (s : Spec) (M : parser.Lr0Automaton
   pub constructors : (p : ℕ) → IsShapeShort (shape_in s p)
   pub states : length M.states ≤ counts.states
 
--- What a rule of the scanner does names what is there: a terminal, which isn't the end, and one of the conditions, of
--- which each has two starts.
+-- The action of a scanner rule refers to what exists: a terminal other than the end, and a condition, each of which has
+-- two starts.
 pub record IsActionWithin (terminals starts : ℕ) (a : ScanAction) : Type 0 where
   pub emits : IsEmittedWithin terminals a.emits
   pub begin : (c : ℕ) → a.begin ≡ Some c → 2 * c < starts
 
--- There are no more rules, conditions and states than these counts allow, and a condition; what rules do, and what is
--- accepted, is there; and a number of this width counts what is cut.
+-- There is at least one condition, and no more rules, conditions and states than these counts allow; actions and
+-- accepted rules refer to what exists; and the lengths of trailing contexts fit in this width.
 pub record IsScannerWithin (w : Width) (counts : Counts) (s : Spec) (rules : List pattern.Rule) (A : scanner.Automaton)
     : Type 0 where
   pub rule_count : length rules ≤ counts.rules
@@ -45,7 +45,7 @@ pub record IsScannerWithin (w : Width) (counts : Counts) (s : Spec) (rules : Lis
   pub states : length A.rules ≤ counts.states
   pub accepted : (k p : ℕ) → slice_get A.rules k ≡ Some (Some p) → p < length rules
 
--- The grammar and the scanner of a specification, and the automata of both, are within the counts of the version.
+-- The grammar and the scanner of a specification, and both automata, are within the counts of the version.
 pub record FitsFile (v : Version) (s : Spec) (rules : List pattern.Rule) (A : scanner.Automaton)
     (M : parser.Lr0Automaton)
     : Type 0 where

@@ -1,4 +1,4 @@
--- How tables follow the reference machine.
+-- How tables relate to the reference machine.
 use Rattle.std.specs.Prelude.{◌≡◌, ℕ, List, [], ◌∷◌, Some}
 use Rattle.ly_base.specs.Lexed.{Token}
 use Rattle.ly_base.specs.Shape.{Shape}
@@ -10,15 +10,15 @@ use Rattle.ly_resolve.specs.Machine.{Accepts, Configuration, Leads, Pushed, Refu
 use Rattle.ly_tree.specs.Term.{build}
 
 -- The levels mirror a stack of the reference machine: each state is where the symbols up to it lead, and each term is
--- what the rules build of its tree.
+-- what the rules build from its tree.
 pub data Mirrors (M : Lr0Automaton) (shape : ℕ → Shape) : List Pushed → List Level → Type 0 where
   bottom : Mirrors M shape [] []
   above : {x : Pushed} {state : ℕ} {stack : List Pushed} {levels : List Level} → Mirrors M shape stack levels
       → goto_of M (top_of levels) x.symbol ≡ Some state
       → Mirrors M shape (x ∷ stack) (record { state = state; term = build shape x.tree } ∷ levels)
 
--- What becomes of a token that is next, by what the tables do with it: the machine goes on behind it, accepts, or
--- refuses it, and the tables are never at fault.
+-- The outcome for the next token corresponds to that of the tables: the machine continues after it, accepts, or refuses
+-- it, and the tables are never faulty.
 abbrev pub Follows : Lr0Automaton → (ℕ → Shape) → Judge → List Pushed → Token ℕ → List (Token ℕ) → Fed → Type 0
 Follows M shape judge stack token behind (pushed levels) = (next : List Pushed)
     × Leads M.grammar judge (record { stack = stack; rest = token ∷ behind })

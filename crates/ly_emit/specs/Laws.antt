@@ -1,4 +1,4 @@
--- What holds of tables.
+-- Laws of tables.
 use Rattle.std.specs.Prelude.{◌≡◌, ◌↔◌, ℕ, ◌<◌, ◌≤◌, List, [], ◌∷◌, ◌++◌, All, Contains, length}
 use Rattle.ly_base.specs.Lexed.{Token}
 use Rattle.ly_grammar.specs.Reduction.{KeepsUseful}
@@ -22,8 +22,8 @@ use Rattle.ly_yaccread.specs.YaccText.{YaccText}
 use Rattle.ly_emit.specs.Following.{Follows, Mirrors}
 use Rattle.ly_emit.specs.Tables.{AreShapesWithin, IsMachineOf, shape_in}
 
--- What tables with defaults do with a token, the reference machine does too: a default stands for a reduction that is
--- done, or leads to no token.
+-- The reference machine does to a token what tables with defaults do: a default is a reduction that it makes too, or
+-- leads to no token.
 abbrev pub TablesFollow : Type 0
 TablesFollow = (s : Spec) (M : Lr0Automaton) (n : Machine) → IsLr0Automaton M → KeepsUseful s.grammar M.grammar
     → IsMachineOf s M n → (stack : List Pushed) (levels : List Level) (token : Token ℕ) (behind : List (Token ℕ))
@@ -34,7 +34,7 @@ TablesFollow = (s : Spec) (M : Lr0Automaton) (n : Machine) → IsLr0Automaton M 
 abbrev pub AreOf : Lr0Automaton → List (Token ℕ) → Type 0
 AreOf M tokens = All (λ t. t.terminal < M.grammar.terminals) tokens
 
--- Where tables read all tokens and then accept the end with a term, the reference machine accepts them with a tree of
+-- If tables read all tokens and then accept the end with a term, the reference machine accepts them with a tree from
 -- which that term is built.
 abbrev pub AcceptedFollow : Type 0
 AcceptedFollow = (s : Spec) (M : Lr0Automaton) (n : Machine) → IsLr0Automaton M → KeepsUseful s.grammar M.grammar
@@ -42,28 +42,28 @@ AcceptedFollow = (s : Spec) (M : Lr0Automaton) (n : Machine) → IsLr0Automaton 
     → AreOf M (tokens ++ end ∷ []) → ReadsTokens n [] tokens last → Feeds n end last (done term)
     → (d : Tree) × AcceptsWith M.grammar (judge_of s) (tokens ++ end ∷ []) d × (term ≡ build (shape_in s) d)
 
--- Where tables read some tokens and refuse the next, so does the reference machine, whatever stands behind it.
+-- If tables read some tokens and reject the next, so does the reference machine, whatever follows it.
 abbrev pub RefusedFollow : Type 0
 RefusedFollow = (s : Spec) (M : Lr0Automaton) (n : Machine) → IsLr0Automaton M → KeepsUseful s.grammar M.grammar
     → IsMachineOf s M n → (before behind : List (Token ℕ)) (t : Token ℕ) (last : List Level)
     → AreOf M (before ++ t ∷ []) → ReadsTokens n [] before last → Feeds n t last refused
     → RefusesAfter M.grammar (judge_of s) (before ++ t ∷ behind) before
 
--- On steady tables each run of the reference machine on tokens with the end behind them ends.
+-- On steady tables each run of the reference machine on tokens followed by the end ends.
 abbrev pub RunsEndOnSteady : Type 0
 RunsEndOnSteady = (s : Spec) (M : Lr0Automaton) (n : Machine) → IsLr0Automaton M → KeepsUseful s.grammar M.grammar
     → IsMachineOf s M n → IsMachine n → IsSteady n → (tokens : List (Token ℕ)) (end : Token ℕ) → end.terminal ≡ 0
     → AreOf M (tokens ++ end ∷ []) → Ends M.grammar (judge_of s) (tokens ++ end ∷ [])
 
--- On steady tables, whose levels mirror a stack of the reference machine, the terminals that are expected are those
--- that it would read next.
+-- On steady tables whose levels mirror a stack of the reference machine, the expected terminals are those that it would
+-- read next.
 abbrev pub ExpectedFollow : Type 0
 ExpectedFollow = (s : Spec) (M : Lr0Automaton) (n : Machine) → IsLr0Automaton M → KeepsUseful s.grammar M.grammar
     → IsMachineOf s M n → IsSteady n → (stack : List Pushed) (levels : List Level)
     → Mirrors M (shape_in s) stack levels → IsStack n (states_on levels) → (ts : List ℕ)
     → AreExpected n (states_on levels) ts → (t : ℕ) → Contains ts t ↔ Next M.grammar (judge_of s) stack t
 
--- What the rules of a yacc file make of the trees of their bodies speaks of places of the bodies, of each once.
+-- The trees of a yacc file's rules use places of their bodies, each at most once.
 abbrev pub ShapesAreWithin : Type 0
 ShapesAreWithin = (bytes : List ℕ) (x : Scanning) (w : Written) (s : Spec) → YaccText bytes w → Joined x w s
     → AreShapesWithin s
@@ -79,19 +79,20 @@ pub record AreSameTables (s : Spec) (m n : Machine) : Type 0 where
   pub rules : (p : ℕ) (r : GrammarRule) → 1 ≤ p → IsRule s.grammar p r → rule_at m p ≡ rule_at n p
   pub numbers : length m.rules ≡ length n.rules
 
--- The tables of a specification, with default reductions, are one, by whatever automata of its useful rules.
+-- The tables of a specification with default reductions are unique, whatever automata of its useful rules they come
+-- from.
 abbrev pub TablesAreOne : Type 0
 TablesAreOne = (s : Spec) (M N : Lr0Automaton) (m n : Machine) → IsLr0Automaton M → IsLr0Automaton N
     → KeepsUseful s.grammar M.grammar → KeepsUseful s.grammar N.grammar → IsMachineOf s M m → IsMachineOf s N n
     → AreSameTables s m n
 
--- so they are steady together, where the others have nothing outside of their rows and columns
+-- so all or none are steady, if the others have no entries outside of their rows and columns
 abbrev pub SteadyTogether : Type 0
 SteadyTogether = (s : Spec) (M N : Lr0Automaton) (m n : Machine) → IsLr0Automaton M → IsLr0Automaton N
     → KeepsUseful s.grammar M.grammar → KeepsUseful s.grammar N.grammar → IsMachineOf s M m → IsMachineOf s N n
     → AreEntriesWithin n → IsSteady m → IsSteady n
 
--- A run of a specification's tables that is too long excludes that any tables of it are steady.
+-- If a run of a specification's tables is too long, no tables of it are steady.
 abbrev pub EndlessExcludesSteady : Type 0
 EndlessExcludesSteady = (s : Spec) (M N : Lr0Automaton) (m n : Machine) → IsLr0Automaton M → IsLr0Automaton N
     → KeepsUseful s.grammar M.grammar → KeepsUseful s.grammar N.grammar → IsMachineOf s M m → IsMachineOf s N n

@@ -15,12 +15,12 @@ use Rattle.ly_subset.specs.Automaton as scanner
 use Rattle.ly_subset.specs.Automaton.{next_by_class, start_of}
 use Rattle.ly_tables.specs.TableSet.{Starts, TableSet, machine_of}
 
--- the machine is that of the specification, by this automaton of its useful rules
+-- the machine is that of the specification, from this automaton of its useful rules
 abbrev pub IsMachineBy : Spec → parser.Lr0Automaton → Machine → Type 0
 IsMachineBy s M m = KeepsUseful s.grammar M.grammar × IsMachineOf s M m
 
--- The rules, conditions, classes and states of the scanner: rules do what the specification says and cut as their
--- patterns, conditions begin and states lead where the automaton says.
+-- The rules, conditions, classes and states of the scanner: rules have the actions of the specification and the
+-- trailing contexts of their patterns; initial states and transitions are those of the automaton.
 pub record IsScannerOf (s : Spec) (rules : List Rule) (A : scanner.Automaton) (set : TableSet) : Type 0 where
   pub actions : map (λ r. r.action) set.scan_rules ≡ s.scanner
   pub cuts : map (λ r. r.cut) set.scan_rules ≡ map (λ r. r.pattern.cut) rules
@@ -33,9 +33,9 @@ pub record IsScannerOf (s : Spec) (rules : List Rule) (A : scanner.Automaton) (s
   pub rows : (state class : ℕ) → state < length A.rules → class < A.classes
       → gotos_from (comb_entry set.scan_rows) state class ≡ next_by_class A state class
 
--- The names of terminals are those of the specification, printed; a byte stands for its literal; the scanner is that of
--- the rules, and the parser's tables are the specification's, with default reductions; and rows are placed by first
--- fit.
+-- The names of terminals are the printed ones of the specification; each byte has the terminal of its literal; the
+-- scanner is that of the rules; the parser's tables are the specification's, with default reductions; and rows are
+-- placed by first fit.
 pub record IsSetOf (s : Spec) (M : parser.Lr0Automaton) (rules : List Rule) (A : scanner.Automaton) (set : TableSet)
     : Type 0 where
   pub terminals : set.terminals ≡ map terminal_name s.terminals

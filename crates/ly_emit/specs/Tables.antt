@@ -1,4 +1,4 @@
--- What a parser does in each state of an automaton, as tables.
+-- The actions of a parser in each state of an automaton, as tables.
 use Rattle.std.specs.Prelude.{◌≡◌, ◌≢◌, ℕ, ◌+◌, ◌<◌, ◌≤◌, Option, Some, None, length, slice_get}
 use Rattle.ly_base.specs.Shape.{Shape, nil}
 use Rattle.ly_join.specs.Grammar.{IsRule, GrammarRule, nonterminal, terminal}
@@ -12,8 +12,8 @@ use Rattle.ly_pack.specs.Steady.{rule_at}
 use Rattle.ly_resolve.specs.Actions.{Action, IsAction, IsTerminalRefused, error, reduce, shift}
 use Rattle.ly_resolve.specs.Precedence.{judge_of}
 
--- The entry of a state before a terminal has this done: a shift goes where the state's transition leads, and before the
--- end it accepts.
+-- The entry of a state before a terminal is that of this action: a shift goes to the target of the state's transition,
+-- and for the end it accepts.
 abbrev pub IsEntryFor : Lr0Automaton → ℕ → ℕ → Action → TableAction → Type 0
 IsEntryFor M k t shift (table.shift s) = (1 ≤ t) × (goto_of M k (terminal t) ≡ Some s)
 IsEntryFor M k t shift table.accept = t ≡ 0
@@ -28,17 +28,17 @@ IsEntryFor M k t error table.accept = ⊥
 IsEntryFor M k t error (table.reduce q) = ⊥
 IsEntryFor M k t error table.error = Unit {0}
 
--- what the rule of a note makes of the trees of its body; nothing, where there is no such rule
+-- the tree of the rule of a note; nothing if there is no such rule
 abbrev pub shape_from : Option Note → Shape
 shape_from None = nil
 shape_from (Some n) = n.shape
 
--- what a specification's rule makes of the trees of its body
+-- the tree of a specification's rule
 abbrev pub shape_in : Spec → ℕ → Shape
 shape_in s p = shape_from (slice_get s.notes p)
 
--- The tables have what is done in each state of the automaton before each terminal, and nowhere a default; where states
--- go by nonterminals; and the specification's rules, those that are removed too.
+-- The tables have the actions of each state of the automaton before each terminal, without defaults, the gotos of
+-- states by nonterminals, and the specification's rules, including removed ones.
 pub record AreTables (s : Spec) (M : Lr0Automaton) (m : Machine) : Type 0 where
   pub terminals : m.terminals ≡ M.grammar.terminals
   pub nonterminals : m.nonterminals ≡ M.grammar.accept
@@ -54,7 +54,7 @@ pub record AreTables (s : Spec) (M : Lr0Automaton) (m : Machine) : Type 0 where
   pub numbers : length m.rules + 1 ≡ length s.grammar.rules
   pub no_default : (k p : ℕ) → slice_get m.defaults k ≢ Some (Some p)
 
--- What each rule but rule 0 makes of the trees of its body speaks of places of the body alone, and of each once.
+-- The tree of each rule but rule 0 uses only places of its body, each at most once.
 abbrev pub AreShapesWithin : Spec → Type 0
 AreShapesWithin s = (p : ℕ) (r : GrammarRule) → 1 ≤ p → IsRule s.grammar p r → IsShapeFor (length r.body) (shape_in s p)
 

@@ -1,14 +1,19 @@
-//! From what a parser does in each state of an automaton, and from the automaton of a scanner, to a table set.
+//! Builds a table set from a parser's actions, its LR(0) automaton, and the automaton of a scanner.
 //!
-//! `machine` writes out what is done in each state before each terminal, and where it goes by each nonterminal; and the
-//! rules, those that are removed too, so that their numbers stay. These tables are without defaults; `steady_machine`
-//! gives them their default reductions and has it checked that every run of theirs ends. Both ask that what rules make
-//! of trees speaks of places of their bodies, as what a yacc file says does (`shapes_are_within`). `table_set` lays the
-//! rows over one another and puts them together with the scanner's and the names of terminals (`IsSetOf`); it asks that
-//! a file can hold them (`FitsFile`). That tables follow the reference machine, also with defaults, is a law
-//! (`tables_follow`).
+//! `machine` makes the parser's tables: the action of each state before each terminal, its goto by each nonterminal,
+//! and the rules. Removed rules are included, so that rules keep their numbers. These tables have no defaults.
+//! `steady_machine` adds default reductions and checks that every run ends. Both require that the trees of rules use
+//! places of their bodies, which holds for those of a yacc file (`shapes_are_within`). `table_set` packs the rows and
+//! adds the scanner's tables and the names of terminals (`IsSetOf`); it requires that a file can hold them
+//! (`FitsFile`). A law proves that tables follow the reference machine, even with defaults (`tables_follow`).
 //!
-//! Left out: making a scanner's automaton smallest, and the bytes of a table file.
+//! - `table_set` takes the specification and not the actions of its states, because its tables are the same for any
+//!   automaton of the useful rules.
+//! - It doesn't take a version: a set is the same in both, and the contract has the ranges of each version.
+//! - The theorem that tables follow the reference machine is about single tokens, for a parser's stack that mirrors the
+//!   machine's. So it holds for texts in chunks too.
+//!
+//! Not done here: minimizing a scanner's automaton, and the bytes of a table file.
 #![tactic(auto)]
 
 mod laws;

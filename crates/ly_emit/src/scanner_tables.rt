@@ -19,19 +19,20 @@ use std::alloc::{AllocError, Global};
 /// The tables of a scanner.
 #[derive(Drop)]
 pub(crate) struct ScannerTables {
-    /// What its rules do and cut.
+    /// The actions and trailing contexts of its rules.
     pub(crate) rules: Vec<ScanRule>,
-    /// Where its conditions begin.
+    /// The initial states of its conditions.
     pub(crate) conditions: Vec<Starts>,
     /// The class of each byte.
     pub(crate) classes: Vec<u8>,
     /// The rule of each state, if it has one.
     pub(crate) accepted: Vec<Option<RuleNo>>,
-    /// Where states lead, by classes.
+    /// The transitions of states, by classes.
     pub(crate) rows: Comb<StateNo>,
 }
 
-/// The tables of the scanner whose rules do this, and cut as their patterns say; its states are those of the automaton.
+/// The tables of the scanner with these actions of rules and the trailing contexts of these patterns. Its states are
+/// those of the automaton.
 pub(crate) fn scanner_tables(
     alloc: Global,
     actions: &[ScanAction],
@@ -65,7 +66,7 @@ pub(crate) fn scanner_tables(
     })
 }
 
-/// What the rules do and cut.
+/// The actions and trailing contexts of the rules.
 fn scan_rules(
     alloc: Global,
     actions: &[ScanAction],
@@ -86,7 +87,7 @@ fn scan_rules(
     Ok(scan_rules)
 }
 
-/// Where the conditions begin.
+/// The initial states of the conditions.
 fn conditions(alloc: Global, dfa: &Dfa) -> Result<Vec<Starts>, AllocError>
     requires starts { (conditions : ℕ) × (dfa.now.starts ≡ 2 * conditions) }
     requires few { dfa.now.starts < 2 ^ 32 }
@@ -129,7 +130,7 @@ fn accepted(alloc: Global, dfa: &Dfa, states: u32) -> Result<Vec<Option<RuleNo>>
     Ok(rules)
 }
 
-/// Where states lead, by classes, as rows that stand one behind another.
+/// The transitions of states by classes, as lists.
 fn dense_rows(alloc: Global, dfa: &Dfa, states: u32) -> Result<Dense<StateNo>, OutOfMemory>
     requires { states ≡ length dfa.now.rules }
     ensures rows { IfOk result (λ rows. rows.rows ≡ length dfa.now.rules) }
@@ -143,7 +144,7 @@ fn dense_rows(alloc: Global, dfa: &Dfa, states: u32) -> Result<Dense<StateNo>, O
     Ok(rows)
 }
 
-/// Fills in where a state leads.
+/// Fills in the transitions of a state.
 fn fill_row(dfa: &Dfa, state: u32, rows: &mut Dense<StateNo>) -> Result<(), OutOfMemory>
     requires state { state < length dfa.now.rules }
     requires rows { rows.old.rows ≡ length dfa.now.rules }

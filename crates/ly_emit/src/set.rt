@@ -24,12 +24,12 @@ use ly_subset::Dfa;
 use ly_tables::{TableParts, TableSet};
 use std::alloc::{AllocError, Global};
 
-/// The table set of a specification: its parser's tables, by whatever automaton of its useful rules they are its
-/// tables, and the automaton of its scanner.
+/// The table set of a specification, from its parser's tables, which may come from any automaton of its useful rules,
+/// and the automaton of its scanner.
 ///
-/// What is asked for fits a file of version 2, so that no number is past what it holds; and where it fits one of
-/// version 1, so does the set. `OutOfMemory` comes where a growth was refused. (`ly_pack` looks whether a base has a
-/// `u32`, as those of rows within a file's counts always do.)
+/// The inputs must fit a file of version 2, so that no number is too large; if they fit one of version 1, so does the
+/// set. `OutOfMemory` if an allocation fails. (`ly_pack` checks that a base fits in a `u32`, which is always true for
+/// rows within a file's counts.)
 pub fn table_set(
     alloc: Global,
     spec: &Spec,
@@ -107,12 +107,12 @@ fn terminal_name(alloc: Global, terminal: &TerminalName) -> Result<Vec<u8>, Allo
 {
     let mut name = Vec::new(alloc);
     push_terminal(&mut name, terminal)?;
-    // the call's contract says what the type of a byte does
+    // the call's contract requires what the type of a byte guarantees
     are_bytes(&name);
     Ok(name)
 }
 
-/// What a name consists of is bytes.
+/// Proves that a name consists of bytes.
 fn are_bytes(name: &[u8])
     ensures { All (λ byte. byte < 256) name.now }
 {}

@@ -10,10 +10,10 @@ use ly_pack::{Dense, Machine, TableAction, choose_defaults};
 use ly_resolve::Resolved;
 use std::alloc::Global;
 
-/// The tables of what a parser does in each state, with default reductions, of which every run ends.
+/// The tables of a parser's actions, with default reductions. Every run on them ends.
 ///
 /// `Endless` names the first edge and the first terminal whose run makes more reductions than are allowed.
-/// `OutOfMemory` comes where a growth was refused, or where a number is past what tables hold.
+/// `OutOfMemory` if an allocation fails, or if a number is too large for tables.
 pub fn steady_machine(
     alloc: Global,
     resolved: &Resolved<'_>,
@@ -24,7 +24,7 @@ pub fn steady_machine(
     ensures endless { IfErr result (IsRefusedFor resolved.now.spec resolved.now.automaton) }
 {
     let tables = choose_defaults(alloc, machine(alloc, resolved)?)?;
-    // the call's contract says that nothing stands outside of the rows
+    // the call's contract guarantees that no entries are outside of the rows
     let _states = tables.states();
     steady(alloc, &tables.view())?;
     Ok(tables)

@@ -18,9 +18,9 @@ use ly_pack::{Dense, Machine, MachineParts, TableAction, TableRule};
 use ly_resolve::{Action, Resolved, TerminalAction};
 use std::alloc::Global;
 
-/// The tables of what a parser does in each state, without defaults.
+/// The tables of a parser's actions, without defaults.
 ///
-/// `OutOfMemory` comes where a growth was refused.
+/// `OutOfMemory` if an allocation fails.
 pub fn machine(
     alloc: Global,
     resolved: &Resolved<'_>,
@@ -44,14 +44,14 @@ pub fn machine(
     }))
 }
 
-/// No default in any of so many states.
+/// No default for any of this many states.
 fn no_defaults(alloc: Global, states: usize) -> Result<Vec<Option<RuleNo>>, OutOfMemory>
     ensures { IfOk result (λ defaults. defaults.items ≡ replicate states None) }
 {
     Ok(vec![in alloc; None; states]?)
 }
 
-/// What is done in each state before each terminal.
+/// The action of each state before each terminal.
 fn action_rows(alloc: Global, resolved: &Resolved<'_>) -> Result<Dense<TableAction>, OutOfMemory>
     ensures filled { IfOk result (λ d. AreActionsTo resolved.now.automaton (judge_of resolved.now.spec)
         (length resolved.now.automaton.states) (dense_entry d)) }
@@ -68,7 +68,7 @@ fn action_rows(alloc: Global, resolved: &Resolved<'_>) -> Result<Dense<TableActi
     Ok(actions)
 }
 
-/// Fills in what is done in a state.
+/// Fills in the actions of a state.
 fn fill_actions(
     resolved: &Resolved<'_>,
     state: StateNo,
@@ -98,8 +98,8 @@ fn fill_actions(
     Ok(())
 }
 
-/// What the table has where this is done. A shift's transition is looked for at a place first, which gets to be the one
-/// behind it.
+/// The table entry for an action. For a shift, `place` is a hint: the transition at this index is tried first, and
+/// `place` becomes the index after it.
 fn table_action(
     lr0: &Lr0<'_>,
     state: StateNo,
@@ -119,7 +119,7 @@ fn table_action(
     }
 }
 
-/// Where a terminal is shifted to; the end is accepted.
+/// The entry for a shift of a terminal: the state it leads to, or accepting for the end.
 fn shift_action(lr0: &Lr0<'_>, state: StateNo, terminal: Sym, place: &mut usize) -> TableAction
     requires lawful { IsLr0Automaton lr0.now }
     requires state { state.0 < length lr0.now.states }
@@ -135,7 +135,7 @@ fn shift_action(lr0: &Lr0<'_>, state: StateNo, terminal: Sym, place: &mut usize)
     )
 }
 
-/// Where each state goes by each nonterminal.
+/// The goto of each state by each nonterminal.
 fn goto_rows(alloc: Global, lr0: &Lr0<'_>) -> Result<Dense<StateNo>, OutOfMemory>
     ensures filled { IfOk result (λ d. AreGotosTo lr0.now (length lr0.now.states) (dense_entry d)) }
     ensures rows { IfOk result (λ d. d.rows ≡ length lr0.now.states) }
@@ -149,7 +149,7 @@ fn goto_rows(alloc: Global, lr0: &Lr0<'_>) -> Result<Dense<StateNo>, OutOfMemory
     Ok(gotos)
 }
 
-/// Fills in where a state goes by nonterminals.
+/// Fills in the gotos of a state.
 fn fill_gotos(lr0: &Lr0<'_>, state: StateNo, gotos: &mut Dense<StateNo>) -> Result<(), OutOfMemory>
     requires lawful { IsLr0Automaton lr0.now }
     requires state { state.0 < length lr0.now.states }
@@ -168,7 +168,7 @@ fn fill_gotos(lr0: &Lr0<'_>, state: StateNo, gotos: &mut Dense<StateNo>) -> Resu
     Ok(())
 }
 
-/// The rules but rule 0.
+/// The rules without rule 0.
 fn table_rules(alloc: Global, spec: &Spec) -> Result<Vec<TableRule>, OutOfMemory>
     ensures rules { IfOk result (λ rules. AreRulesTo spec.now (length spec.now.grammar.rules)
         (map rule_from rules.items)) }

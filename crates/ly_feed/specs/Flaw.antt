@@ -1,4 +1,4 @@
--- What is wrong with a text, as a verdict.
+-- The error in a text, as a verdict.
 use Rattle.std.specs.Prelude.{ℕ, map}
 use Rattle.ly_base.specs.Lexed as lexed
 use Rattle.ly_feed.specs.Verdict.{Verdict, refused, unmatched}
@@ -10,7 +10,7 @@ use Rattle.ly_parse.specs.declared.token.Token.{Token}
 abbrev pub token_of : Token → lexed.Token ℕ
 token_of t = record { terminal = t.terminal.0; at = t.at; bytes = t.text }
 
--- the verdict that names it
+-- the verdict with this error
 abbrev pub verdict_of : Flaw → Verdict
 verdict_of (Refused number token expected) = refused number (token_of token) (map (λ s. s.0) expected.items)
 verdict_of (NoRule byte) = unmatched byte

@@ -12,7 +12,7 @@ use Rattle.ly_scan.specs.StateWalk.{States, state_walk}
 use Rattle.ly_tables.specs.TableSet.{ScanRule, Starts, TableSet}
 
 -- The terminal of each byte as a literal, the rules, the conditions, the class of each byte, the rule of each state,
--- and where states lead by classes.
+-- and the transitions of states by classes.
 pub record ScanPart : Type 0 where
   pub literals : List ℕ
   pub rules : List ScanRule
@@ -24,7 +24,7 @@ pub record ScanPart : Type 0 where
 abbrev pub states_from : Entries StateNo → Entries ℕ
 states_from entries state class = option_map (λ s. s.0) (entries state class)
 
--- that of a table set
+-- the scanner of a table set
 abbrev pub scan_part_of : TableSet → ScanPart
 scan_part_of s = record {
   literals = s.literals;
@@ -38,11 +38,11 @@ scan_part_of s = record {
 abbrev pub start_by : Bool → Starts → Option ℕ
 start_by line c = if line then c.at_line else c.elsewhere
 
--- where a condition begins, at the start of a line or not, if it does
+-- the initial state of a condition, at the start of a line or not, if there is one
 abbrev pub start_in : ScanPart → ℕ → Bool → Option ℕ
 start_in p condition line = option_and_then (start_by line) (slice_get p.conditions condition)
 
--- where a byte leads from a state, by its class
+-- the target of a byte from a state, by its class
 abbrev pub next_in : ScanPart → ℕ → ℕ → Option ℕ
 next_in p state byte = option_and_then (cell p.rows state) (slice_get p.classes byte)
 
@@ -53,7 +53,7 @@ rule_in p state = slice_index_or p.accepted state None
 abbrev pub states_in : ScanPart → States
 states_in p = record { start = start_in p; next = next_in p; rule = rule_in p }
 
--- what is cut off the matches of a rule
+-- the trailing context of a rule
 abbrev pub cut_in : ScanPart → ℕ → Cut
 cut_in p i = unwrap_or (option_map (λ r. r.cut) (slice_get p.rules i)) Whole
 

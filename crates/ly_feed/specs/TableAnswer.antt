@@ -1,4 +1,4 @@
--- What a table set says of a text, and of the rest of one from wherever a run over it has come to.
+-- The verdict of a table set on a text, and on the rest of one from any progress of a run over it.
 use Rattle.std.specs.Prelude.{◌≡◌, ◌⊎◌, ℕ, ◌+◌, List, [], ◌∷◌, ◌++◌, length}
 use Rattle.ly_base.specs.Lexed.{Lexed, Place, Token, start_of, tokens_from}
 use Rattle.ly_base.specs.declared.lexeme.End.{End}
@@ -18,8 +18,8 @@ use Rattle.ly_scan.specs.Lexer.{IsLexemeAt, ScanEndsAt}
 use Rattle.ly_scan.specs.Pieces.{behind}
 use Rattle.ly_tables.specs.TableSet.{TableSet, machine_of}
 
--- How far a run over a text has come: where the scanner stands, with the bytes that are left, the parser's stack, and
--- how many tokens it has read.
+-- The progress of a run over a text: the place of the scanner, with the remaining bytes, the parser's stack, and the
+-- number of tokens read.
 pub record Progress : Type 0 where
   pub place : Place
   pub stack : List Level
@@ -29,11 +29,11 @@ pub record Progress : Type 0 where
 abbrev pub begun : List ℕ → Progress
 begun text = record { place = start_of text; stack = []; count = 0 }
 
--- more has come behind the bytes that are left
+-- more bytes follow the remaining ones
 abbrev pub with_more : Progress → List ℕ → Progress
 with_more w more = record { place = behind w.place more; stack = w.stack; count = w.count }
 
--- The scanner takes what is left at a place apart into lexemes, of which these tokens come, and its run ends so.
+-- The scanner splits the remaining bytes at a place into lexemes with these tokens, and its run ends like this.
 pub record AreTokens (p : ScanPart) (q : Place) (tokens : List (Token ℕ)) (e : End) : Type 0 where
   pub lexemes : List Lexeme
   pub lexed : Lexed (IsLexemeAt (scanner_in p)) (ScanEndsAt (scanner_in p)) (condition_in p) q lexemes e
@@ -43,16 +43,16 @@ pub record AreTokens (p : ScanPart) (q : Place) (tokens : List (Token ℕ)) (e :
 abbrev pub end_of : List ℕ → Token ℕ
 end_of text = record { terminal = 0; at = length text; bytes = [] }
 
--- as it is seen from a place
+-- the same, for a scanner that starts at a place
 abbrev pub end_at : Place → Token ℕ
 end_at q = record { terminal = 0; at = q.at + length q.rest; bytes = [] }
 
--- what a parser is fed with: the tokens, and then the end of the text, where the scanner came to it
+-- the input of a parser: the tokens, and then the end of the text, if the scanner reached it
 abbrev pub fed_with : Token ℕ → List (Token ℕ) → End → List (Token ℕ)
 fed_with end tokens Clean = tokens ++ end ∷ []
 fed_with end tokens _ = tokens
 
--- Of what a parser is fed with it reads the tokens before one, and this becomes of that.
+-- Of its input a parser reads the tokens before this one, which has this outcome.
 pub record Comes (p : ScanPart) (m : Machine) (w : Progress) (end : Token ℕ) (before : List (Token ℕ)) (t : Token ℕ)
     (out : fed.Fed) : Type 0 where
   pub tokens : List (Token ℕ)
@@ -64,17 +64,17 @@ pub record Comes (p : ScanPart) (m : Machine) (w : Progress) (end : Token ℕ) (
   pub reads : ReadsTokens m w.stack before last
   pub feeds : Feeds m t last out
 
--- A parser reads all tokens of what is left, and the scanner's run ends so.
+-- A parser reads all tokens of the remaining bytes, and the scanner's run ends like this.
 pub record ReadsAll (p : ScanPart) (m : Machine) (w : Progress) (e : End) : Type 0 where
   pub tokens : List (Token ℕ)
   pub are_tokens : AreTokens p w.place tokens e
   pub last : List Level
   pub reads : ReadsTokens m w.stack tokens last
 
--- What the scanner and the parser say of what is left of a text that ends so, by what comes first in it. What is
--- expected in place of a refused token is asked of the stack on which the token came. The tables are at fault where a
--- goto is missing, a body goes past the bottom, they accept without a term, or a cut leaves no byte or more than the
--- match has.
+-- The verdict of the scanner and the parser on the remaining bytes of a text with this end, by what comes first in it.
+-- The terminals expected in place of an unexpected token are those of the stack before that token. The tables are
+-- faulty if a goto is missing, a body extends past the bottom, they accept without a term, or a trailing context leaves
+-- no byte or more than the match has.
 abbrev pub IsSaidFrom : ScanPart → Machine → Progress → Token ℕ → Verdict → Type 0
 IsSaidFrom p m w end (accepted d) = (r : ReadsAll p m w Clean) × Feeds m end r.last (fed.done d)
 IsSaidFrom p m w end (refused k t ts) = (before : List (Token ℕ)) × (c : Comes p m w end before t fed.refused)
@@ -83,19 +83,19 @@ IsSaidFrom p m w end (unmatched byte) = ReadsAll p m w (Stuck byte)
 IsSaidFrom p m w end faulty = ((before : List (Token ℕ)) × (t : Token ℕ) × Comes p m w end before t fed.faulty)
     ⊎ ((byte : ℕ) × ReadsAll p m w (BadCut byte))
 
--- what they say of what is left where the text ends behind it
+-- their verdict on the remaining bytes if the text ends after them
 abbrev pub IsRest : ScanPart → Machine → Progress → Verdict → Type 0
 IsRest p m w v = IsSaidFrom p m w (end_at w.place) v
 
--- what they say of a whole text
+-- their verdict on a whole text
 abbrev pub IsVerdictBy : ScanPart → Machine → List ℕ → Verdict → Type 0
 IsVerdictBy p m text v = IsSaidFrom p m (begun text) (end_of text) v
 
--- what a table set says
+-- the verdict of a table set
 abbrev pub IsVerdict : TableSet → List ℕ → Verdict → Type 0
 IsVerdict s text v = IsVerdictBy (scan_part_of s) (machine_of s) text v
 
--- the text is answered with this outcome and, in a form, these bytes
+-- the text has this outcome and, in a form, these bytes as its result
 abbrev pub TableAnswer : AnswerForm → TableSet → List ℕ → Outcome → List ℕ → Type 0
 TableAnswer form s text outcome answer = (v : Verdict) × IsVerdict s text v × IsOutcome v outcome
     × (answer ≡ written_in form (vocabulary_of s) v)

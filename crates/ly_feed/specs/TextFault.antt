@@ -1,9 +1,9 @@
--- The faults of answering a text: their numbers and names, and what they say of the writer.
+-- The errors of parsing a text: their numbers and names, and their meaning for the writer.
 use Rattle.std.specs.Prelude.{ℕ, List, Option, Some, None, codes}
 use Rattle.ly_feed.specs.declared.text_fault.TextFault.{TextFault}
 use Rattle.ly_feed.specs.declared.text_fault.TextFault.TheVariants.{FaultyTables, OutOfMemory, Read, TooLong, Write}
 
--- a fault's number; a device that fails and want of memory have none
+-- an error's number; a device that fails and out of memory have none
 abbrev pub text_fault_number : TextFault → Option ℕ
 text_fault_number FaultyTables = Some 90
 text_fault_number TooLong = Some 92
@@ -11,7 +11,7 @@ text_fault_number Read = None
 text_fault_number (Write written) = None
 text_fault_number OutOfMemory = None
 
--- a fault's name
+-- an error's name
 abbrev pub text_fault_name : TextFault → List ℕ
 text_fault_name FaultyTables = codes "TableFault"
 text_fault_name TooLong = codes "TooLong"
@@ -24,18 +24,18 @@ abbrev pub IsWrite : TextFault → Type 0
 IsWrite (Write written) = Unit {0}
 IsWrite _ = ⊥
 
--- nothing was written: any fault but a failed write
+-- nothing was written: any error but a failed write
 abbrev pub IsBeforeWriting : TextFault → Type 0
 IsBeforeWriting (Write written) = ⊥
 IsBeforeWriting _ = Unit {0}
 
--- a fault of writing an answer
+-- an error of writing a result
 abbrev pub IsOfWriting : TextFault → Type 0
 IsOfWriting (Write written) = Unit {0}
 IsOfWriting OutOfMemory = Unit {0}
 IsOfWriting _ = ⊥
 
--- a fault of the end of a text: the tables are at fault, or the answer wasn't written
+-- an error at the end of a text: the tables are faulty, or the result wasn't written
 abbrev pub IsOfEnding : TextFault → Type 0
 IsOfEnding FaultyTables = Unit {0}
 IsOfEnding (Write written) = Unit {0}

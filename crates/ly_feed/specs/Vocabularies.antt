@@ -1,4 +1,4 @@
--- The names by which the terms of a table set are printed.
+-- The names for printing the terms of a table set.
 use Rattle.std.specs.Prelude.{ℕ, zero, suc, List, [], slice_get, option_map, unwrap_or}
 use Rattle.ly_base.specs.Shape.{Shape, nil, node, place}
 use Rattle.ly_pack.specs.Machine.{TableRule}
@@ -11,11 +11,11 @@ constructor_of nil = []
 constructor_of (place i) = []
 constructor_of (node name places) = name
 
--- the name of a terminal; nothing where there is no such terminal
+-- the name of a terminal; empty if there is no such terminal
 abbrev pub name_in : List (List ℕ) → ℕ → List ℕ
 name_in terminals t = unwrap_or (slice_get terminals t) []
 
--- the constructor of a rule, which stands one place before its number; nothing for rule 0 and where there is none
+-- the constructor of a rule, whose index is its number - 1; empty for rule 0 and without one
 abbrev pub constructor_in : List TableRule → ℕ → List ℕ
 constructor_in rules zero = []
 constructor_in rules (suc p) = unwrap_or (option_map (λ r. constructor_of r.shape) (slice_get rules p)) []

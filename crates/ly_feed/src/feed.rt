@@ -24,29 +24,29 @@ use ly_tables::TableSet;
 use std::alloc::Global;
 use std::marker::Model;
 
-/// The answer to a text that comes in pieces, by a table set. Of the text it keeps the bytes of the match that isn't
-/// decided yet, and gives up the rest; of the tree it keeps what is on the parser's stack.
+/// A parser for a text that arrives in chunks, with a table set. Of the text it holds only the bytes of the match that
+/// isn't decided yet; of the tree, what is on the parser's stack.
 ///
-/// The text is answered as it is whole, however it is cut.
+/// The result doesn't depend on how the text is split into chunks.
 #[derive(Drop)]
 pub struct Feed<'a> {
-    /// Where room is taken from.
+    /// The allocator.
     alloc: Global,
     /// The table set.
     set: &'a TableSet,
-    /// How the answer is written.
+    /// The form of the result.
     form: AnswerForm,
     /// The set's scanner.
     lexer: Lexer,
-    /// The facts of its states: what is told of the lexemes whose walks end there.
+    /// The facts of its states: what they determine about the lexemes whose scan ends there.
     facts: Vec<u32>,
     /// The set's parser, with what it has read.
     parser: TableParser<'a>,
-    /// The bytes that are held, which are those of the match that isn't decided, and where it begins.
+    /// The bytes of the match that isn't decided, and its position.
     window: Window,
-    /// The walk over the bytes that are held.
+    /// The scan over these bytes.
     matcher: Matcher<RowStart>,
-    /// Whether no more is said of the text.
+    /// Whether the feed has ended.
     over: bool,
 }
 
@@ -66,7 +66,7 @@ impl<'a> Model for Feed<'a> {
 }
 
 impl<'a> Feed<'a> {
-    /// A feed to which nothing has come, and whose answer is written in a form. It fails where memory runs out.
+    /// A feed without any text, whose result is written in this form. It fails if an allocation fails.
     pub fn new(alloc: Global, set: &'a TableSet, form: AnswerForm) -> Result<Feed<'a>, OutOfMemory>
         ensures { IfOk result (λ f. f ≡ nothing_read form set.now) }
     {
@@ -87,18 +87,18 @@ impl<'a> Feed<'a> {
         })
     }
 
-    /// How many bytes are held: behind `Need::More` those from the start of the match that isn't decided, and none once
-    /// no more is said of the text.
+    /// The number of bytes held: after `Need::More` those from the start of the match that isn't decided, and 0 once
+    /// the feed has ended.
     pub fn held(&self) -> usize
         ensures { result ≡ bytes_held self.now }
     {
         if self.over { 0 } else { self.window.len() }
     }
 
-    /// Takes the next bytes of the text: settles all matches that they decide, and says whether the text is answered by
-    /// now, whatever comes. After any other answer than `Need::More` the feed is over.
+    /// Takes the next bytes of the text: processes all matches that they decide, and returns the result if it is known,
+    /// whatever follows. After any result other than `Need::More` the feed has ended.
     ///
-    /// Its faults are those of `FeedFault`.
+    /// The errors are those of `FeedFault`.
     pub fn piece(&mut self, bytes: &[u8]) -> Result<Need, FeedFault>
         ensures { IsPiece self.old bytes.now self.new result }
     {
@@ -134,9 +134,9 @@ impl<'a> Feed<'a> {
         Ok(Need::More)
     }
 
-    /// Tells that the text has ended, and answers how it is answered. The feed is over then.
+    /// Ends the text, and returns its result. The feed has then ended.
     ///
-    /// Its faults are those of `FeedFault` but `TooLong`.
+    /// The errors are those of `FeedFault` except `TooLong`.
     pub fn finish(&mut self) -> Result<(Outcome, Vec<u8>), FeedFault>
         ensures { IsFinish self.old self.new result }
     {
@@ -148,10 +148,10 @@ impl<'a> Feed<'a> {
         Ok((outcome, sink.into_bytes()))
     }
 
-    /// Tells that the text has ended, and writes its answer: nothing before the outcome is known, and then nothing but
-    /// a write can fail. A tree is written while it is printed. The feed is over then.
+    /// Ends the text, and writes its result. Nothing is written before the outcome is known; after that nothing but a
+    /// write can fail. A tree is written while it is printed. The feed has then ended.
     ///
-    /// Its faults are those of `TextFault` but `TooLong` and `Read`.
+    /// The errors are those of `TextFault` except `TooLong` and `Read`.
     pub fn finish_into<W: Sink>(&mut self, writer: &mut W) -> Result<Outcome, TextFault>
         requires { self.old.over ≡ false }
         ensures over { IsOver self.old self.new }

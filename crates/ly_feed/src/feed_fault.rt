@@ -7,26 +7,26 @@ use ly_base::OutOfMemory as NoMemory;
 use std::alloc::AllocError;
 use thiserror::Error;
 
-/// Why a feed has no answer to a piece, or to the end of the text. It is over then.
+/// Why a feed has no result for a chunk, or for the end of the text. The feed has then ended.
 #[derive(Clone, Copy, Debug, PartialEq, Eq, Error)]
 pub enum FeedFault {
-    /// The tables are at fault on the text: a goto is missing, a body goes past the bottom of the stack, they accept
-    /// without a tree, or a cut leaves no byte or more than its match has. Never for tables that were generated.
+    /// The tables are faulty for this text: a goto is missing, a body extends past the bottom of the stack, they accept
+    /// without a tree, or a trailing context leaves no byte or more than its match has. Never for generated tables.
     #[error("the tables are at fault")]
     FaultyTables,
-    /// The feed was over before the call, which changed nothing.
+    /// The feed had ended before the call, which changed nothing.
     #[error("the text is answered")]
     Over,
-    /// More than 2^64-1 bytes have come.
+    /// More than 2^64-1 bytes have come, including those already dropped. This is checked before memory is allocated.
     #[error("the text is too long")]
     TooLong,
-    /// A growth was refused, or the tree has more than 2^48 long leaves or nodes, which no memory holds.
+    /// Out of memory, or the tree has more than 2^48 long leaves or nodes, which no memory holds.
     #[error("out of memory")]
     OutOfMemory,
 }
 
 impl FeedFault {
-    /// The fault's number; want of memory has none.
+    /// The error's number; none for `OutOfMemory`.
     pub fn number(&self) -> Option<u8>
         ensures { result ≡ feed_fault_number self.now }
     {
@@ -38,7 +38,7 @@ impl FeedFault {
         }
     }
 
-    /// The fault's name.
+    /// The error's name.
     pub fn name(&self) -> &'static str
         ensures { result.now ≡ feed_fault_name self.now }
     {
@@ -74,7 +74,7 @@ impl From<TextFault> for FeedFault {
         match fault {
             TextFault::FaultyTables => FeedFault::FaultyTables,
             TextFault::TooLong => FeedFault::TooLong,
-            // a feed reads nothing, and memory takes all bytes while there is room
+            // a feed reads nothing, and a write to memory fails only for lack of it
             TextFault::Read | TextFault::Write { .. } | TextFault::OutOfMemory => {
                 FeedFault::OutOfMemory
             }

@@ -5,27 +5,27 @@ use crate::outcome::Outcome;
 use ly_base::Sym;
 use ly_parse::Token;
 
-/// The first thing that is wrong with a text.
+/// The first error in a text.
 #[derive(Drop)]
 pub enum Flaw<'t> {
-    /// A token is refused, or the end, which is a token of terminal 0.
+    /// A token is unexpected, or the end, which is a token of terminal 0.
     Refused {
-        /// Its number, counted from 1; at the end the number of tokens and 1.
+        /// Its number, counted from 1. For the end, the number of tokens plus 1.
         number: u64,
         /// The token.
         token: Token<'t>,
-        /// The terminals that would have been read in its place, or accepted with, by rising number.
+        /// The terminals that would have been read in its place, or accepted if it is the end, in rising order.
         expected: Vec<Sym>,
     },
     /// No rule matches.
     NoRule {
-        /// At this byte, counted from 0.
+        /// The offset of this byte, counted from 0.
         byte: u64,
     },
 }
 
 impl Flaw<'_> {
-    /// The outcome that says so.
+    /// The outcome for this error.
     pub fn into_outcome(self) -> Outcome
         ensures { IsOutcome (verdict_of self.entry) result }
     {

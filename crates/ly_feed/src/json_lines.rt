@@ -15,7 +15,7 @@ use ly_tables::TableSet;
 use std::alloc::Global;
 use std::io::Write;
 
-/// The line of JSON that says what is wrong with a text.
+/// The line of JSON for an error in a text.
 pub(crate) fn json_line(
     alloc: Global,
     names: &Names<'_>,
@@ -33,10 +33,10 @@ pub(crate) fn json_line(
     }
 }
 
-/// The line of JSON that says that a token is refused, or the end, by its number, which counts from 1. These members
-/// stand behind its byte, and tell where it is.
+/// The line of JSON for an unexpected token, or the end, by its number, counted from 1. The members `places` follow its
+/// offset, and give its location.
 ///
-/// It fails where memory runs out.
+/// It fails if an allocation fails.
 pub fn json_refused_line(
     alloc: Global,
     set: &TableSet,
@@ -51,9 +51,9 @@ pub fn json_refused_line(
     refused_line(alloc, &Names::of(set), number, token, places, expected)
 }
 
-/// The line of JSON that says at which byte no rule matches. These members stand behind it, and tell where it is.
+/// The line of JSON for a byte at which no rule matches. The members `places` follow its offset, and give its location.
 ///
-/// It fails where memory runs out.
+/// It fails if an allocation fails.
 pub fn json_unmatched_line(alloc: Global, byte: u64, places: &[u8]) -> Result<Vec<u8>, OutOfMemory>
     ensures { IfOk result (λ line. line.items ≡ json_unmatched_with byte places.now) }
 {
@@ -64,7 +64,7 @@ pub fn json_unmatched_line(alloc: Global, byte: u64, places: &[u8]) -> Result<Ve
     Ok(line)
 }
 
-/// The line of a token that is refused, by these names.
+/// The line for an unexpected token, with these names.
 fn refused_line(
     alloc: Global,
     names: &Names<'_>,
@@ -84,7 +84,7 @@ fn refused_line(
     Ok(line)
 }
 
-/// What says that a token is refused, or the end, by its number, which counts from 1, and its byte.
+/// The members for an unexpected token, or the end: its number, counted from 1, and its offset.
 fn refusal(alloc: Global, number: u64, byte: u64) -> Result<Vec<u8>, OutOfMemory>
     ensures { IfOk result (λ line. line.items ≡ json_refusal number byte) }
 {
@@ -97,7 +97,7 @@ fn refusal(alloc: Global, number: u64, byte: u64) -> Result<Vec<u8>, OutOfMemory
     Ok(line)
 }
 
-/// Adds what the token is; of the end there is a name alone.
+/// Appends the members of the token. The end has only a name.
 fn push_token(line: &mut Vec<u8>, names: &Names<'_>, token: &Token<'_>) -> Result<(), OutOfMemory>
     ensures { OnOk result
         (line.new.items ≡ line.old.items ++ json_token (words_of names.now) (token_of token.now)) }
@@ -113,7 +113,7 @@ fn push_token(line: &mut Vec<u8>, names: &Names<'_>, token: &Token<'_>) -> Resul
     Ok(())
 }
 
-/// Adds the terminals that are expected.
+/// Appends the expected terminals.
 fn push_expected(line: &mut Vec<u8>, names: &Names<'_>, expected: &[Sym]) -> Result<(), OutOfMemory>
     ensures { OnOk result (line.new.items
         ≡ line.old.items ++ json_expected (words_of names.now) (map (λ t. t.0) expected.now)) }
@@ -124,7 +124,7 @@ fn push_expected(line: &mut Vec<u8>, names: &Names<'_>, expected: &[Sym]) -> Res
     Ok(())
 }
 
-/// Adds the names of terminals, a comma before each but the first.
+/// Appends the names of terminals, a comma before each but the first.
 fn push_names(line: &mut Vec<u8>, names: &Names<'_>, terminals: &[Sym]) -> Result<(), OutOfMemory>
     ensures { OnOk result (line.new.items
         ≡ line.old.items ++ json_names (words_of names.now) (map (λ t. t.0) terminals.now)) }
@@ -138,7 +138,7 @@ fn push_names(line: &mut Vec<u8>, names: &Names<'_>, terminals: &[Sym]) -> Resul
     }
 }
 
-/// Adds the names of terminals, a comma before each.
+/// Appends the names of terminals, a comma before each.
 fn push_behind_commas(
     line: &mut Vec<u8>,
     names: &Names<'_>,

@@ -1,10 +1,10 @@
-/// What a label has behind its name.
+/// What follows the name in a label.
 #[derive(Clone, Copy, Debug, PartialEq, Eq)]
 pub(crate) enum LabelForm {
-    /// In plain text, what stands before the text of a leaf or the children of a node.
+    /// In plain text, up to the text of a leaf or the children of a node.
     Plain,
-    /// In JSON, what stands before the content of a leaf or the children of a node.
+    /// In JSON, up to the content of a leaf or the children of a node.
     Json,
-    /// In JSON, nothing: whatever member comes next.
+    /// In JSON, nothing: any member may follow.
     Name,
 }

@@ -18,12 +18,12 @@ use ly_print::{Front, Label, Sink, Terminal, TextWriter, WriteFault, push_json_n
 use ly_tree::{MostBytes, TermNotation, Words};
 use std::alloc::Global;
 
-/// What stands before the texts of leaves and the children of nodes, in some form.
+/// The text before those of leaves and the children of nodes, in some form.
 #[derive(Drop)]
 pub(crate) struct Labels {
     /// The label of each terminal's leaves.
     leaves: Vec<Label>,
-    /// The label of each rule's nodes. That of rule 0, which has no constructor, is the first.
+    /// The label of each rule's nodes. That of rule 0, which has no constructor, comes first.
     nodes: Vec<Label>,
     /// The label of leaves whose terminal has no name.
     nameless_leaf: Label,
@@ -32,7 +32,7 @@ pub(crate) struct Labels {
 }
 
 impl Labels {
-    /// The labels of these names. It fails where memory runs out.
+    /// The labels for these names. It fails if an allocation fails.
     pub(crate) fn new(
         alloc: Global,
         names: Names<'_>,
@@ -70,7 +70,7 @@ impl Labels {
         }
     }
 
-    /// A length that none of them passes.
+    /// A length that no label exceeds.
     pub(crate) fn longest(&self) -> usize
         ensures leaves { (form : form.LabelForm) (names : names.Names) → AreLabels form names self.now → (t : ℕ)
             → length (leaf_label form (name_in (map (λ name. name.items) names.terminals.now) t)) ≤ result }
@@ -84,8 +84,7 @@ impl Labels {
     }
 }
 
-/// What stands before the texts of leaves and the children of nodes in plain text, made once from the names of a table
-/// set.
+/// The text before those of leaves and the children of nodes in plain text, made once from the names of a table set.
 #[derive(Drop)]
 pub(crate) struct TermLabels<'a> {
     /// The names.
@@ -96,7 +95,7 @@ pub(crate) struct TermLabels<'a> {
 }
 
 impl<'a> TermLabels<'a> {
-    /// The labels of these names. It fails where memory runs out.
+    /// The labels for these names. It fails if an allocation fails.
     pub(crate) fn new(alloc: Global, names: Names<'a>) -> Result<TermLabels<'a>, OutOfMemory>
         ensures { IfOk result (λ labels. labels.names ≡ names.entry) }
     {
@@ -125,8 +124,7 @@ impl Words for TermLabels<'_> {
     }
 }
 
-/// What stands before the contents of leaves and the children of nodes in JSON, made once from the names of a table
-/// set.
+/// The text before the contents of leaves and the children of nodes in JSON, made once from the names of a table set.
 #[derive(Drop)]
 pub(crate) struct JsonLabels<'a> {
     /// The names.
@@ -137,7 +135,7 @@ pub(crate) struct JsonLabels<'a> {
 }
 
 impl<'a> JsonLabels<'a> {
-    /// The labels of these names. It fails where memory runs out.
+    /// The labels for these names. It fails if an allocation fails.
     pub(crate) fn new(alloc: Global, names: Names<'a>) -> Result<JsonLabels<'a>, OutOfMemory>
         ensures { IfOk result (λ labels. labels.names ≡ names.entry) }
     {
@@ -177,7 +175,7 @@ impl TermNotation for JsonLabels<'_> {
     }
 
     fn most(&self) -> Option<MostBytes> {
-        // an escape has six bytes, and `"bytes":[` and what closes it have twelve, with a comma
+        // an escape has six bytes; `"bytes":[` and its closing have twelve, with a comma
         Some(MostBytes {
             of_term: self.labels.longest().checked_add(12)?,
             of_byte: 6,
@@ -185,7 +183,7 @@ impl TermNotation for JsonLabels<'_> {
     }
 }
 
-/// The label of each terminal's leaves. It fails where memory runs out.
+/// The label of each terminal's leaves. It fails if an allocation fails.
 fn leaf_labels(alloc: Global, names: &[Vec<u8>], form: LabelForm) -> Result<Vec<Label>, OutOfMemory>
     ensures { IfOk result (λ labels. labels.items ≡ map (leaf_label form) (map (λ name. name.items) names.now)) }
 {
@@ -196,7 +194,7 @@ fn leaf_labels(alloc: Global, names: &[Vec<u8>], form: LabelForm) -> Result<Vec<
     Ok(labels)
 }
 
-/// The label of each rule's nodes, that of rule 0 too. It fails where memory runs out.
+/// The label of each rule's nodes, including rule 0. It fails if an allocation fails.
 fn node_labels(
     alloc: Global,
     rules: &[TableRule],
@@ -211,7 +209,7 @@ fn node_labels(
     Ok(labels)
 }
 
-/// The label of a terminal's leaves, by its name. It fails where memory runs out.
+/// The label of a terminal's leaves, with its name. It fails if an allocation fails.
 fn leaf_label(alloc: Global, name: &[u8], form: LabelForm) -> Result<Label, OutOfMemory>
     ensures { IfOk result (λ label. label ≡ leaf_label form name.now) }
 {
@@ -222,7 +220,7 @@ fn leaf_label(alloc: Global, name: &[u8], form: LabelForm) -> Result<Label, OutO
     }
 }
 
-/// The label of a constructor's nodes. It fails where memory runs out.
+/// The label of a constructor's nodes. It fails if an allocation fails.
 fn node_label(alloc: Global, constructor: &[u8], form: LabelForm) -> Result<Label, OutOfMemory>
     ensures { IfOk result (λ label. label ≡ node_label form constructor.now) }
 {
@@ -238,7 +236,7 @@ fn node_label(alloc: Global, constructor: &[u8], form: LabelForm) -> Result<Labe
     }
 }
 
-/// The label of a name between what stands before and behind it. It fails where memory runs out.
+/// The label of a name between these two texts. It fails if an allocation fails.
 fn json_label(
     alloc: Global,
     before: &[u8],
@@ -254,7 +252,7 @@ fn json_label(
     Ok(Label::new(text)?)
 }
 
-/// The constructor of a rule; nothing, where it makes no node.
+/// The constructor of a rule; empty if it makes no node.
 fn constructor_of(rule: &TableRule) -> &[u8]
     ensures { result.now ≡ constructor_of (shape_of rule.now.tree) }
 {

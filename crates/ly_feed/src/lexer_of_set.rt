@@ -19,7 +19,7 @@ use ly_scan::{Lexer, Scanner, ScannerParts, Starts, StateRows};
 use ly_tables::{ScanRule, TableSet};
 use std::alloc::Global;
 
-/// The lexer of a table set. It fails where memory runs out.
+/// The lexer of a table set. It fails if an allocation fails.
 pub fn lexer_of(alloc: Global, set: &TableSet) -> Result<Lexer, OutOfMemory>
     ensures { IfOk result (IsLexerOf (scan_part_of set.now)) }
 {
@@ -28,16 +28,16 @@ pub fn lexer_of(alloc: Global, set: &TableSet) -> Result<Lexer, OutOfMemory>
     Lexer::new(alloc, scanner, passed)
 }
 
-/// The scanner of a table set, with rows by bytes.
+/// The scanner of a table set, with a column for each byte.
 fn scanner_of(alloc: Global, set: &TableSet) -> Result<Scanner, OutOfMemory>
     ensures { IfOk result (λ t. scanner_of t ≡ scanner_in (scan_part_of set.now)) }
 {
-    // it says that the numbers are within their ranges
+    // it implies that the numbers are within their ranges
     let _machine = set.machine();
     Ok(Scanner::new(parts_of(alloc, set)?))
 }
 
-/// What the scanner of a table set is made of.
+/// The parts of a table set's scanner.
 fn parts_of(alloc: Global, set: &TableSet) -> Result<ScannerParts, OutOfMemory>
     requires { IsWithinVersion V2 set.now }
     ensures { IfOk result (λ p. IsScannerOf set.now (table_from p)) }
@@ -58,36 +58,36 @@ fn rules_of(alloc: Global, accepted: &[Option<RuleNo>]) -> Result<Vec<Option<Rul
     Ok(accepted.iter().copied().collect(alloc)?)
 }
 
-/// Where conditions begin.
+/// The initial states of conditions.
 fn starts_of(alloc: Global, conditions: &[Starts]) -> Result<Vec<Starts>, OutOfMemory>
     ensures { IfOk result (λ starts. starts.items ≡ conditions.now) }
 {
     Ok(conditions.iter().copied().collect(alloc)?)
 }
 
-/// What is cut off the matches of rules.
+/// The trailing contexts of rules.
 fn cuts_of(alloc: Global, rules: &[ScanRule]) -> Result<Vec<Cut>, OutOfMemory>
     ensures { IfOk result (λ cuts. cuts.items ≡ map (λ r. r.cut) rules.now) }
 {
     Ok(rules.iter().map(|rule| rule.cut).collect(alloc)?)
 }
 
-/// For each rule whether nothing comes of its lexemes.
+/// For each rule, whether its lexemes have no effect.
 fn passed_rules(alloc: Global, rules: &[ScanRule]) -> Result<Vec<bool>, OutOfMemory>
     ensures { IfOk result (λ passed. passed.items ≡ map is_passed rules.now) }
 {
     Ok(rules.iter().map(is_passed).collect(alloc)?)
 }
 
-/// Whether nothing comes of the lexemes of a rule.
+/// Whether the lexemes of a rule have no effect.
 fn is_passed(rule: &ScanRule) -> bool
     ensures { result ≡ is_passed rule.now }
 {
     rule.action.begin.is_none() && matches!(rule.action.emits, Emitted::Nothing)
 }
 
-/// The rows of states by bytes, of rows by classes that are laid over one another. The class of each byte is looked up
-/// here, so that no step has to.
+/// The rows of states by bytes, from a comb of rows by classes. The class of each byte is looked up here, so that no
+/// step of the scanner needs to.
 fn spread(
     alloc: Global,
     comb: &Comb<StateNo>,
@@ -115,14 +115,14 @@ fn spread(
     Ok(rows)
 }
 
-/// Where each class leads from a state. A look-up in a comb takes far longer than a read of these, and classes are
-/// mostly fewer than bytes.
+/// The target of each class from a state. A look-up in a comb takes far longer than reading these, and there are mostly
+/// fewer classes than bytes.
 fn targets_of(comb: &Comb<StateNo>, state: StateNo) -> [Option<u32>; 256]
     ensures { (class : ℕ) → class < 256
         → slice_index_or result class None ≡ states_from (comb_entry comb.now) state.0 class }
 {
     let mut targets = [None; 256];
-    // no class past the comb's width leads anywhere
+    // no class past the comb's width has a target
     for class in 0..comb.width().min(256) {
         targets[class] = comb.entry(state, class).map(|next| next.0);
     }

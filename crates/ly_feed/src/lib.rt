@@ -1,14 +1,28 @@
-//! From a table set and a text in pieces to the printed answer.
+//! Parses a text that arrives in chunks, with a table set, into the printed result.
 //!
-//! A `Feed` takes the text piece by piece: the scanner of the set takes it apart, its parser reads the tokens one by
-//! one, and the tree, or what is wrong, is written once it is known, as plain text or as JSON (`TableAnswer`,
-//! `written_in`). A feed holds the match that isn't decided yet, and gives up the rest; the text is answered as it is
-//! whole, however it is cut (`IsPiece`, `IsFinish`). Scanner and parser run over the tables alone, so nothing here
-//! knows of lex and yacc files.
-//! The loop of a feed is there for a text that is held whole, and for a parser whose rules make other terms
-//! (`run_to_end`, `IsClosed`).
+//! A `Feed` takes the text chunk by chunk. The scanner of the set finds the tokens, its parser reads them one by one,
+//! and the tree, or the error, is written when it is known, as plain text or as JSON (`TableAnswer`, `written_in`). A
+//! feed holds only the bytes of the match that isn't decided yet. The result doesn't depend on how the text is split
+//! into chunks (`IsPiece`, `IsFinish`). Scanner and parser run on the tables only, so this crate knows nothing of lex
+//! and yacc files. The loop of a feed is also available for a text in memory, and for a parser whose rules build other
+//! terms (`run_to_end`, `IsClosed`).
 //!
-//! Left out: where the pieces come from, and what tables say of the files that they were generated from.
+//! - A match is decided by the first byte with which it can't be extended, even if no byte could extend it. To know
+//!   that earlier, a scanner would need a mark on such states, and would gain one byte.
+//! - A feed holds its bytes in one list. After a chunk, the undecided bytes move to its front, so its memory is reused,
+//!   and a match across chunks is one slice.
+//! - The scan of the undecided match is kept (`Matcher`), so a token in many chunks isn't scanned anew for each. Once
+//!   decided, it is scanned again by the loop over lexemes, which is the same for chunks and for the end.
+//! - Each call marks the feed as ended at its start, and undoes that only with `Need::More`. So no error leaves a feed
+//!   half done; after the end each call returns `Over` and changes nothing.
+//! - A feed borrows its table set, so that one set serves many texts.
+//! - The contracts of a feed are about the rest of a text: the verdict of the table set, continuing from what is held,
+//!   for any bytes that follow. So they don't mention chunks. That decided matches don't change the verdict is a law
+//!   (`decided_matches_change_nothing`).
+//! - `Need::More` also guarantees that all decided matches were skipped or their tokens read, and that the next one
+//!   isn't decided.
+//!
+//! Not done here: reading the chunks, and the relation of tables to the files that they were generated from.
 #![tactic(auto)]
 
 mod feed;

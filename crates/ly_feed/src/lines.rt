@@ -31,8 +31,8 @@ use ly_tree::{Forest, Plain, TermNotation, TermRef};
 use std::alloc::Global;
 use std::io::Write;
 
-/// Writes what a text that has ended is answered with, in a form, and says what it is. Nothing is written where memory
-/// runs out. A term is written while it is printed.
+/// Writes the result of a text that has ended, in this form, and returns the outcome. Nothing is written if memory runs
+/// out. A term is written while it is printed.
 pub(crate) fn write_ended<W: Sink>(
     alloc: Global,
     set: &TableSet,
@@ -66,7 +66,7 @@ pub(crate) fn write_ended<W: Sink>(
     }
 }
 
-/// Writes the line of a term of a forest in a form. Nothing is written where memory runs out.
+/// Writes the line of a term in this form. Nothing is written if memory runs out.
 fn write_term<W: Sink>(
     alloc: Global,
     names: &Names<'_>,
@@ -101,7 +101,7 @@ fn write_term<W: Sink>(
     }
 }
 
-/// Writes the line of a term of a forest by a notation. Nothing is written where memory runs out.
+/// Writes the line of a term in a notation. Nothing is written if memory runs out.
 fn write_line<N: TermNotation, W: Sink>(
     alloc: Global,
     notation: &N,
@@ -127,8 +127,8 @@ fn write_line<N: TermNotation, W: Sink>(
     Ok(())
 }
 
-/// What a text is answered with where something is wrong with it: the outcome, and the lines that say so in a form.
-#[inline(never)] // so that a token that is read has the registers
+/// The result of a text with an error: the outcome, and the lines for it in this form.
+#[inline(never)] // so that a token that is read gets the registers
 pub(crate) fn told(
     alloc: Global,
     set: &TableSet,
@@ -142,7 +142,7 @@ pub(crate) fn told(
     Ok((flaw.into_outcome(), lines))
 }
 
-/// What says in a form what is wrong with a text.
+/// The lines for an error in a text, in this form.
 fn flaw_text(
     alloc: Global,
     names: &Names<'_>,
@@ -157,7 +157,7 @@ fn flaw_text(
     }
 }
 
-/// The lines that say what is wrong with a text.
+/// The plain lines for an error in a text.
 fn flaw_lines(alloc: Global, names: &Names<'_>, flaw: &Flaw<'_>) -> Result<Vec<u8>, OutOfMemory>
     ensures { IfOk result (λ lines. lines.items ≡ printed (words_of names.now) (verdict_of flaw.now)) }
 {
@@ -175,7 +175,7 @@ fn flaw_lines(alloc: Global, names: &Names<'_>, flaw: &Flaw<'_>) -> Result<Vec<u
     }
 }
 
-/// The line that says that a token is refused, or the end, by its number, which counts from 1.
+/// The line for an unexpected token, or the end, by its number, counted from 1.
 fn syntax_line(
     alloc: Global,
     names: &Names<'_>,
@@ -191,7 +191,7 @@ fn syntax_line(
     }
 }
 
-/// That of a token of the text.
+/// The line for a token of the text.
 fn token_line(
     alloc: Global,
     names: &Names<'_>,
@@ -210,7 +210,7 @@ fn token_line(
     Ok(line)
 }
 
-/// That of the end, which stands at this byte.
+/// The line for the end, which is at this offset.
 fn end_line(alloc: Global, number: u64, byte: u64) -> Result<Vec<u8>, OutOfMemory>
     ensures { IfOk result (λ line. (v : Vocabulary) (bytes : List ℕ) → line.items
         ≡ syntax_line v number (record { terminal = 0; at = byte; bytes = bytes })) }
@@ -220,7 +220,7 @@ fn end_line(alloc: Global, number: u64, byte: u64) -> Result<Vec<u8>, OutOfMemor
     Ok(line)
 }
 
-/// Adds the line that names the terminals that are expected.
+/// Appends the line with the names of the expected terminals.
 fn push_expected_line(
     line: &mut Vec<u8>,
     names: &Names<'_>,
@@ -238,7 +238,7 @@ fn push_expected_line(
     Ok(())
 }
 
-/// The line that says at which byte no rule matches.
+/// The line for the byte at which no rule matches.
 fn unmatched_line(alloc: Global, byte: u64) -> Result<Vec<u8>, OutOfMemory>
     ensures { IfOk result (λ line. line.items ≡ no_rule_line byte) }
 {

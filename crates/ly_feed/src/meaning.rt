@@ -1,11 +1,11 @@
-//! What the lexemes of a table set's scanner mean to its parser.
+//! The meaning of a scanner's lexemes to the parser of the table set.
 ghost use Rattle.std.specs.Prelude.{◌≡◌, ◌<◌, ℕ, List, length, option_map};
 ghost use Rattle.ly_feed.specs.ScanPart.{condition_in, scan_part_of, terminal_by, terminal_in};
 
 use ly_base::{Emitted, RuleNo, ScanAction, Sym};
 use ly_tables::TableSet;
 
-/// What happens where a rule matches: nothing, if there is no such rule.
+/// The action of a rule; without effect if there is no such rule.
 pub fn action(set: &TableSet, rule: RuleNo) -> ScanAction
     ensures begin { result.begin ≡ condition_in (scan_part_of set.now) rule.0 }
     ensures emits { (bytes : List ℕ) → terminal_by (scan_part_of set.now) bytes result.emits
@@ -20,7 +20,7 @@ pub fn action(set: &TableSet, rule: RuleNo) -> ScanAction
     }
 }
 
-/// The terminal of a token of these bytes, if one comes of them.
+/// The terminal of a token with these bytes, if there is a token.
 pub fn terminal(set: &TableSet, emits: Emitted, bytes: &[u8]) -> Option<Sym>
     requires { 0 < length bytes.now }
     ensures { option_map (λ t. t.0) result ≡ terminal_by (scan_part_of set.now) bytes.now emits }

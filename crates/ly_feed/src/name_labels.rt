@@ -12,7 +12,7 @@ use ly_tables::TableSet;
 use std::alloc::Global;
 use std::marker::Model;
 
-/// The first members of JSON's objects for leaves and nodes, which tell their names, each made once.
+/// The first members of JSON objects for leaves and nodes, which contain their names, each made once.
 #[derive(Drop)]
 pub struct NameLabels<'a> {
     /// The names.
@@ -39,15 +39,15 @@ impl<'a> Model for NameLabels<'a> {
 }
 
 impl<'a> NameLabels<'a> {
-    /// Those of a table set's names. It fails where memory runs out.
+    /// Those of a table set's names. It fails if an allocation fails.
     pub fn of(alloc: Global, set: &'a TableSet) -> Result<NameLabels<'a>, OutOfMemory>
         ensures { IfOk result (λ labels. labels ≡ names_in set.now) }
     {
         NameLabels::new(alloc, set.terminals(), set.rules())
     }
 
-    /// Those of the names of terminals, and of the constructors of rules; the first of these is rule 1. It fails where
-    /// memory runs out.
+    /// Those of the names of terminals, and of the constructors of rules, the first of which is rule 1. It fails if an
+    /// allocation fails.
     pub fn new(
         alloc: Global,
         terminals: &'a [Vec<u8>],
@@ -65,21 +65,21 @@ impl<'a> NameLabels<'a> {
         })
     }
 
-    /// That of a terminal's leaves.
+    /// The one of a terminal's leaves.
     pub fn leaf(&self, terminal: Sym) -> &Label
         ensures { result.now ≡ token_member ((vocabulary_in self.now).terminal terminal.0) }
     {
         self.labels.leaf(terminal)
     }
 
-    /// That of a rule's nodes.
+    /// The one of a rule's nodes.
     pub fn node(&self, rule: RuleNo) -> &Label
         ensures { result.now ≡ node_member ((vocabulary_in self.now).constructor rule.0) }
     {
         self.labels.node(rule)
     }
 
-    /// A length that none of them passes.
+    /// A length that no label exceeds.
     pub fn longest(&self) -> usize
         ensures leaves { (t : ℕ) → length (token_member ((vocabulary_in self.now).terminal t)) ≤ result }
         ensures nodes { (p : ℕ) → length (node_member ((vocabulary_in self.now).constructor p)) ≤ result }

@@ -11,7 +11,7 @@ use ly_tables::TableSet;
 pub(crate) struct Names<'a> {
     /// The printed names of terminals.
     pub(crate) terminals: &'a [Vec<u8>],
-    /// The rules but rule 0.
+    /// The rules without rule 0.
     pub(crate) rules: &'a [TableRule],
 }
 
@@ -28,7 +28,7 @@ impl<'a> Names<'a> {
 }
 
 impl Names<'_> {
-    /// A terminal's name; nothing, where there is no such terminal.
+    /// The name of a terminal; empty if there is no such terminal.
     pub(crate) fn of_terminal(&self, terminal: Sym) -> &[u8]
         ensures { result.now ≡ name_in (map (λ name. name.items) self.now.terminals.now) terminal.0 }
     {

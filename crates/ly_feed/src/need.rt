@@ -1,10 +1,11 @@
 use crate::outcome::Outcome;
 
-/// What a feed wants next.
+/// What a feed needs next.
 #[derive(Debug, Drop)]
 pub enum Need {
-    /// More of the text, or to be told that it has ended: it isn't known yet how it is answered.
+    /// More of the text, or its end: the result isn't known yet.
     More,
-    /// Nothing: the text is answered with this outcome and these bytes, whatever comes.
+    /// Nothing: the text has this outcome and these bytes as its result, whatever follows. Never a tree, because more
+    /// text could invalidate it.
     Settled(Outcome, Vec<u8>),
 }

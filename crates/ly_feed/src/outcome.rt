@@ -1,24 +1,24 @@
 use ly_base::Sym;
 
-/// What a text is answered with.
+/// The outcome of parsing a text.
 #[derive(Debug, Drop)]
 pub enum Outcome {
-    /// A tree.
+    /// The text has a tree.
     Tree,
-    /// A token that is refused, or the end.
+    /// A token is unexpected, or the end.
     Syntax {
-        /// Its number, counted from 1; at the end the number of tokens and 1.
+        /// Its number, counted from 1. For the end, the number of tokens plus 1.
         token: u64,
-        /// The byte where it stands, counted from 0.
+        /// Its offset, counted from 0.
         byte: u64,
-        /// How many bytes it has; none at the end.
+        /// Its length in bytes; 0 for the end.
         length: usize,
-        /// The terminals that would have been read in its place, or accepted with, by rising number.
+        /// The terminals that would have been read in its place, or accepted if it is the end, in rising order.
         expected: Vec<Sym>,
     },
     /// No rule matches.
     NoRule {
-        /// At this byte, counted from 0.
+        /// The offset of this byte, counted from 0.
         byte: u64,
     },
 }

@@ -21,22 +21,22 @@ use ly_tables::TableSet;
 use ly_tree::TermRef;
 use std::alloc::Global;
 
-/// A parser over the tables of a table set; its rules may make other terms than the set's.
+/// A parser with the tables of a table set. Its rules may build other terms than the set's.
 pub type TableParser<'a> = Parser<'a, Comb<TableAction>, Comb<StateNo>>;
 
-/// How far a run over what has come of a text gets.
+/// How far a run over the bytes so far gets.
 #[derive(Drop)]
 pub(crate) enum Halt<'t> {
-    /// To this place: the next match isn't decided there, or the text has ended.
+    /// To this position: the next match isn't decided there, or the text has ended.
     At(Place<'t>),
-    /// This is wrong with the text.
+    /// The text has this error.
     Flawed(Flaw<'t>),
 }
 
-/// Runs scanner and parser on from a place over the bytes that are left there, lexeme by lexeme, as long as it is
-/// decided which one comes next, whatever comes behind these bytes; where the text has ended behind them, to its end.
-/// Answers what is wrong with the text as soon as that is known. Where there are facts of states, the loop takes those
-/// lexemes alone that aren't told by them. The place is a value, so that it has registers.
+/// Runs scanner and parser from a place over the remaining bytes, lexeme by lexeme, as long as the next one is decided,
+/// whatever follows these bytes. If the text has ended after them, runs to its end. Returns an error in the text as
+/// soon as it is known. If there are facts of states, this loop takes only the lexemes that they don't determine. The
+/// place is passed by value, so that it stays in registers.
 pub(crate) fn run_on<'t>(
     alloc: Global,
     set: &TableSet,
@@ -77,17 +77,17 @@ pub(crate) fn run_on<'t>(
             Answer::Refuses => return Ok(Halt::Flawed(refusal(set, parser, here, lexeme)?)),
             Answer::FaultyTables => return Err(TextFault::FaultyTables),
             Answer::OutOfMemory => return Err(TextFault::OutOfMemory),
-            // the end alone is accepted
+            // only the end is accepted
             Answer::Accepts => unreachable!(),
-            // and behind a token that is read the parse isn't over
+            // after a token that is read, the parse hasn't ended
             Answer::Over => unreachable!(),
         }
     }
 }
 
-/// Takes a lexeme at a place: feeds the parser with its token, and says what becomes of that. A lexeme of whose rule no
-/// token comes is passed over, as if the parser read it.
-#[inline(always)] // by a call a token takes a fifteenth more instructions
+/// Takes a lexeme at a place: feeds the parser with its token, and returns the outcome. A lexeme of a rule without a
+/// token is skipped, with the outcome of a token that is read.
+#[inline(always)] // a call would cost a fifteenth more instructions per token
 fn take(
     set: &TableSet,
     parser: &mut TableParser<'_>,
@@ -114,8 +114,8 @@ fn take(
     parser.take(&Token { terminal, at, text })
 }
 
-/// What is wrong where the token of a lexeme was refused.
-#[inline(never)] // so that a token that is read has the registers
+/// The error if the token of a lexeme was rejected.
+#[inline(never)] // so that a token that is read gets the registers
 fn refusal<'t>(
     set: &TableSet,
     parser: &TableParser<'_>,
@@ -142,19 +142,19 @@ fn refusal<'t>(
     })
 }
 
-/// What comes of a text that has ended.
+/// The result of a text that has ended.
 #[derive(Drop)]
 pub enum Ended<'t> {
     /// It has this term in the parser's forest.
     Accepted(TermRef),
-    /// This is wrong with it.
+    /// It has this error.
     Refused(Flaw<'t>),
 }
 
-/// Runs scanner and parser from a place to the end of the text, which stands behind the bytes that are left there. What
-/// is said of the text is what the parser's tables say.
+/// Runs scanner and parser from a place to the end of the text, which follows the remaining bytes. The result is the
+/// verdict of the parser's tables on the text.
 ///
-/// It fails with `FaultyTables`, and with `OutOfMemory`.
+/// The errors are `FaultyTables` and `OutOfMemory`.
 pub fn run_to_end<'t>(
     alloc: Global,
     set: &TableSet,
@@ -175,7 +175,7 @@ pub fn run_to_end<'t>(
     }
 }
 
-/// Feeds a parser with the end of the text, which stands at a place.
+/// Feeds a parser with the end of the text, which is at this place.
 fn close<'t>(parser: &mut TableParser<'_>, place: &Place<'t>) -> Result<Ended<'t>, TextFault>
     requires goes_on { parser.old.over ≡ false }
     requires terminals { 0 < parser.old.machine.terminals }
@@ -206,7 +206,7 @@ fn close<'t>(parser: &mut TableParser<'_>, place: &Place<'t>) -> Result<Ended<'t
         }
         Err(ParseFault::FaultyTables) => Err(TextFault::FaultyTables),
         Err(ParseFault::OutOfMemory) => Err(TextFault::OutOfMemory),
-        // the end is never read, and the parse isn't over
+        // the end is never read, and the parse hasn't ended
         Ok(Step::More) | Err(ParseFault::Over) => unreachable!(),
     }
 }

@@ -1,4 +1,4 @@
-//! The run over lexemes that are told by the states where their walks end.
+//! The run over lexemes that the final states of their scans determine.
 ghost use Rattle.std.specs.Prelude.{◌≡◌, ◌<◌, ◌≤◌, Bool, IfOk, IfSome, IsSome, false, length, option_map, slice_index};
 ghost use Rattle.std.specs.Prelude.{take};
 ghost use Rattle.ly_base.specs.declared.lexeme.Lexeme.{Lexeme};
@@ -20,8 +20,8 @@ use ly_print::Front;
 use ly_scan::{Beginning, KnownWalks, Lexer, Told};
 use ly_tables::TableSet;
 
-/// Runs on over lexemes that are told by facts of states, if there are facts, as `run_told` does, unless something is
-/// known of walks.
+/// Runs over lexemes that facts of states determine, if there are facts, like `run_told`, unless matches are cached for
+/// the remaining bytes.
 pub(crate) fn run_told_by<'t>(
     set: &TableSet,
     lexer: &Lexer,
@@ -42,7 +42,7 @@ pub(crate) fn run_told_by<'t>(
     let Some(facts) = facts else {
         return Ok(Halt::At(place));
     };
-    // no less is left anywhere in the loop
+    // the loop only decreases the number of remaining bytes
     if known.reaches(place.rest().len()) {
         return Ok(Halt::At(place));
     }
@@ -55,9 +55,9 @@ pub(crate) fn run_told_by<'t>(
     }
 }
 
-/// Runs scanner and parser on from a place, as long as lexemes are told by the facts of states, and answers where the
-/// next one stands, or what is wrong with the text as soon as that is known.
-#[inline(never)] // so that it has the registers
+/// Runs scanner and parser from a place, as long as the facts of states determine the lexemes. Returns the place of the
+/// next one, or an error in the text as soon as it is known.
+#[inline(never)] // so that its loop gets the registers
 fn run_told<'t, B: Beginning>(
     set: &TableSet,
     lexer: &Lexer,
@@ -76,7 +76,7 @@ fn run_told<'t, B: Beginning>(
     ensures ahead { HaltsAhead start.entry result }
     ensures machine { parser.new.machine ≡ parser.old.machine }
 {
-    // so that the loop needn't ask
+    // so that the loop needn't check
     if start.condition() != 0 {
         return Ok(Halt::At(start));
     }
@@ -94,17 +94,17 @@ fn run_told<'t, B: Beginning>(
             }
             Answer::FaultyTables => return Err(TextFault::FaultyTables),
             Answer::OutOfMemory => return Err(TextFault::OutOfMemory),
-            // the end alone is accepted
+            // only the end is accepted
             Answer::Accepts => unreachable!(),
-            // and behind a token that is read the parse isn't over
+            // after a token that is read, the parse hasn't ended
             Answer::Over => unreachable!(),
         }
     }
 }
 
-/// Takes a lexeme at a place by what is told of it, as `take` does. Answers its terminal too, if it has one, so that
-/// what is told needn't be kept for a refusal.
-#[inline(always)] // as `run_told`
+/// Takes a lexeme at a place by its facts, like `take`. Returns its terminal too, if it has one, so that the facts
+/// needn't be kept for a refusal.
+#[inline(always)] // like `run_told`
 fn take_told(
     set: &TableSet,
     parser: &mut TableParser<'_>,
@@ -131,7 +131,7 @@ fn take_told(
 }
 
 /// The first byte.
-#[inline(always)] // as `run_told`
+#[inline(always)] // like `run_told`
 fn first_of(text: &Front<'_>) -> u8
     requires { 0 < length text.now }
     ensures { result ≡ slice_index text.now 0 }
@@ -139,8 +139,8 @@ fn first_of(text: &Front<'_>) -> u8
     text.bytes()[0]
 }
 
-/// What is wrong where the token of a lexeme of so many bytes was refused; this is its terminal, which it has.
-#[inline(never)] // so that a token that is read has the registers
+/// The error if the token of a lexeme of this length was rejected. This is its terminal, which it has.
+#[inline(never)] // so that a token that is read gets the registers
 fn told_refusal<'t>(
     parser: &TableParser<'_>,
     place: Place<'t>,

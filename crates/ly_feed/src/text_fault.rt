@@ -7,34 +7,33 @@ use ly_print::WriteFault;
 use std::alloc::AllocError;
 use thiserror::Error;
 
-/// Why there is no answer to a text, or not all of it was written.
+/// Why a text has no result, or the result wasn't written completely.
 #[derive(Clone, Copy, Debug, PartialEq, Eq, Error)]
 pub enum TextFault {
-    /// The tables are at fault on the text: a goto is missing, a body goes past the bottom of the stack, they accept
-    /// without a tree, or a cut leaves no byte or more than its match has. Never for tables that were generated.
+    /// The tables are faulty for this text: a goto is missing, a body extends past the bottom of the stack, they accept
+    /// without a tree, or a trailing context leaves no byte or more than its match has. Never for generated tables.
     /// Nothing was written.
     #[error("the tables are at fault")]
     FaultyTables,
-    /// More than 2^64-1 bytes have come, and no answer was known by then. Nothing was written.
+    /// More than 2^64-1 bytes have come, and the result wasn't known by then. Nothing was written.
     #[error("the text is too long")]
     TooLong,
     /// The reader failed in this call. Nothing was written.
     #[error("the text could not be read")]
     Read,
-    /// The writer failed in this call, and just the first `written` bytes of the answer went out.
+    /// The writer failed in this call. Exactly the first `written` bytes of the result were written.
     #[error("the answer could not be written after {written} bytes")]
     Write {
-        /// How many bytes went out.
+        /// The number of bytes written.
         written: usize,
     },
-    /// A growth was refused, or the tree has more than 2^48 long leaves or nodes, which no memory holds.
-    /// Nothing was written.
+    /// Out of memory, or the tree has more than 2^48 long leaves or nodes, which no memory holds. Nothing was written.
     #[error("out of memory")]
     OutOfMemory,
 }
 
 impl TextFault {
-    /// The fault's number; a device that fails and want of memory have none.
+    /// The error's number; none for a device that fails and for out of memory.
     pub fn number(&self) -> Option<u8>
         ensures { result ≡ text_fault_number self.now }
     {
@@ -45,7 +44,7 @@ impl TextFault {
         }
     }
 
-    /// The fault's name.
+    /// The error's name.
     pub fn name(&self) -> &'static str
         ensures { result.now ≡ text_fault_name self.now }
     {

@@ -1,4 +1,5 @@
-//! What is told of lexemes by the states where their walks end, so that no rule is looked up for them.
+//! The facts of states: what the final state of a scan determines about a lexeme, so that its rule needn't be looked
+//! up.
 ghost use Rattle.std.specs.Prelude.{◌≡◌, ◌≢◌, ◌<◌, ◌≤◌, List, ℕ, length, map, option_map, IfOk};
 ghost use Rattle.ly_feed.specs.Private.Told.{number_for, terminal_told, AreFactsOf};
 ghost use Rattle.ly_feed.specs.ScanPart.{scan_part_of, ScanPart};
@@ -8,16 +9,16 @@ use ly_scan::Lexer;
 use ly_tables::{ScanRule, TableSet};
 use std::alloc::Global;
 
-/// The number of rules that return no terminal.
+/// The number for rules that return no terminal.
 const NO_TOKEN: u32 = 1;
 
-/// The number of rules that return the literal of the first byte.
+/// The number for rules that return the literal of the first byte.
 const FIRST_BYTE: u32 = 2;
 
-/// The number of rules that return terminal 0; others follow it.
+/// The number for rules that return terminal 0; those of other terminals follow.
 const TERMINALS: u32 = 3;
 
-/// The facts of the states of a set's lexer. It fails where memory runs out.
+/// The facts of the states of a set's lexer. It fails if an allocation fails.
 pub(crate) fn facts_of(
     alloc: Global,
     set: &TableSet,
@@ -29,14 +30,14 @@ pub(crate) fn facts_of(
     lexer.facts(alloc, &numbers)
 }
 
-/// For each rule the number of what it does.
+/// For each rule, the number for its action.
 fn numbers_of(alloc: Global, rules: &[ScanRule]) -> Result<Vec<u32>, OutOfMemory>
     ensures { IfOk result (λ numbers. numbers.items ≡ map number_for rules.now) }
 {
     Ok(rules.iter().map(number_of).collect(alloc)?)
 }
 
-/// The number of what a rule does; 0 where it says nothing, as where a condition is set.
+/// The number for the action of a rule. It is 0 if the facts give no action, as for a rule that sets a condition.
 fn number_of(rule: &ScanRule) -> u32
     ensures { result ≡ number_for rule.now }
 {
@@ -51,9 +52,9 @@ fn number_of(rule: &ScanRule) -> u32
     }
 }
 
-/// The terminal of a lexeme by the number of its rule and its first byte, if it has one; `literals` has that of each
-/// byte.
-#[inline(always)] // so that the loop over told lexemes has the registers
+/// The terminal of a lexeme from the number of its rule and its first byte, if it has one. `literals` has the terminal
+/// of each byte.
+#[inline(always)] // so that the loop over lexemes gets the registers
 pub(crate) fn told_terminal(literals: &[Sym], number: u32, first: u8) -> Option<Sym>
     requires literals { length literals.now ≡ 256 }
     requires some { number ≢ 0 }

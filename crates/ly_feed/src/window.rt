@@ -7,14 +7,14 @@ use ly_base::Place;
 use std::alloc::Global;
 use std::marker::Model;
 
-/// The bytes of a text that are held, and where the first of them stands.
+/// The bytes of a text that are held, and their position in it.
 #[derive(Drop)]
 pub(crate) struct Window {
     /// The bytes.
     held: Vec<u8>,
-    /// How many bytes of the text were given up before them.
+    /// The offset of the first of them in the text.
     given_up: usize,
-    /// Whether a line begins with the first of them.
+    /// Whether a line begins at the first of them.
     line: bool,
     /// The start condition there.
     condition: u32,
@@ -33,7 +33,7 @@ impl Model for Window {
 }
 
 impl Window {
-    /// The start of a text of which nothing has come.
+    /// The start of a text without any bytes.
     pub(crate) fn new(alloc: Global) -> Window
         ensures { result ≡ start_of [] }
     {
@@ -45,22 +45,22 @@ impl Window {
         }
     }
 
-    /// How many bytes are held.
+    /// The number of bytes held.
     pub(crate) fn len(&self) -> usize
         ensures { result ≡ length self.now.rest }
     {
         self.held.len()
     }
 
-    /// The place of the first byte that is held, before all of them.
+    /// The place of the first byte held.
     pub(crate) fn place(&self) -> Place<'_>
         ensures { result ≡ self.now }
     {
         Place::behind(&self.held, self.given_up, self.line, self.condition)
     }
 
-    /// Takes the next bytes of the text. It fails with `TooLong` where they are more than can be counted, and else
-    /// where memory runs out.
+    /// Takes the next bytes of the text. It fails with `TooLong` if they are more than can be counted, and otherwise if
+    /// memory runs out.
     pub(crate) fn push(&mut self, bytes: &[u8]) -> Result<(), FeedFault>
         ensures ok { OnOk result (self.new ≡ behind self.old bytes.now) }
         ensures countable { OnOk result (self.old.at + length self.old.rest + length bytes.now < 2 ^ 64) }
@@ -75,8 +75,8 @@ impl Window {
         Ok(())
     }
 
-    /// Gives up the bytes before one of the text, where a line begins or not, in this start condition. The others move
-    /// to the front, so that their room is used again.
+    /// Drops the bytes before this offset, where a line begins or not, in this start condition. The others move to the
+    /// front, so that the memory is reused.
     pub(crate) fn give_up(&mut self, at: usize, line: bool, condition: u32)
         requires from { self.old.at ≤ at }
         requires to { at ≤ self.old.at + length self.old.rest }

@@ -1,4 +1,4 @@
--- Derivations as trees, and what they say of symbols (Knuth 1965; Aho and Ullman 1972).
+-- Derivations as trees, and the properties of symbols that follow from them (Knuth 1965; Aho and Ullman 1972).
 use Rattle.std.specs.Prelude.{◌≡◌, ℕ, ◌≤◌, List, [], ◌∷◌, ◌++◌, ◌⊎◌}
 use Rattle.ly_base.specs.Lexed.{Token}
 use Rattle.ly_base.specs.Trees.{Tree, Trees, leaf, node, none, more, yield_of, yields_of, Occurs}
@@ -27,7 +27,7 @@ Derives G X ts = (d : Tree) × IsTree G X d × (yield_of d ≡ ts)
 abbrev pub IsSentence : Grammar → List (Token ℕ) → Type 0
 IsSentence G ts = Derives G (nonterminal G.start) ts
 
--- tokens, the end among them, that begin a sentence with the end behind it
+-- tokens, possibly with the end among them, that begin a sentence followed by the end
 abbrev pub IsSentencePrefix : Grammar → List (Token ℕ) → Type 0
 IsSentencePrefix G ts = (rest : List (Token ℕ)) × Derives G (nonterminal G.accept) (ts ++ rest)
 
@@ -44,7 +44,7 @@ abbrev pub BeginsYield : Grammar → List Symbol → ℕ → Type 0
 BeginsYield G w t = (ts : Trees) × AreTrees G w ts
     × (x : Token ℕ) × (rest : List (Token ℕ)) × (yields_of ts ≡ x ∷ rest) × (x.terminal ≡ t)
 
--- the terminal t begins what the symbols yield, with the terminal u behind them
+-- the terminal t begins what the symbols followed by the terminal u yield
 abbrev pub First : Grammar → List Symbol → ℕ → ℕ → Type 0
 First G w u t = BeginsYield G w t ⊎ (IsNullable G w × (t ≡ u))
 

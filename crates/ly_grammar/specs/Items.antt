@@ -4,13 +4,13 @@ use Rattle.std.specs.Prelude.{◌≡◌, ◌≢◌, ◌↔◌, ℕ, suc, List, [
 use Rattle.ly_join.specs.Grammar.{Grammar, IsRule, GrammarRule, Symbol, nonterminal, terminal}
 use Rattle.ly_grammar.specs.Derivations.{First}
 
--- symbols, last first, in front of others, as they stand in the text
+-- symbols, last first, put before others, in the order of the text
 abbrev pub onto : List Symbol → List Symbol → List Symbol
 onto [] w = w
 onto (X ∷ before) w = onto before (X ∷ w)
 
--- The item of rule p with a dot behind the symbols before, last first, and in front of those after is valid at the
--- string with a terminal as its lookahead.
+-- The item of rule p with a dot between the symbols before it, last first, and those after it is valid at the string
+-- with this terminal as its lookahead.
 pub data Valid (G : Grammar) : List Symbol → ℕ → List Symbol → List Symbol → ℕ → Type 0 where
   at_start : {r : GrammarRule} {w : List Symbol} → IsRule G 0 r → w ≡ r.body → Valid G [] 0 [] w 0
   closed : {g : List Symbol} {p : ℕ} {before after : List Symbol} {B t : ℕ} {q : ℕ} {r : GrammarRule} {w : List Symbol}
@@ -24,12 +24,12 @@ pub data Valid (G : Grammar) : List Symbol → ℕ → List Symbol → List Symb
 abbrev pub InCore : Grammar → List Symbol → ℕ → List Symbol → List Symbol → Type 0
 InCore G g p before after = (t : ℕ) × Valid G g p before after t
 
--- the end is none of the symbols
+-- the end isn't among the symbols
 abbrev pub HasNoEnd : List Symbol → Type 0
 HasNoEnd [] = Unit {0}
 HasNoEnd (X ∷ w) = (X ≢ terminal 0) × HasNoEnd w
 
--- the string doesn't hold the end, and its core isn't empty (a viable prefix)
+-- the string doesn't contain the end, and its core isn't empty (a viable prefix)
 abbrev pub IsViable : Grammar → List Symbol → Type 0
 IsViable G g = HasNoEnd g × (p : ℕ) × (before : List Symbol) × (after : List Symbol) × InCore G g p before after
 
@@ -43,7 +43,7 @@ pub record Merges (G : Grammar) (g h : List Symbol) : Type 0 where
   pub right : IsViable G h
   pub cores : SameCore G g h
 
--- The terminal is in the merged lookahead of a rule at a string: complete, the rule is valid with it at a string of the
+-- The terminal is in the merged lookahead of a rule at a string: the complete rule is valid with it at a string of the
 -- same core. (The sets of canonical LR(1) items, merged where their cores are equal.)
 pub record InLookahead (G : Grammar) (g : List Symbol) (p t : ℕ) : Type 0 where
   pub at : List Symbol
@@ -51,7 +51,7 @@ pub record InLookahead (G : Grammar) (g : List Symbol) (p t : ℕ) : Type 0 wher
   pub before : List Symbol
   pub valid : Valid G at p before [] t
 
--- an item of the string's core has the symbol behind its dot
+-- an item of the string's core has the symbol after its dot
 abbrev pub IsNextSymbol : Grammar → List Symbol → Symbol → Type 0
 IsNextSymbol G g X = (p : ℕ) × (before : List Symbol) × (after : List Symbol) × InCore G g p before (X ∷ after)
 

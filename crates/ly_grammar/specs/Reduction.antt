@@ -1,4 +1,4 @@
--- A grammar with its useless rules removed, and what its nonterminals derive.
+-- A grammar with its useless rules removed, its nullable nonterminals and its FIRST sets.
 use Rattle.std.specs.Prelude.{◌≡◌, ◌↔◌, ℕ, ◌≤◌, List, [], ◌∷◌, ◌⊎◌, Bool, true, false, Option, None, slice_index_or}
 use Rattle.std.specs.Prelude.{length, IsTrue}
 use Rattle.std.specs.Prelude.{refl}
@@ -21,13 +21,13 @@ kept_rules (false ∷ kept) (r ∷ rules) = None ∷ kept_rules kept rules
 abbrev pub restricted : List Bool → Grammar → Grammar
 restricted kept G = record G { rules = kept_rules kept G.rules }
 
--- A reduced grammar, for each nonterminal whether it is nullable, and which terminals may begin what it derives.
+-- A reduced grammar, with whether each nonterminal is nullable, and which terminals may begin what it derives.
 pub record Reduction : Type 0 where
   pub grammar : Grammar
   pub nullable : List Bool
   pub first : List NumberSet
 
--- the second grammar has the useful rules of the first under their numbers, and rule 0, and no other
+-- the second grammar has the useful rules of the first with their numbers, and rule 0, and no other
 pub record KeepsUseful (G R : Grammar) : Type 0 where
   pub terminals : R.terminals ≡ G.terminals
   pub accept : R.accept ≡ G.accept
@@ -35,7 +35,7 @@ pub record KeepsUseful (G R : Grammar) : Type 0 where
   pub numbers : length R.rules ≡ length G.rules
   pub rules : (p : ℕ) (r : GrammarRule) → IsRule R p r ↔ (IsRule G p r × ((p ≡ 0) ⊎ IsUseful G p))
 
--- The grammar is reduced, and its nonterminals derive what the reduction says.
+-- The grammar is reduced, and the nullable nonterminals and FIRST sets of the reduction are right.
 pub record IsReduction (G : Grammar) (r : Reduction) : Type 0 where
   pub keeps : KeepsUseful G r.grammar
   pub augmented : IsAugmented r.grammar

@@ -5,13 +5,13 @@ use ly_base::OutOfMemory;
 use std::alloc::{AllocError, AllocFailed};
 use thiserror::Error;
 
-/// Why a grammar isn't reduced. Nothing is handed out then.
+/// Why a grammar can't be reduced.
 #[derive(Clone, Copy, Debug, PartialEq, Eq, Error)]
 pub enum GrammarFault {
-    /// No tree has the start symbol at its root, so there is no sentence.
+    /// The start symbol has no tree, so there is no sentence.
     #[error("the start symbol derives no text")]
     StartUnproductive,
-    /// A growth was refused.
+    /// Out of memory.
     #[error("out of memory")]
     OutOfMemory,
 }
@@ -19,7 +19,7 @@ pub enum GrammarFault {
 impl GrammarFault {
     ghost use Rattle.ly_grammar.specs.FaultNames.{grammar_name, grammar_number};
 
-    /// The fault's number; want of memory has none.
+    /// The error's number; none for `OutOfMemory`.
     pub fn number(&self) -> Option<u8>
         ensures { result ≡ grammar_number self.now }
     {
@@ -29,7 +29,7 @@ impl GrammarFault {
         }
     }
 
-    /// The fault's name.
+    /// The error's name.
     pub fn name(&self) -> &'static str
         ensures { result.now ≡ grammar_name self.now }
     {

@@ -1,5 +1,6 @@
-//! Which terminals may begin what a nonterminal derives: the least sets that hold what begins the bodies of its rules,
-//! and grow along the nonterminals that do (DeRemer and Pennello 1982, over the graph of these).
+//! The FIRST sets: the terminals that may begin what a nonterminal derives. They are the least sets that contain the
+//! terminals at the front of its rules' bodies and those of the nonterminals at the front (DeRemer and Pennello's least
+//! sets, 1982, over the graph of these nonterminals).
 ghost use Rattle.std.specs.Prelude.{◌≡◌, ◌<◌, ◌+◌, ◌++◌, ◌↔◌, ◌∷◌, [], ℕ, length, map, All, IfOk, OnOk};
 ghost use Rattle.ly_sets.specs.NumberSet.{Member};
 ghost use Rattle.ly_sets.specs.SetMatrix.{row};
@@ -15,7 +16,7 @@ use ly_join::{Grammar, GrammarRule, Symbol};
 use ly_sets::SetMatrix;
 use std::alloc::Global;
 
-/// For each nonterminal the terminals that begin what it derives by the rules that are kept.
+/// For each nonterminal, the terminals that begin what it derives by the kept rules.
 pub(crate) fn first_sets(
     alloc: Global,
     grammar: &Grammar,
@@ -41,8 +42,8 @@ pub(crate) fn first_sets(
     Ok(sets)
 }
 
-/// Adds what begins a rule's body: the terminal of its opening to the left side's row, and an edge from the left side
-/// to each nonterminal of it.
+/// Adds the front of a rule's body: its terminal to the row of the left side, and an edge from the left side to each of
+/// its nonterminals.
 fn add_firsts(
     graph: &mut Graph,
     sets: &mut SetMatrix,
@@ -64,7 +65,7 @@ fn add_firsts(
     Ok(())
 }
 
-/// Adds a symbol of an opening: a terminal to the left side's row, or an edge to a nonterminal.
+/// Adds a symbol of the front of a body: a terminal to the row of the left side, or an edge to a nonterminal.
 fn add_first(
     graph: &mut Graph,
     sets: &mut SetMatrix,
@@ -87,7 +88,7 @@ fn add_first(
     }
 }
 
-/// The symbols of a body up to the first that isn't a nullable nonterminal.
+/// The symbols of a body up to and including the first that isn't a nullable nonterminal.
 fn opening<'a>(body: &'a [Symbol], nullable: &[bool]) -> &'a [Symbol]
     requires { All (HasNumberBelow (length nullable.now)) (map symbol_of body.now) }
     ensures { map symbol_of result.now ≡ opening nullable.now (map symbol_of body.now) }

@@ -16,16 +16,16 @@ use ly_sets::SetMatrix;
 use std::alloc::Global;
 use std::marker::Model;
 
-/// A grammar without its useless rules, and what its nonterminals derive.
+/// A grammar without its useless rules, with its nullable nonterminals and FIRST sets.
 #[derive(Drop)]
 pub struct Reduced<'a> {
     /// The grammar with all rules.
     grammar: &'a Grammar,
-    /// For each rule whether it is rule 0 or useful.
+    /// For each rule, whether it is rule 0 or useful.
     kept: Vec<bool>,
-    /// For each nonterminal whether it derives the empty string.
+    /// For each nonterminal, whether it derives the empty string.
     nullable: Vec<bool>,
-    /// For each nonterminal the terminals that may begin what it derives.
+    /// For each nonterminal, the terminals that may begin what it derives.
     first: SetMatrix,
 }
 
@@ -46,11 +46,10 @@ impl<'a> Model for Reduced<'a> {
         × HasSizes r.grammar.now r.kept.items r.nullable.items r.first };
 }
 
-/// Removes the rules that occur in no tree of the start symbol, and finds which nonterminals are nullable and which
-/// terminals may begin what they derive. Removed rules keep their numbers. It takes time linear in the grammar, but
-/// for the sets of terminals.
+/// Removes the rules that occur in no tree of the start symbol, and finds the nullable nonterminals and the FIRST sets.
+/// Removed rules keep their numbers. The time is linear in the grammar, except for the sets of terminals.
 ///
-/// `StartUnproductive` comes where the start symbol has no tree, `OutOfMemory` where a growth was refused.
+/// `StartUnproductive` if the start symbol has no tree, `OutOfMemory` if an allocation fails.
 pub fn reduce<'a>(alloc: Global, grammar: &'a Grammar) -> Result<Reduced<'a>, GrammarFault>
     ensures ok { IfOk result (IsReduction grammar.now) }
     ensures unproductive { result ≡ Err GrammarFault.StartUnproductive
@@ -75,7 +74,7 @@ impl<'a> Reduced<'a> {
         self.grammar
     }
 
-    /// Whether the rule of a number is left: rule 0, or a useful rule.
+    /// Whether the rule with this number is kept: rule 0, or a useful rule.
     pub fn is_kept(&self, number: usize) -> bool
         requires { number < length self.now.grammar.rules }
         ensures { IsTrue result ↔ ((r : GrammarRule) × IsRule self.now.grammar number r) }

@@ -1,5 +1,5 @@
-//! The search for the nonterminals that have trees, with or without tokens, in time linear in the grammar: each rule is
-//! looked at once, and once more whenever the nonterminal that it waits for is found (Dowling and Gallier 1984).
+//! Finds the nonterminals that have trees, with or without tokens, in time linear in the grammar. Each rule is visited
+//! once, and again whenever the nonterminal that it waits for is found (Dowling and Gallier 1984).
 ghost use Rattle.std.specs.Prelude.{◌≡◌, ◌≢◌, ◌<◌, ◌≤◌, ◌+◌, ◌↔◌, ◌++◌, ℕ, [], ◌∷◌, length, take, false, true};
 ghost use Rattle.std.specs.Prelude.{replicate};
 ghost use Rattle.std.specs.Prelude.{slice_index_or, slice_get, map, All, IfOk, OnOk, Some, option_map};
@@ -15,18 +15,18 @@ use ly_join::{Grammar, GrammarRule, Symbol};
 use std::alloc::{AllocError, Global};
 use std::marker::Model;
 
-/// A search under way.
+/// A search in progress.
 #[derive(Drop)]
 struct Search {
-    /// Whether terminals may stand in trees.
+    /// Whether trees may contain terminals.
     terminals: bool,
-    /// For each nonterminal whether it was found to have a tree.
+    /// For each nonterminal, whether a tree of it has been found.
     found: Vec<bool>,
-    /// For each rule how many symbols from the front of its body pass.
+    /// For each rule, the number of symbols at the front of its body that are known to have trees.
     passed: Vec<usize>,
-    /// The rules that wait for the symbol behind those.
+    /// The rules that wait for the next symbol of their bodies.
     waiting: Waiting,
-    /// The nonterminals that were found and whose waiting rules are still to be looked at.
+    /// The nonterminals that have been found and whose waiting rules haven't been visited.
     queue: Vec<usize>,
 }
 
@@ -44,8 +44,8 @@ impl Model for Search {
     } };
 }
 
-/// For each nonterminal whether it has a tree by the rules that are kept: any tree, or, where terminals aren't allowed,
-/// one without tokens.
+/// For each nonterminal, whether it has a tree by the kept rules: any tree, or one without tokens if terminals aren't
+/// allowed.
 pub(crate) fn with_trees(
     alloc: Global,
     grammar: &Grammar,
@@ -72,7 +72,7 @@ pub(crate) fn with_trees(
 }
 
 impl Search {
-    /// A search that has found nothing.
+    /// A search that has found nothing yet.
     fn new(alloc: Global, grammar: &Grammar, terminals: bool) -> Result<Search, AllocError>
         ensures { IfOk result (λ s. s ≡ record {
           terminals = terminals;
@@ -92,7 +92,7 @@ impl Search {
         })
     }
 
-    /// Takes a nonterminal that was found, whose rules are then to be looked at, and those rules.
+    /// Takes a nonterminal from the queue, and returns the rules that wait for it.
     fn next(&mut self, alloc: Global) -> Option<Vec<usize>>
         requires { All (λ A. A < length self.old.waiting) self.old.queue }
         ensures { IsTakenNext self.old self.new (option_map (λ rules. rules.items) result) }
@@ -101,7 +101,7 @@ impl Search {
         Some(self.waiting.take(alloc, nonterminal))
     }
 
-    /// Passes what can be passed of a rule's body. At its end the left side is found, or else the rule waits.
+    /// Advances over the body of a rule as far as possible. At the end, the left side is found; else the rule waits.
     fn advance(&mut self, rule: &GrammarRule, number: usize) -> Result<(), AllocError>
         requires { HasPlaces self.old number rule.now }
         ensures { OnOk result ((G : join.Grammar) → IsSearch G self.old → IsRule G number rule.now
@@ -114,7 +114,7 @@ impl Search {
         }
     }
 
-    /// Passes what can be passed of a rule's body, and answers the symbol that stands in the way, if one does.
+    /// Advances over the body of a rule as far as possible. Returns the symbol that blocks it, if any.
     fn pass(&mut self, rule: &GrammarRule, number: usize) -> Option<Symbol>
         requires { HasPlaces self.old number rule.now }
         ensures { HasPassed self.old self.new number rule.now result }
@@ -125,7 +125,7 @@ impl Search {
         body.get(at).copied()
     }
 
-    /// Puts a nonterminal among those that were found.
+    /// Marks a nonterminal as found.
     fn find(&mut self, nonterminal: usize) -> Result<(), AllocError>
         requires { nonterminal < length self.old.found }
         ensures { OnOk result (self.new ≡ with_found self.old nonterminal) }
@@ -137,7 +137,7 @@ impl Search {
         Ok(())
     }
 
-    /// Has a rule wait for a nonterminal.
+    /// Makes a rule wait for a nonterminal.
     fn wait(&mut self, nonterminal: usize, number: usize) -> Result<(), AllocError>
         requires { nonterminal < length self.old.waiting }
         ensures { OnOk result (self.new ≡ with_waiting self.old nonterminal number) }
@@ -146,7 +146,7 @@ impl Search {
     }
 }
 
-/// How many symbols from the front of a body pass, where it is known of some.
+/// The number of symbols at the front of a body that are known to have trees. The first `from` are known to.
 pub(crate) fn passing_until(body: &[Symbol], from: usize, found: &[bool], terminals: bool) -> usize
     requires from { from ≤ length body.now }
     requires numbered { All (HasNumberBelow (length found.now)) (map symbol_of body.now) }
@@ -163,7 +163,7 @@ pub(crate) fn passing_until(body: &[Symbol], from: usize, found: &[bool], termin
     at
 }
 
-/// Whether a symbol passes: a terminal where they are allowed, a nonterminal that was found.
+/// Whether a symbol is known to have a tree: a terminal if they are allowed, or a nonterminal that was found.
 fn symbol_passes(symbol: Symbol, found: &[bool], terminals: bool) -> bool
     requires { HasNumberBelow (length found.now) (symbol_of symbol) }
     ensures { result ≡ passes found.now terminals (symbol_of symbol) }

@@ -1,4 +1,4 @@
-//! Which rules are useful: those whose bodies have trees, and whose left sides the start symbol leads to by such rules
+//! The useful rules: those whose bodies have trees, and whose left sides the start symbol leads to by such rules
 //! (Hopcroft and Ullman 1979, 4.4).
 ghost use Rattle.std.specs.Prelude.{◌≡◌, ◌<◌, ◌+◌, ◌++◌, ◌∷◌, [], ◌↔◌, ◌⊎◌, ℕ, length, map, true, false, All, IfOk};
 ghost use Rattle.std.specs.Prelude.{OnOk, IsTrue};
@@ -20,7 +20,7 @@ use ly_join::{Grammar, GrammarRule, Symbol};
 use ly_sets::SetMatrix;
 use std::alloc::Global;
 
-/// For each rule whether it is rule 0 or useful.
+/// For each rule, whether it is rule 0 or useful.
 pub(crate) fn useful_rules(alloc: Global, grammar: &Grammar) -> Result<Vec<bool>, GrammarFault>
     ensures long { IfOk result (λ kept. length kept.items ≡ length grammar.now.rules) }
     ensures exact { IfOk result (λ kept. (p : ℕ) (r : GrammarRule) → IsRule grammar.now p r
@@ -43,7 +43,7 @@ pub(crate) fn useful_rules(alloc: Global, grammar: &Grammar) -> Result<Vec<bool>
     Ok(useful)
 }
 
-/// For each rule whether its body has trees.
+/// For each rule, whether its body has trees.
 fn productive_rules(alloc: Global, grammar: &Grammar) -> Result<Vec<bool>, OutOfMemory>
     ensures long { IfOk result (λ found. length found.items ≡ length grammar.now.rules) }
     ensures exact { IfOk result (λ found. (p : ℕ) (r : GrammarRule) → IsRule grammar.now p r
@@ -60,7 +60,7 @@ fn productive_rules(alloc: Global, grammar: &Grammar) -> Result<Vec<bool>, OutOf
     Ok(productive)
 }
 
-/// Whether all nonterminals of a rule's body were found.
+/// Whether all nonterminals of a rule's body have been found.
 fn body_passes(rule: &GrammarRule, found: &[bool]) -> bool
     requires { All (HasNumberBelow (length found.now)) rule.now.body }
     ensures { IsTrue result ↔ SymbolsPass found.now true rule.now.body }
@@ -69,7 +69,7 @@ fn body_passes(rule: &GrammarRule, found: &[bool]) -> bool
     passing_until(body, 0, found, true) == body.len()
 }
 
-/// The nonterminals that the start symbol leads to by productive rules: 0 is in the rows of these.
+/// The nonterminals that the start symbol leads to by productive rules. Their rows contain 0.
 fn reached(alloc: Global, grammar: &Grammar, productive: &[bool]) -> Result<SetMatrix, OutOfMemory>
     requires { length productive.now ≡ length grammar.now.rules }
     ensures width { IfOk result (λ m. m.width ≡ 1) }

@@ -4,7 +4,7 @@ use std::alloc::{AllocError, Global};
 use std::marker::Model;
 use std::mem;
 
-/// For each nonterminal the rules that wait until it is found.
+/// For each nonterminal, the rules that wait until it is found.
 #[derive(Drop)]
 pub(crate) struct Waiting {
     /// The rules by number.
@@ -20,7 +20,7 @@ impl Model for Waiting {
 }
 
 impl Waiting {
-    /// No rule waits for any of so many nonterminals.
+    /// Lists for this many nonterminals, without rules.
     pub(crate) fn new(alloc: Global, nonterminals: usize) -> Result<Waiting, AllocError>
         ensures { IfOk result (λ w. w ≡ replicate nonterminals []) }
     {
@@ -31,7 +31,7 @@ impl Waiting {
         Ok(Waiting { lists })
     }
 
-    /// Has a rule wait for a nonterminal.
+    /// Makes a rule wait for a nonterminal.
     pub(crate) fn add(&mut self, nonterminal: usize, rule: usize) -> Result<(), AllocError>
         requires { nonterminal < length self.old }
         ensures { OnOk result (self.new ≡
@@ -41,7 +41,7 @@ impl Waiting {
         Ok(())
     }
 
-    /// The rules that wait for a nonterminal, which no longer wait.
+    /// Removes and returns the rules that wait for a nonterminal.
     pub(crate) fn take(&mut self, alloc: Global, nonterminal: usize) -> Vec<usize>
         requires { nonterminal < length self.old }
         ensures these { result.items ≡ slice_index_or self.old nonterminal [] }

@@ -10,28 +10,28 @@ use Rattle.ly_join.specs.Terminals.{TerminalName, token}
 use Rattle.ly_join.specs.declared.limit.Limit.{Limit}
 use Rattle.ly_join.specs.declared.limit.Limit.TheVariants.{Symbols, Rules, LexRules, Body, Conditions, Name}
 
--- the greatest of numbers, 0 of none
+-- the greatest of some numbers; 0 if there are none
 abbrev pub greatest : List ℕ → ℕ
 greatest [] = 0
 greatest (n ∷ ns) = max n (greatest ns)
 
--- how many bytes the name of a terminal has, if it has one
+-- the length of a terminal's name in bytes; 0 if it has none
 abbrev pub token_length : TerminalName → ℕ
 token_length (token n) = length n
 token_length _ = 0
 
--- how many bytes the constructor of a rule has, if it has one
+-- the length of a rule's constructor in bytes; 0 if it has none
 abbrev pub constructor_length : Making → ℕ
 constructor_length (build n ps) = length n
 constructor_length _ = 0
 
--- how long the names of tokens, left sides and constructors are
+-- the lengths of the names of tokens, left sides and constructors
 abbrev pub name_lengths : Written → List ℕ
 name_lengths w = map token_length (flat_map declared_terminals w.preamble.declarations)
     ++ map (λ r. max (length r.left) (constructor_length r.making)) w.rules
 
--- what is counted: the symbols, with `$accept`, the rules of both files, the symbols of the longest body, the
--- conditions, and the bytes of the longest name
+-- the count that a limit bounds: the symbols, with `$accept`; the rules of each file; the symbols of the longest body;
+-- the conditions; the bytes of the longest name
 abbrev pub counted : Limit → Scanning → Written → ℕ
 counted Symbols x w = length (terminals_of w) + length (nonterminals_of w) + 1
 counted Rules x w = length w.rules
@@ -40,7 +40,7 @@ counted Body x w = greatest (map (λ r. length r.body) w.rules)
 counted Conditions x w = x.conditions
 counted Name x w = greatest (name_lengths w)
 
--- the greatest that a count may be
+-- the greatest allowed value of a count
 abbrev pub limit_of : Limit → Sizes → ℕ
 limit_of Symbols sizes = sizes.symbols
 limit_of Rules sizes = sizes.yacc_rules

@@ -1,4 +1,4 @@
--- The numbers and the names of the faults of joining.
+-- The numbers and the names of the errors of joining.
 use Rattle.std.specs.Prelude.{ℕ, List, Option, Some, None, codes}
 use Rattle.ly_join.specs.declared.fault.JoinFault.{JoinFault}
 use Rattle.ly_join.specs.declared.fault.JoinFault.TheVariants.{UndefinedSymbol, TokenOnLeft, PrecedenceTwice}
@@ -7,7 +7,7 @@ use Rattle.ly_join.specs.declared.fault.JoinFault.TheVariants.{LimitPassed, OutO
 use Rattle.ly_join.specs.declared.limit.Limit.{Limit}
 use Rattle.ly_join.specs.declared.limit.Limit.TheVariants.{Symbols, Rules, LexRules, Body, Conditions, Name}
 
--- the number that a fault is printed with; want of memory has none
+-- the number that an error is printed with; out of memory has none
 abbrev pub join_number : JoinFault → Option ℕ
 join_number (UndefinedSymbol n) = Some 40
 join_number (TokenOnLeft n) = Some 41
@@ -19,7 +19,7 @@ join_number NoRules = Some 46
 join_number (LimitPassed which) = Some 47
 join_number OutOfMemory = None
 
--- the name that a fault is printed with
+-- the name that an error is printed with
 abbrev pub join_name : JoinFault → List ℕ
 join_name (UndefinedSymbol n) = codes "UndefinedSymbol"
 join_name (TokenOnLeft n) = codes "TokenOnLeft"

@@ -1,4 +1,4 @@
--- What each fault of joining says of the files.
+-- The meaning of each error of joining.
 use Rattle.std.specs.Prelude.{◌≡◌, ◌<◌, ℕ, List, [], Contains, Some}
 use Rattle.ly_base.specs.Limits.{Sizes}
 use Rattle.ly_yaccread.specs.File.{Written}
@@ -14,16 +14,16 @@ use Rattle.ly_join.specs.declared.fault.JoinFault.TheVariants.{UndefinedSymbol, 
 use Rattle.ly_join.specs.declared.fault.JoinFault.TheVariants.{UnknownStart, ReturnUndeclared, PrecUnknown, NoRules}
 use Rattle.ly_join.specs.declared.fault.JoinFault.TheVariants.{LimitPassed, OutOfMemory}
 
--- a body names it, and it is neither a token nor a nonterminal
+-- a body contains it, and it is neither a token nor a nonterminal
 abbrev pub IsUndefined : Written → List ℕ → Type 0
 IsUndefined w n = (r : Ruling) × Contains w.rules r × Contains r.body (name n) × (IsToken w n → ⊥)
     × (IsNonterminal w n → ⊥)
 
--- a `%prec` names it, and it is no token
+-- it follows a `%prec`, and is no token
 abbrev pub IsUnknownPrec : Written → List ℕ → Type 0
 IsUnknownPrec w n = (r : Ruling) × Contains w.rules r × (r.precedence ≡ Some (name n)) × (IsToken w n → ⊥)
 
--- `%start` names it, and it is no left side
+-- it follows `%start`, and is no left side
 abbrev pub IsUnknownStart : Written → List ℕ → Type 0
 IsUnknownStart w n = (w.preamble.start ≡ Some n) × (IsNonterminal w n → ⊥)
 
@@ -31,7 +31,7 @@ IsUnknownStart w n = (w.preamble.start ≡ Some n) × (IsNonterminal w n → ⊥
 abbrev pub IsUndeclared : Scanning → Written → List ℕ → Type 0
 IsUndeclared x w n = (a : Acting) × Contains x.actions a × (a.returning ≡ returns (token n)) × (IsToken w n → ⊥)
 
--- what a fault says of the files; want of memory says nothing
+-- what an error means for the files; out of memory means nothing
 abbrev pub IsAtFault : Sizes → Scanning → Written → JoinFault → Type 0
 IsAtFault sizes x w (UndefinedSymbol n) = IsUndefined w n.items
 IsAtFault sizes x w (TokenOnLeft n) = IsToken w n.items × IsNonterminal w n.items
@@ -43,7 +43,7 @@ IsAtFault sizes x w NoRules = w.rules ≡ []
 IsAtFault sizes x w (LimitPassed which) = limit_of which sizes < counted which x w
 IsAtFault sizes x w OutOfMemory = Unit {0}
 
--- a fault that isn't of limits or of memory: the files make no specification at all
+-- an error other than a limit or out of memory: the files make no specification at all
 abbrev pub IsOfFiles : JoinFault → Type 0
 IsOfFiles (LimitPassed which) = ⊥
 IsOfFiles OutOfMemory = ⊥

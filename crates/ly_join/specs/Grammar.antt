@@ -8,13 +8,13 @@ pub data Symbol : Type 0 where
   terminal : ℕ → Symbol
   nonterminal : ℕ → Symbol
 
--- A rule: the nonterminal on its left side may be replaced by its body.
+-- A rule: a nonterminal and a body that may replace it.
 pub record GrammarRule : Type 0 where
   pub left : ℕ
   pub body : List Symbol
 
--- Rules by number, where a removed rule keeps its number; how many terminals there are; the nonterminal of the whole
--- text, whose number is greater than any other's; and that of the sentences.
+-- Rules by number, where a removed rule keeps its number; the number of terminals; the nonterminal of the whole text,
+-- whose number is greater than any other's; and the start symbol of the sentences.
 pub record Grammar : Type 0 where
   pub terminals : ℕ
   pub accept : ℕ
@@ -29,17 +29,17 @@ IsRule G p r = slice_get G.rules p ≡ Some (Some r)
 abbrev pub accept_rule : ℕ → ℕ → GrammarRule
 accept_rule accept start = record { left = accept; body = nonterminal start ∷ terminal 0 ∷ [] }
 
--- a symbol that rules may name: not the end, and not the whole text
+-- a symbol that rules may contain: neither the end nor the whole text
 abbrev pub SymbolWithin : ℕ → ℕ → Symbol → Type 0
 SymbolWithin terminals accept (terminal t) = (0 < t) × (t < terminals)
 SymbolWithin terminals accept (nonterminal A) = A < accept
 
--- all symbols of a rule are such
+-- All symbols of a rule are of this kind.
 pub record RuleWithin (terminals accept : ℕ) (r : GrammarRule) : Type 0 where
   pub left : r.left < accept
   pub body : All (SymbolWithin terminals accept) r.body
 
--- Rule 0 is that of the whole text, and no other rule has the whole text or the end in it (an augmented grammar).
+-- Rule 0 is that of the whole text, and no other rule contains the whole text or the end (an augmented grammar).
 pub record IsAugmented (G : Grammar) : Type 0 where
   pub end_within : 0 < G.terminals
   pub start_within : G.start < G.accept
@@ -51,12 +51,12 @@ pub record IsGrammar (G : Grammar) : Type 0 where
   pub augmented : IsAugmented G
   pub whole : (p : ℕ) → p < length G.rules → (r : GrammarRule) × IsRule G p r
 
--- a symbol as it is kept
+-- the symbol of the definitions for a symbol of the code
 abbrev pub symbol_of : code.Symbol → Symbol
 symbol_of (Terminal t) = terminal t.0
 symbol_of (Nonterminal A) = nonterminal A.0
 
--- the grammar of rules none of which is removed
+-- the grammar of these rules, none of them removed
 abbrev pub grammar_from : ℕ → ℕ → ℕ → List GrammarRule → Grammar
 grammar_from terminals accept start rules
     = record { terminals = terminals; accept = accept; start = start; rules = map Some rules }

@@ -1,4 +1,4 @@
--- Codes of grammars, by which values of types that hold one are told apart.
+-- Encodings of grammars, for deciding equality of types that contain one.
 use Rattle.std.specs.Prelude.{◌≡◌, ℕ, ◌⊎◌, List, Option, refl}
 use mathlib.Core.Logic.{inl, inr}
 use Rattle.std.specs.Coded.{Coded, code_by, coded×, coded⊎, coded_ℕ, coded_list, coded_option}

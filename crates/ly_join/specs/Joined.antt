@@ -1,4 +1,4 @@
--- The specification that a lex file and a yacc file are together.
+-- The specification of a lex file and a yacc file.
 use Rattle.std.specs.Prelude.{◌≡◌, ℕ, List, [], ◌∷◌, length, slice_get, Option, Some, None}
 use Rattle.std.specs.List.{AllZip}
 use Rattle.ly_base.specs.Shape.{Shape, nil, node, place, shape_of}
@@ -15,7 +15,7 @@ use Rattle.ly_join.specs.declared.precedence.Precedence.{Precedence}
 use Rattle.ly_join.specs.declared.rule.RuleNote as code
 use Rattle.ly_base.specs.declared.scan_action.ScanAction.{ScanAction}
 
--- what a rule says beside its symbols
+-- the precedence of a rule, and its tree
 pub record Note : Type 0 where
   pub precedence : Option Precedence
   pub shape : Shape
@@ -23,8 +23,8 @@ pub record Note : Type 0 where
 abbrev pub note_of : code.RuleNote → Note
 note_of n = record { precedence = n.precedence; shape = shape_of n.tree }
 
--- A specification: its grammar, what the terminals and nonterminals are, the precedence of each terminal, what each
--- rule says beside its symbols, and what each rule of the lex file does.
+-- A specification: its grammar, the names of the terminals and nonterminals, the precedence of each terminal, the note
+-- of each rule, and the action of each rule of the lex file.
 pub record Spec : Type 0 where
   pub grammar : Grammar
   pub terminals : List TerminalName
@@ -33,30 +33,30 @@ pub record Spec : Type 0 where
   pub notes : List Note
   pub scanner : List ScanAction
 
--- What the numbers of symbols mean: the terminals, the nonterminals, and the precedence of each terminal.
+-- The meaning of symbol numbers: the terminals, the nonterminals, and the precedence of each terminal.
 pub record SymbolTable : Type 0 where
   pub terminals : List TerminalName
   pub nonterminals : List (List ℕ)
   pub precedences : List (Option Precedence)
 
--- the terminal that a word of a rule is
+-- the terminal of a word in a rule
 abbrev pub IsTerminal : List TerminalName → Word → ℕ → Type 0
 IsTerminal terminals (name n) t = IsNumbered terminals (token n) t
 IsTerminal terminals (literal b) t = IsNumbered terminals (byte b) t
 IsTerminal terminals _ t = ⊥
 
--- the symbol that a word of a body is: a terminal, or the name of a nonterminal
+-- the symbol of a word in a body: a terminal, or a nonterminal by its name
 abbrev pub IsSymbol : SymbolTable → Word → Symbol → Type 0
 IsSymbol m x (terminal t) = IsTerminal m.terminals x t
 IsSymbol m (name n) (nonterminal A) = slice_get m.nonterminals A ≡ Some n
 IsSymbol m _ (nonterminal A) = ⊥
 
--- the last of two, if there is one
+-- the second, if there is one, else the first
 abbrev pub later : Option ℕ → Option ℕ → Option ℕ
 later first None = first
 later first (Some t) = Some t
 
--- the terminal that a symbol is, if it is one
+-- the number of a symbol, if it is a terminal
 abbrev pub number_in : Symbol → Option ℕ
 number_in (terminal t) = Some t
 number_in (nonterminal A) = None
@@ -71,32 +71,32 @@ abbrev pub IsPrecedenceOf : List (Option Precedence) → Option ℕ → Option P
 IsPrecedenceOf precedences None p = p ≡ None
 IsPrecedenceOf precedences (Some t) p = slice_get precedences t ≡ Some p
 
--- the precedence of a rule: of the terminal behind its `%prec`, or else of the last one of its body
+-- the precedence of a rule: of the terminal after its `%prec`, or else of the last one of its body
 abbrev pub IsRulePrecedence : SymbolTable → Option Word → List Symbol → Option Precedence → Type 0
 IsRulePrecedence m (Some x) body p = (t : ℕ) × IsTerminal m.terminals x t × IsPrecedenceOf m.precedences (Some t) p
 IsRulePrecedence m None body p = IsPrecedenceOf m.precedences (last_terminal body) p
 
--- what the tree of a rule is; without an action that of its first symbol, or of nothing
+-- the tree of a rule; without an action, that of its first symbol, or nothing if the body is empty
 abbrev pub shape_by : Making → List Symbol → Shape
 shape_by default [] = nil
 shape_by default (X ∷ w) = place 1
 shape_by (pass p) w = place p
 shape_by (build n ps) w = node n ps
 
--- A rule of the file is this rule over numbered symbols, with this note.
+-- This rule of the file becomes this rule over numbered symbols, with this note.
 pub record IsJoinedRule (m : SymbolTable) (r : Ruling) (rule : GrammarRule) (note : Note) : Type 0 where
   pub left : slice_get m.nonterminals rule.left ≡ Some r.left
   pub body : AllZip (IsSymbol m) r.body rule.body
   pub precedence : IsRulePrecedence m r.precedence rule.body note.precedence
   pub shape : note.shape ≡ shape_by r.making rule.body
 
--- rules of the file are these, one by one
+-- the rules of the file become these, one by one
 abbrev pub AreJoined : SymbolTable → List Ruling → List GrammarRule → List Note → Type 0
 AreJoined m [] [] [] = Unit {0}
 AreJoined m (r ∷ rs) (rule ∷ rules) (n ∷ notes) = IsJoinedRule m r rule n × AreJoined m rs rules notes
 AreJoined m _ _ _ = ⊥
 
--- what the numbers of symbols in a specification mean
+-- the meaning of symbol numbers in a specification
 abbrev pub table_of : Spec → SymbolTable
 table_of s = record { terminals = s.terminals; nonterminals = s.nonterminals; precedences = s.precedences }
 
@@ -104,7 +104,7 @@ table_of s = record { terminals = s.terminals; nonterminals = s.nonterminals; pr
 abbrev pub accept_note : Note
 accept_note = record { precedence = None; shape = place 1 }
 
--- A lex file and a yacc file together say this: the symbols have their numbers, no token is on a left side or has two
+-- The specification of a lex file and a yacc file: the symbols have their numbers, no token is a left side or has two
 -- precedences, the start symbol is a nonterminal, rule 0 comes first and then the rules in order, and each token that
 -- an action returns is a terminal.
 pub record Joined (x : Scanning) (w : Written) (s : Spec) : Type 0 where

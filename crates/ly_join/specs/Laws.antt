@@ -6,15 +6,15 @@ use Rattle.ly_join.specs.Numbering.{appearing, left_sides, nonterminals_of, term
 use Rattle.ly_join.specs.Scanning.{Scanning}
 use Rattle.ly_join.specs.Terminals.{end, undefined}
 
--- two files make one specification
+-- two files make at most one specification
 abbrev pub JoinedIsOne : Type 0
 JoinedIsOne = (x : Scanning) (w : Written) (s t : Spec) → Joined x w s → Joined x w t → s ≡ t
 
--- in the list the one appears before the other
+-- the first element appears before the second in the list
 abbrev pub AppearsBefore : {X : Type 0} → List X → X → X → Type 0
 AppearsBefore {X} xs x y = (front back : List X) × (xs ≡ front ++ x ∷ back) × (Contains (front ++ x ∷ []) y → ⊥)
 
--- The members of a list are these, in the order of their first appearance. So each is there once.
+-- The second list has the elements of the first, in the order of their first appearance, each once.
 pub record AreFirst {X : Type 0} (xs ys : List X) : Type 0 where
   pub same : (x : X) → Contains ys x ↔ Contains xs x
   pub order : AllPairs (AppearsBefore xs) ys

@@ -17,18 +17,18 @@ associativity_of kind.Left = Some Left
 associativity_of kind.Right = Some Right
 associativity_of kind.Nonassociative = Some Nonassociative
 
--- what the n-th declaration gives: each terminal that it names, with the precedence
+-- the terminals of the n-th declaration, each with the precedence that it gives
 abbrev pub given_by : ℕ → Declared → List (TerminalName × Precedence)
 given_by n d = option_map_or
     (λ a. map (λ x. let p : Precedence = record { level = n; associativity = a } in (x, p)) (declared_terminals d))
     (associativity_of d.kind) []
 
--- what declarations from the n-th on give
+-- the same for the declarations from the n-th on
 abbrev pub given_from : ℕ → List Declared → List (TerminalName × Precedence)
 given_from n [] = []
 given_from n (d ∷ ds) = given_by n d ++ given_from (n + 1) ds
 
--- all that declarations give
+-- all terminals that declarations give a precedence, with it
 abbrev pub given : List Declared → List (TerminalName × Precedence)
 given ds = given_from 0 ds
 

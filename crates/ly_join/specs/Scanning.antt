@@ -1,4 +1,4 @@
--- What a lex file says to the grammar.
+-- What the grammar needs to know of a lex file.
 use Rattle.std.specs.Prelude.{◌≡◌, ℕ, List, map, length, Option}
 use Rattle.std.specs.Rc.{rc_slice_items}
 use Rattle.ly_lexread.specs.declared.action.LexAction.{LexAction}
@@ -16,20 +16,19 @@ pub data Returning : Type 0 where
   returns : TerminalName → Returning
   first_byte : Returning
 
--- what is returned, whatever room its name has
+-- what is returned, whatever the capacity of its name
 abbrev pub returning_of : Returned → Returning
 returning_of lex.Nothing = nothing
 returning_of (lex.Token n) = returns (token (rc_slice_items n))
 returning_of (lex.Literal b) = returns (byte b)
 returning_of lex.FirstByte = first_byte
 
--- What an action does: the condition that it sets, if it sets one, and what it returns.
+-- The effect of an action: the condition that it sets, if any, and what it returns.
 pub record Acting : Type 0 where
   pub begin : Option ℕ
   pub returning : Returning
 
--- What a lex file says beside its patterns: how many rules and conditions it has, and what the action of each rule
--- does.
+-- A lex file without its patterns: the number of its rules and conditions, and the effect of each rule's action.
 pub record Scanning : Type 0 where
   pub rules : ℕ
   pub conditions : ℕ
@@ -38,7 +37,7 @@ pub record Scanning : Type 0 where
 abbrev pub acting_of : LexAction → Acting
 acting_of a = record { begin = a.begin; returning = returning_of a.returns }
 
--- what the value of a lex file says
+-- the same of the value of a lex file
 abbrev pub scanning_of : LexFile → Scanning
 scanning_of f = record {
   rules = length f.rules.items;
@@ -46,18 +45,18 @@ scanning_of f = record {
   actions = map acting_of f.actions.items;
 }
 
--- the number of what is returned; a literal that the grammar doesn't name is undefined
+-- the number of what is returned; a literal that the grammar doesn't name is `$undef`
 abbrev pub IsReturned : List TerminalName → TerminalName → ℕ → Type 0
 IsReturned terminals (byte b) t = IsOfByte terminals b t
 IsReturned terminals x t = IsNumbered terminals x t
 
--- the token that comes of what an action returns
+-- the token that an action emits, from what it returns
 abbrev pub IsEmitted : List TerminalName → Returning → Emitted → Type 0
 IsEmitted terminals nothing e = e ≡ emitted.Nothing
 IsEmitted terminals (returns x) e = (t : ℕ) × (e ≡ emitted.Terminal (record { 0 = t })) × IsReturned terminals x t
 IsEmitted terminals first_byte e = e ≡ emitted.FirstByte
 
--- What an action does, over numbered terminals.
+-- The effect of an action, over numbered terminals.
 pub record IsScanAction (terminals : List TerminalName) (a : Acting) (c : ScanAction) : Type 0 where
   pub begin : c.begin ≡ a.begin
   pub emits : IsEmitted terminals a.returning c.emits

@@ -1,8 +1,9 @@
--- How long the lists are that a specification keeps.
+-- The lengths of the lists of a specification.
 use Rattle.std.specs.Prelude.{◌≡◌, length}
 use Rattle.ly_join.specs.Joined.{Spec}
 
--- A precedence for each terminal, a note for each rule, and the grammar's symbols are the terminals and nonterminals.
+-- There is a precedence for each terminal and a note for each rule, and the symbols of the grammar are these terminals
+-- and nonterminals.
 pub record HasSizes (s : Spec) : Type 0 where
   pub precedences : length s.precedences ≡ length s.terminals
   pub notes : length s.notes ≡ length s.grammar.rules

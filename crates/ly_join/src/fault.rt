@@ -7,26 +7,25 @@ use ly_base::OutOfMemory;
 use std::alloc::{AllocError, AllocFailed};
 use thiserror::Error;
 
-/// Why a lex file and a yacc file don't make a specification. Nothing is handed out then. It is printed in words,
-/// without the symbol or the limit that is at fault.
+/// Why a lex file and a yacc file don't make a specification. Printed as a message, without the symbol or the limit.
 #[derive(Debug, Drop, Error)]
 pub enum JoinFault {
-    /// A symbol of a body is neither a token nor the left side of a rule.
+    /// A symbol of a body that is neither a token nor the left side of a rule.
     #[error("a symbol that no declaration and no left side names")]
     UndefinedSymbol(Vec<u8>),
-    /// The left side of a rule is a token.
+    /// The left side of a rule that is a token.
     #[error("a token on the left side of a rule")]
     TokenOnLeft(Vec<u8>),
-    /// A token is given a precedence twice, by two declarations or by one.
+    /// A token with two precedences, from two declarations or from one.
     #[error("a second precedence for a token")]
     PrecedenceTwice(TerminalName),
-    /// The name behind `%start` is on no left side.
+    /// The name after `%start`, which is no left side.
     #[error("a start symbol without rules")]
     UnknownStart(Vec<u8>),
-    /// An action of the lex file returns a name that is no token.
+    /// A name that an action of the lex file returns and that is no token.
     #[error("a returned name that is no token")]
     ReturnUndeclared(Vec<u8>),
-    /// The name behind a `%prec` is no token.
+    /// The name after a `%prec`, which is no token.
     #[error("a name behind %prec that is no token")]
     PrecUnknown(Vec<u8>),
     /// The yacc file has no rules.
@@ -35,10 +34,10 @@ pub enum JoinFault {
     /// A count is above its limit.
     #[error("a count above its limit")]
     LimitPassed {
-        /// The limit that is passed.
+        /// The limit that is exceeded.
         which: Limit,
     },
-    /// A growth was refused.
+    /// Out of memory.
     #[error("out of memory")]
     OutOfMemory,
 }
@@ -46,7 +45,7 @@ pub enum JoinFault {
 impl JoinFault {
     ghost use Rattle.ly_join.specs.FaultNames.{join_name, join_number};
 
-    /// The number that the fault is printed with; want of memory has none.
+    /// The number that the error is printed with; none for `OutOfMemory`.
     pub fn number(&self) -> Option<u8>
         ensures { result ≡ join_number self.now }
     {
@@ -63,7 +62,7 @@ impl JoinFault {
         }
     }
 
-    /// The name that the fault is printed with.
+    /// The name that the error is printed with.
     pub fn name(&self) -> &'static str
         ensures { result.now ≡ join_name self.now }
     {

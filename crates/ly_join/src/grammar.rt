@@ -6,12 +6,12 @@ use ly_base::{OutOfMemory, Sym};
 use std::alloc::Global;
 use std::marker::Model;
 
-/// A rule of a grammar: its left side may be replaced by its body.
+/// A rule of a grammar: a nonterminal and a body that may replace it.
 #[derive(Drop)]
 pub struct GrammarRule {
     /// The nonterminal.
     left: Sym,
-    /// The symbols, none for an empty body.
+    /// The symbols of the body. Empty for an empty body.
     body: Vec<Symbol>,
 }
 
@@ -25,7 +25,7 @@ impl Model for GrammarRule {
 }
 
 impl GrammarRule {
-    /// The rule of a left side and a body.
+    /// The rule with this left side and body.
     pub fn new(left: Sym, body: Vec<Symbol>) -> GrammarRule
         ensures { result ≡ record { left = left.0; body = map symbol_of body.items } }
     {
@@ -47,15 +47,15 @@ impl GrammarRule {
     }
 }
 
-/// A grammar whose symbols and rules have numbers (Knuth 1965, augmented). Rule 0 is `$accept : start $end`, and no
-/// other rule has `$accept` or `$end` in it.
+/// A grammar with numbered symbols and rules (Knuth 1965, augmented). Rule 0 is `$accept : start $end`, and no other
+/// rule contains `$accept` or `$end`.
 #[derive(Drop)]
 pub struct Grammar {
-    /// How many terminals there are, `$end` and `$undef` among them.
+    /// The number of terminals, with `$end` and `$undef`.
     terminals: u32,
-    /// How many nonterminals there are without `$accept`, whose number this is.
+    /// The number of nonterminals without `$accept`, which is also the number of `$accept`.
     nonterminals: u32,
-    /// The nonterminal whose strings are the sentences.
+    /// The start symbol of the sentences.
     start: Sym,
     /// The rules by number.
     rules: Vec<GrammarRule>,
@@ -74,7 +74,7 @@ impl Model for Grammar {
 }
 
 impl Grammar {
-    /// The grammar of these rules behind rule 0. A refused growth hands out nothing.
+    /// The grammar of these rules, after rule 0. The error is that memory ran out.
     pub(crate) fn new(
         alloc: Global,
         terminals: u32,
@@ -100,21 +100,21 @@ impl Grammar {
         })
     }
 
-    /// How many terminals there are, `$end` and `$undef` among them.
+    /// The number of terminals, with `$end` and `$undef`.
     pub fn terminals(&self) -> u32
         ensures { result ≡ self.now.terminals }
     {
         self.terminals
     }
 
-    /// The number of `$accept`, which is how many other nonterminals there are.
+    /// The number of `$accept`, which equals the number of other nonterminals.
     pub fn accept(&self) -> Sym
         ensures { result.0 ≡ self.now.accept }
     {
         Sym(self.nonterminals)
     }
 
-    /// The nonterminal whose strings are the sentences.
+    /// The start symbol of the sentences.
     pub fn start(&self) -> Sym
         ensures value { result.0 ≡ self.now.start }
         ensures within { result.0 < self.now.accept }
@@ -122,7 +122,7 @@ impl Grammar {
         self.start
     }
 
-    /// The rule of a number.
+    /// The rule with this number.
     pub fn rule(&self, number: usize) -> &GrammarRule
         requires { number < length self.now.rules }
         ensures there { IsRule self.now number result.now }
@@ -131,7 +131,7 @@ impl Grammar {
         &self.rules[number]
     }
 
-    /// The rules by number, rule 0 among them. All symbols are those of the grammar.
+    /// The rules by number, with rule 0. All their symbols belong to the grammar.
     pub fn rules(&self) -> &[GrammarRule]
         ensures these { map Some result.now ≡ self.now.rules }
         ensures lawful { IsGrammar self.now }

@@ -25,12 +25,12 @@ use ly_lexread::LexFile;
 use ly_yaccread::YaccFile;
 use std::alloc::Global;
 
-/// Joins a lex file and a yacc file to one specification (POSIX, XCU yacc): the symbols get their numbers by their
-/// first appearance, and what the rules of both files say is said of these.
+/// Joins a lex file and a yacc file into one specification (POSIX, XCU yacc). Symbols are numbered by their first
+/// appearance, and the rules of both files refer to these numbers.
 ///
-/// Of several faults the first of this order comes: `NoRules`; `PrecedenceTwice`, by declarations; `UnknownStart`; rule
-/// by rule `TokenOnLeft`, `UndefinedSymbol` and `PrecUnknown`; `ReturnUndeclared`, by rules of the lex file;
-/// `LimitPassed`, in the order of `Limit`. `OutOfMemory` comes where a growth was refused.
+/// The first error in this order is returned: `NoRules`; `PrecedenceTwice`, by declarations; `UnknownStart`; rule by
+/// rule `TokenOnLeft`, `UndefinedSymbol` and `PrecUnknown`; `ReturnUndeclared`, by rules of the lex file;
+/// `LimitPassed`, in the order of `Limit`. `OutOfMemory` if an allocation fails.
 pub fn join(
     alloc: Global,
     lex: &LexFile,
@@ -53,7 +53,7 @@ pub fn join(
     specify(alloc, lex, yacc, limits, table)
 }
 
-/// Joins two files whose symbols are numbered.
+/// Joins two files whose symbols have been numbered.
 fn specify(
     alloc: Global,
     lex: &LexFile,
@@ -71,20 +71,20 @@ fn specify(
     Ok(specification(alloc, table, contents)?)
 }
 
-/// What two files say over their numbered symbols.
+/// The content of two files, over numbered symbols.
 #[derive(Drop)]
 struct Contents {
     /// The start symbol.
     start: Sym,
     /// The rules but rule 0.
     rules: Vec<GrammarRule>,
-    /// What each rule says beside its symbols, rule 0 among them.
+    /// The note of each rule, with rule 0.
     notes: Vec<RuleNote>,
-    /// What the scanner does at each rule of the lex file.
+    /// The action of the scanner for each rule of the lex file.
     scanner: Vec<ScanAction>,
 }
 
-/// What two files say, whose symbols are numbered.
+/// The content of two files whose symbols have been numbered.
 fn contents_of(
     alloc: Global,
     lex: &LexFile,
@@ -114,7 +114,7 @@ fn contents_of(
     })
 }
 
-/// Numbers the symbols, and finds the precedence of each terminal.
+/// Numbers the symbols and finds the precedence of each terminal.
 fn number_symbols(alloc: Global, yacc: &YaccFile) -> Result<SymbolTable<'_>, JoinFault>
     ensures ok { IfOk result (λ table. AreNumbered (written_of yacc.now) (table_from table)) }
     ensures fault { IfErr result (IsGivingFault (given (map declared_of yacc.now.declarations.items))) }
@@ -129,7 +129,7 @@ fn number_symbols(alloc: Global, yacc: &YaccFile) -> Result<SymbolTable<'_>, Joi
     })
 }
 
-/// The number of the start symbol: of the name behind `%start`, which has to be a left side, or else the first one.
+/// The number of the start symbol: the name after `%start`, which must be a left side, or else the first left side.
 fn start_symbol(alloc: Global, table: &SymbolTable<'_>, yacc: &YaccFile) -> Result<Sym, JoinFault>
     requires numbered { AreNumbered (written_of yacc.now) (table_from table.now) }
     requires some { 0 < length yacc.now.rules.items }
@@ -145,7 +145,7 @@ fn start_symbol(alloc: Global, table: &SymbolTable<'_>, yacc: &YaccFile) -> Resu
     }
 }
 
-/// The specification of what two files say over their symbols.
+/// The specification with these symbols and this content.
 fn specification(
     alloc: Global,
     table: SymbolTable<'_>,

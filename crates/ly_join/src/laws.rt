@@ -1,12 +1,12 @@
 ghost use Rattle.ly_join.specs.Laws.{JoinedIsOne, NumberedByFirst};
 
-/// Two files make one specification at most.
+/// Theorem: two files make at most one specification.
 pub fn joined_is_one()
     ensures { JoinedIsOne }
 {}
 
-/// The symbols are numbered by their first appearance: those that appear, each once, and the one that appears first
-/// comes first.
+/// Theorem: symbols are numbered by their first appearance. Each symbol that appears has one number, in the order in
+/// which they first appear.
 pub fn numbered_by_first()
     ensures { NumberedByFirst }
 {}

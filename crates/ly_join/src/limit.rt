@@ -18,17 +18,17 @@ use ly_yaccread::{Production, SymbolName, TreeAction, YaccFile};
 /// A count that has a limit.
 #[derive(Clone, Copy, Debug, PartialEq, Eq)]
 pub enum Limit {
-    /// How many symbols the grammar has, `$end`, `$undef` and `$accept` among them.
+    /// The number of symbols of the grammar, with `$end`, `$undef` and `$accept`.
     Symbols,
-    /// How many rules the yacc file has.
+    /// The number of rules of the yacc file.
     Rules,
-    /// How many rules the lex file has.
+    /// The number of rules of the lex file.
     LexRules,
-    /// How many symbols the longest body has.
+    /// The number of symbols of the longest body.
     Body,
-    /// How many start conditions the lex file has, the initial one among them.
+    /// The number of start conditions of the lex file, with the initial one.
     Conditions,
-    /// How many bytes the longest name of a token, a left side or a constructor has.
+    /// The length in bytes of the longest name of a token, a left side or a constructor.
     Name,
 }
 
@@ -48,7 +48,7 @@ impl Limit {
     }
 }
 
-/// Refuses what has a count above its limit, the first in the order of `Limit`.
+/// Returns an error for the first count, in the order of `Limit`, that is above its limit.
 pub(crate) fn check_limits(
     limits: &Limits,
     lex: &LexFile,
@@ -72,7 +72,7 @@ pub(crate) fn check_limits(
     check(Limit::Name, longest_name(yacc), limits.name_length())
 }
 
-/// Refuses a count above its limit.
+/// Returns an error for a count above its limit.
 fn check(which: Limit, count: usize, most: u32) -> Result<(), JoinFault>
     ensures { MatchResult result (λ _. count ≤ most) (λ f. (f ≡ LimitPassed which) × (most < count)) }
 {
@@ -83,7 +83,7 @@ fn check(which: Limit, count: usize, most: u32) -> Result<(), JoinFault>
     }
 }
 
-/// How many symbols the longest body has.
+/// The number of symbols of the longest body.
 fn longest_body(rules: &[Production]) -> usize
     ensures { result ≡ greatest (map (λ r. length r.body) (map ruling_of rules.now)) }
 {
@@ -94,7 +94,7 @@ fn longest_body(rules: &[Production]) -> usize
     longest
 }
 
-/// How many bytes the longest name of a token, a left side or a constructor has.
+/// The length in bytes of the longest name of a token, a left side or a constructor.
 fn longest_name(yacc: &YaccFile) -> usize
     ensures { result ≡ greatest (name_lengths (written_of yacc.now)) }
 {
@@ -112,7 +112,7 @@ fn longest_name(yacc: &YaccFile) -> usize
     longest
 }
 
-/// How many bytes the longest name among symbols has.
+/// The length in bytes of the longest name among symbols.
 fn longest_token(symbols: &[SymbolName]) -> usize
     ensures { result ≡ greatest (map token_length (map terminal_of symbols.now)) }
 {
@@ -123,7 +123,7 @@ fn longest_token(symbols: &[SymbolName]) -> usize
     longest
 }
 
-/// How many bytes the name of a symbol has; 0 of a literal.
+/// The length in bytes of the name of a symbol; 0 for a literal.
 fn token_length(symbol: &SymbolName) -> usize
     ensures { result ≡ token_length (terminal_of symbol.now) }
 {
@@ -133,7 +133,7 @@ fn token_length(symbol: &SymbolName) -> usize
     }
 }
 
-/// How many bytes the constructor of an action has; 0 where it has none.
+/// The length in bytes of the constructor of an action; 0 if it has none.
 fn constructor_length(action: &TreeAction) -> usize
     ensures { result ≡ constructor_length (making_of action.now) }
 {

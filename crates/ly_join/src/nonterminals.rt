@@ -10,7 +10,8 @@ use ly_base::{OutOfMemory, Sym};
 use std::alloc::{AllocError, Global};
 use std::marker::Model;
 
-/// The names of nonterminals, numbered as they came, each once. They stand in the yacc file.
+/// The names of nonterminals, numbered in the order they are added, without duplicates. They are borrowed from the yacc
+/// file.
 #[derive(Drop)]
 pub(crate) struct Nonterminals<'t> {
     /// The names.
@@ -37,14 +38,14 @@ impl<'t> Nonterminals<'t> {
         }
     }
 
-    /// How many names there are.
+    /// The number of names.
     pub(crate) fn count(&self) -> u32
         ensures { result ≡ length self.now }
     {
         self.names.len() as u32
     }
 
-    /// The number of a name, if it is there.
+    /// The number of a name, if it has been added.
     pub(crate) fn find(&self, name: &[u8]) -> Option<Sym>
         ensures { IsFoundAs self.now name.now result }
     {
@@ -52,7 +53,7 @@ impl<'t> Nonterminals<'t> {
         Some(Sym(number as u32))
     }
 
-    /// The number of a name that is there.
+    /// The number of a name that has been added.
     pub(crate) fn number(&self, name: &[u8]) -> Sym
         requires { Contains self.now name.now }
         ensures { slice_get self.now result.0 ≡ Some name.now }
@@ -60,11 +61,11 @@ impl<'t> Nonterminals<'t> {
         self.find(name).unwrap()
     }
 
-    /// The names with one more, which gets the next number where it is a new one.
+    /// Adds a name. A new name gets the next number.
     pub(crate) fn with_name(mut self, name: &'t [u8]) -> Result<Nonterminals<'t>, OutOfMemory>
         ensures { IfOk result (λ n. n ≡ with_one bytes_eq self.entry name.now) }
     {
-        // the rules of a left side mostly stand in a row, so that its bytes needn't be gone through once more
+        // consecutive rules mostly share their left side, so its bytes need no second hash
         if self.is_last(name) {
             return Ok(self);
         }
@@ -73,7 +74,7 @@ impl<'t> Nonterminals<'t> {
         Ok(self)
     }
 
-    /// Whether this is the name that came last.
+    /// Whether this is the name that was added last.
     fn is_last(&self, name: &[u8]) -> bool
         ensures { OnTrue result (Contains self.now name.now) }
     {
@@ -83,7 +84,7 @@ impl<'t> Nonterminals<'t> {
         }
     }
 
-    /// The names by number, with room of their own.
+    /// Owned copies of the names, by number.
     pub(crate) fn into_names(self, alloc: Global) -> Result<Vec<Vec<u8>>, AllocError>
         ensures { IfOk result (λ names. map (λ n. n.items) names.items ≡ self.entry) }
     {

@@ -28,7 +28,7 @@ pub(crate) fn number_terminals(alloc: Global, yacc: &YaccFile) -> Result<Termina
     Ok(terminals)
 }
 
-/// The terminals with the symbols of a declaration.
+/// Adds the symbols of a declaration to the terminals.
 fn with_symbols<'t>(
     alloc: Global,
     mut terminals: Terminals<'t>,
@@ -42,7 +42,7 @@ fn with_symbols<'t>(
     Ok(terminals)
 }
 
-/// The terminals with the literals of a rule.
+/// Adds the literals of a rule to the terminals.
 fn with_rule<'t>(
     alloc: Global,
     mut terminals: Terminals<'t>,
@@ -59,7 +59,7 @@ fn with_rule<'t>(
     }
 }
 
-/// The terminals with a symbol of a rule, if it is a literal.
+/// Adds a symbol of a rule to the terminals, if it is a literal.
 fn with_literal<'t>(
     alloc: Global,
     terminals: Terminals<'t>,
@@ -74,7 +74,7 @@ fn with_literal<'t>(
     }
 }
 
-/// Numbers the nonterminals by their first left side.
+/// Numbers the nonterminals in the order of their first left sides.
 pub(crate) fn number_nonterminals(
     alloc: Global,
     yacc: &YaccFile,

@@ -1,19 +1,19 @@
-/// How tightly a token or a rule binds.
+/// The precedence of a token or a rule.
 #[derive(Clone, Copy, Debug, PartialEq, Eq)]
 pub struct Precedence {
-    /// The place of its declaration among those of tokens: what stands at a later place binds more tightly.
+    /// The index of its declaration among the declarations of tokens. A higher level binds more tightly.
     pub level: usize,
-    /// To which side it binds.
+    /// The associativity.
     pub associativity: Associativity,
 }
 
-/// What stands between two of the same precedence.
+/// How two operators of the same precedence associate.
 #[derive(Clone, Copy, Debug, PartialEq, Eq)]
 pub enum Associativity {
-    /// The first binds more tightly.
+    /// To the left: the first binds more tightly.
     Left,
-    /// The second binds more tightly.
+    /// To the right: the second binds more tightly.
     Right,
-    /// They don't stand beside one another.
+    /// Not at all: they can't follow one another.
     Nonassociative,
 }

@@ -1,4 +1,4 @@
-//! The precedence of terminals, by the declarations that give one.
+//! The precedences that declarations give to terminals.
 ghost use Rattle.std.specs.Prelude.{◌≡◌, ◌≢◌, ◌++◌, List, length, map, AllPairs, IfErr, IfOk, OnOk};
 ghost use Rattle.std.specs.List.{flat_map};
 ghost use Rattle.ly_yaccread.specs.File.{declared_of};
@@ -16,7 +16,7 @@ use crate::terminal::{TerminalName, Terminals};
 use ly_yaccread::{Declaration, DeclarationKind, SymbolName};
 use std::alloc::{AllocError, Global};
 
-/// For each terminal its precedence, if a declaration gives it one.
+/// The precedence of each terminal, if a declaration gives it one.
 pub(crate) fn precedences(
     alloc: Global,
     terminals: &Terminals<'_>,
@@ -46,7 +46,7 @@ pub(crate) fn precedences(
     Ok(given)
 }
 
-/// The associativity that a declaration gives its tokens, if it gives them a precedence.
+/// The associativity that a declaration gives to its tokens, if it gives them a precedence.
 fn associativity_of(kind: DeclarationKind) -> Option<Associativity>
     ensures { result ≡ associativity_of kind }
 {
@@ -58,7 +58,7 @@ fn associativity_of(kind: DeclarationKind) -> Option<Associativity>
     }
 }
 
-/// Gives symbols a precedence. Each has to have none before.
+/// Gives symbols a precedence. None of them may have one already.
 fn give(
     alloc: Global,
     given: &mut [Option<Precedence>],
@@ -86,7 +86,7 @@ fn give(
     Ok(())
 }
 
-/// What a symbol is as a terminal, with room of its own.
+/// An owned copy of a symbol as a terminal.
 fn name_of(alloc: Global, symbol: &SymbolName) -> Result<TerminalName, AllocError>
     ensures { IfOk result (λ name. terminal_from name ≡ terminal_of symbol.now) }
 {

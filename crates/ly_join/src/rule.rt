@@ -1,4 +1,4 @@
-//! The rules of a yacc file over numbered symbols.
+//! The rules of a yacc file, over numbered symbols.
 ghost use Rattle.std.specs.Prelude.{◌≡◌, ◌<◌, ◌∷◌, [], length, map, Contains, IfErr};
 ghost use Rattle.std.specs.Prelude.{IfOk, IfSome, Some, slice_get, All};
 ghost use Rattle.std.specs.List.{AllZip};
@@ -24,16 +24,16 @@ use ly_base::{RuleTree, Sym};
 use ly_yaccread::{Production, SymbolName, TreeAction};
 use std::alloc::{AllocError, Global};
 
-/// What a rule says beside its symbols.
+/// The precedence of a rule, and the tree that it builds.
 #[derive(Drop)]
 pub struct RuleNote {
     /// Its precedence, if it has one.
     pub precedence: Option<Precedence>,
-    /// What its tree is.
+    /// The tree that it builds.
     pub tree: RuleTree,
 }
 
-/// What the symbols of rules are.
+/// The symbols of the grammar, with their numbers.
 #[derive(Drop)]
 pub(crate) struct SymbolTable<'t> {
     /// The terminals.
@@ -44,7 +44,7 @@ pub(crate) struct SymbolTable<'t> {
     pub(crate) precedences: Vec<Option<Precedence>>,
 }
 
-/// A left side that has been looked up.
+/// A left side with its number.
 #[derive(Clone, Copy)]
 struct LeftSide<'t> {
     /// Its name.
@@ -53,8 +53,8 @@ struct LeftSide<'t> {
     number: Sym,
 }
 
-/// The rules over numbered symbols, and what each says beside them, rule 0 among these. Of more than `most`, which are
-/// refused in the end, no more than `most` are kept: the others are joined for their faults alone.
+/// Joins the rules over numbered symbols. Returns them with the note of each, rule 0 included. At most `most` rules are
+/// stored. Beyond that the files exceed a limit, and the rules are only checked for errors.
 pub(crate) fn join_rules(
     alloc: Global,
     table: &SymbolTable<'_>,
@@ -87,7 +87,7 @@ pub(crate) fn join_rules(
     Ok((rules, notes))
 }
 
-/// A rule over numbered symbols, and what it says beside them, behind a rule of this left side.
+/// A rule over numbered symbols with its note. `last` is the left side of the rule before.
 fn join_rule(
     alloc: Global,
     table: &SymbolTable<'_>,
@@ -109,8 +109,8 @@ fn join_rule(
     Ok((GrammarRule::new(left, body), RuleNote { precedence, tree }))
 }
 
-/// The number of a left side, which may be no token, behind a rule of the other one. It is looked up where its name
-/// isn't the same.
+/// The number of a left side, which must not be a token. It is looked up only if its name differs from the left side of
+/// the rule before.
 fn left_side(
     alloc: Global,
     table: &SymbolTable<'_>,
@@ -152,7 +152,7 @@ fn join_body(
     Ok(joined)
 }
 
-/// The symbol that a name or a literal of a body is.
+/// The symbol of a name or a literal in a body.
 fn join_symbol(
     alloc: Global,
     table: &SymbolTable<'_>,
@@ -174,7 +174,7 @@ fn join_symbol(
     }
 }
 
-/// The precedence of a rule: of the symbol behind its `%prec`, or else of the last terminal of its body.
+/// The precedence of a rule: that of the symbol after its `%prec`, or else of the last terminal of its body.
 fn rule_precedence(
     alloc: Global,
     table: &SymbolTable<'_>,
@@ -197,7 +197,7 @@ fn rule_precedence(
     }
 }
 
-/// The precedence of a terminal; none of none.
+/// The precedence of a terminal; none if there is no terminal.
 fn precedence_at(precedences: &[Option<Precedence>], terminal: Option<Sym>) -> Option<Precedence>
     requires { IfSome terminal (λ t. t.0 < length precedences.now) }
     ensures { IsPrecedenceOf precedences.now (option_map (λ t. t.0) terminal) result }
@@ -208,7 +208,7 @@ fn precedence_at(precedences: &[Option<Precedence>], terminal: Option<Sym>) -> O
     }
 }
 
-/// The terminal behind a `%prec`.
+/// The terminal after a `%prec`.
 fn prec_terminal(
     alloc: Global,
     table: &SymbolTable<'_>,
@@ -240,7 +240,7 @@ fn last_terminal(body: &[Symbol]) -> Option<Sym>
     last
 }
 
-/// What a rule's tree is, by its action and its body.
+/// The tree that a rule builds, from its action and its body.
 fn rule_tree(alloc: Global, action: &TreeAction, body: &[Symbol]) -> Result<RuleTree, AllocError>
     ensures { IfOk result (λ tree. shape_of tree ≡ shape_by (making_of action.now) (map symbol_of body.now)) }
 {
@@ -254,7 +254,7 @@ fn rule_tree(alloc: Global, action: &TreeAction, body: &[Symbol]) -> Result<Rule
     }
 }
 
-/// What a rule's tree is without an action: that of its first symbol, or of nothing.
+/// The tree of a rule without an action: that of its first symbol, or nothing if the body is empty.
 fn default_tree(body: &[Symbol]) -> RuleTree
     ensures { shape_of result ≡ shape_by default (map symbol_of body.now) }
 {

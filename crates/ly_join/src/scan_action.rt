@@ -1,4 +1,4 @@
-//! What the rules of a lex file do, over numbered terminals.
+//! The actions of a lex file's rules, over numbered terminals.
 ghost use Rattle.std.specs.Prelude.{◌≡◌, map, IfErr, IfOk};
 ghost use Rattle.std.specs.List.{AllZip};
 ghost use Rattle.ly_join.specs.Scanning.{acting_of, returning_of, IsEmitted, IsScanAction};
@@ -10,7 +10,7 @@ use ly_base::{Emitted, ScanAction};
 use ly_lexread::{LexAction, Returned};
 use std::alloc::Global;
 
-/// What the actions of a lex file do.
+/// The actions of a lex file.
 pub(crate) fn scan_actions(
     alloc: Global,
     terminals: &Terminals<'_>,
@@ -31,7 +31,7 @@ pub(crate) fn scan_actions(
     Ok(joined)
 }
 
-/// The token that comes of what an action returns.
+/// The token that an action emits, from what it returns.
 fn emitted_by(
     alloc: Global,
     terminals: &Terminals<'_>,

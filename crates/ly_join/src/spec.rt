@@ -11,23 +11,23 @@ use crate::terminal::TerminalName;
 use ly_base::{ScanAction, Sym};
 use std::marker::Model;
 
-/// A lex file and a yacc file as one: a numbered grammar, what its symbols are, and what its rules and those of the
-/// lex file do.
+/// A lex file and a yacc file as one: a numbered grammar, the names of its symbols, and what the rules of both files
+/// do.
 #[derive(Drop)]
 pub struct Spec {
     /// The grammar.
     pub(crate) grammar: Grammar,
-    /// What its terminals are.
+    /// The names of its terminals.
     pub(crate) terminals: Vec<TerminalName>,
-    /// The number of the literal of each byte, if there is one.
+    /// The number of each byte's literal, if the grammar has it.
     pub(crate) literals: Vec<Option<Sym>>,
-    /// The names of its nonterminals, `$accept` not among them.
+    /// The names of its nonterminals, without `$accept`.
     pub(crate) nonterminals: Vec<Vec<u8>>,
-    /// The precedence of each terminal.
+    /// The precedence of each terminal, if it has one.
     pub(crate) precedences: Vec<Option<Precedence>>,
-    /// What each rule says beside its symbols, rule 0 among them.
+    /// The note of each rule, with rule 0.
     pub(crate) notes: Vec<RuleNote>,
-    /// What each rule of the lex file does.
+    /// The action of each rule of the lex file.
     pub(crate) scanner: Vec<ScanAction>,
 }
 
@@ -70,14 +70,14 @@ impl Spec {
         &self.grammar
     }
 
-    /// What the terminals are, by number: `$end`, `$undef`, and the others by their first appearance.
+    /// The names of the terminals, by number: `$end`, `$undef`, and the others by their first appearance.
     pub fn terminals(&self) -> &[TerminalName]
         ensures { map terminal_from result.now ≡ self.now.terminals }
     {
         &self.terminals
     }
 
-    /// The name of the nonterminal of a number.
+    /// The name of the nonterminal with this number.
     pub fn nonterminal(&self, number: Sym) -> &[u8]
         requires { number.0 < length self.now.nonterminals }
         ensures { slice_get self.now.nonterminals number.0 ≡ Some result.now }
@@ -85,28 +85,28 @@ impl Spec {
         &self.nonterminals[number.0 as usize]
     }
 
-    /// The terminal that a byte is where it stands for itself: its literal, or `$undef` where the grammar has none.
+    /// The terminal of a byte that is returned as itself: its literal, or `$undef` if the grammar has no such literal.
     pub fn of_byte(&self, byte: u8) -> Sym
         ensures { IsOfByte self.now.terminals byte result.0 }
     {
         self.literals[byte as usize].unwrap_or(Sym(1))
     }
 
-    /// The precedence of each terminal, by number.
+    /// The precedence of each terminal, by number, if it has one.
     pub fn precedences(&self) -> &[Option<Precedence>]
         ensures { result.now ≡ self.now.precedences }
     {
         &self.precedences
     }
 
-    /// What each rule says beside its symbols, by number, rule 0 among them.
+    /// The note of each rule, by number, with rule 0.
     pub fn notes(&self) -> &[RuleNote]
         ensures { map note_of result.now ≡ self.now.notes }
     {
         &self.notes
     }
 
-    /// What the rules of the lex file do, by number.
+    /// The actions of the rules of the lex file, by number.
     pub fn scanner(&self) -> &[ScanAction]
         ensures { result.now ≡ self.now.scanner }
     {

@@ -1,9 +1,9 @@
 use ly_base::Sym;
 
-/// A symbol of a grammar, by its number among those of its kind. Terminals come before nonterminals.
+/// A symbol of a grammar, numbered among the terminals or among the nonterminals. Terminals come before nonterminals.
 #[derive(Clone, Copy, Debug, PartialEq, Eq, PartialOrd, Ord)]
 pub enum Symbol {
-    /// A terminal. Terminal 0 is the end of the text, `$end`; terminal 1, `$undef`, stands for every byte that the
+    /// A terminal. Terminal 0 is the end of the text, `$end`. Terminal 1, `$undef`, represents every byte that the
     /// grammar doesn't name.
     Terminal(Sym),
     /// A nonterminal. The last is `$accept`, which no file can name.

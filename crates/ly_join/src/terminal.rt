@@ -11,21 +11,21 @@ use ly_yaccread::SymbolName;
 use std::alloc::Global;
 use std::marker::Model;
 
-/// What a terminal of a grammar is.
+/// The name of a terminal.
 #[derive(Debug, Drop)]
 pub enum TerminalName {
     /// `$end`, the end of the text.
     End,
-    /// `$undef`, every byte that the grammar doesn't name.
+    /// `$undef`, which represents every byte that the grammar doesn't name.
     Undefined,
-    /// The token of this name.
+    /// The token with this name.
     Token(Vec<u8>),
     /// The literal of this byte.
     Literal(u8),
 }
 
 impl TerminalName {
-    /// Whether a symbol of a yacc file is this terminal, where it is one.
+    /// Whether a symbol of a yacc file is this terminal.
     pub fn is_symbol(&self, symbol: &SymbolName) -> bool
         ensures { IsTrue result ↔ (terminal_in (symbol_word symbol.now) ≡ Some (terminal_from self.now)) }
     {
@@ -38,14 +38,14 @@ impl TerminalName {
     }
 }
 
-/// Terminals, numbered as they came: `$end`, `$undef`, and then tokens and literals, each once.
+/// Terminals, numbered in the order they are added, without duplicates: `$end`, `$undef`, and then tokens and literals.
 #[derive(Drop)]
 pub(crate) struct Terminals<'t> {
-    /// What each terminal is.
+    /// The name of each terminal.
     names: Vec<TerminalName>,
-    /// The numbers of the tokens by their names, which stand in the yacc file.
+    /// The numbers of the tokens by name. The names are borrowed from the yacc file.
     tokens: IndexMap<&'t [u8], Sym>,
-    /// The number of the literal of each byte, if there is one.
+    /// The number of each byte's literal, if there is one.
     literals: Vec<Option<Sym>>,
 }
 
@@ -78,35 +78,35 @@ impl<'t> Terminals<'t> {
         })
     }
 
-    /// What each terminal is, by number.
+    /// The name of each terminal, by number.
     pub(crate) fn names(&self) -> &[TerminalName]
         ensures { map terminal_from result.now ≡ self.now }
     {
         &self.names
     }
 
-    /// How many terminals there are.
+    /// The number of terminals.
     pub(crate) fn count(&self) -> u32
         ensures { result ≡ length self.now }
     {
         self.names.len() as u32
     }
 
-    /// The number of the token of a name, if there is one.
+    /// The number of the token with this name, if there is one.
     pub(crate) fn token(&self, name: &[u8]) -> Option<Sym>
         ensures { IsFoundAs self.now (token_terminal name.now) result }
     {
         self.tokens.get(name).copied()
     }
 
-    /// The number of the literal of a byte, if it is a terminal.
+    /// The number of a byte's literal, if it is a terminal.
     pub(crate) fn literal(&self, byte: u8) -> Option<Sym>
         ensures { IsFoundAs self.now (byte_terminal byte) result }
     {
         self.literals[byte as usize]
     }
 
-    /// The number of the literal of a byte; 1 where it is no terminal.
+    /// The number of a byte's literal; 1 if it is no terminal.
     pub(crate) fn of_byte(&self, byte: u8) -> Sym
         ensures { IsOfByte self.now byte result.0 }
     {
@@ -131,7 +131,7 @@ impl<'t> Terminals<'t> {
         self.find(symbol).unwrap()
     }
 
-    /// What each terminal is, by number, and the number of the literal of each byte, if there is one.
+    /// The name of each terminal, by number, and the number of each byte's literal, if there is one.
     pub(crate) fn into_lists(self) -> (Vec<TerminalName>, Vec<Option<Sym>>)
         ensures names { map terminal_from result.0.items ≡ self.entry }
         ensures literals { AreLiterals self.entry result.1.items }
@@ -144,7 +144,7 @@ impl<'t> Terminals<'t> {
         (names, literals)
     }
 
-    /// The terminals with a symbol, which gets the next number where it is a new one.
+    /// Adds a symbol to the terminals. A new symbol gets the next number.
     pub(crate) fn with_symbol(
         self,
         alloc: Global,
@@ -158,7 +158,7 @@ impl<'t> Terminals<'t> {
         }
     }
 
-    /// The terminals with the token of a name.
+    /// Adds the token with this name to the terminals.
     fn with_token(mut self, alloc: Global, name: &'t [u8]) -> Result<Terminals<'t>, OutOfMemory>
         ensures { IfOk result (λ t. t ≡ with_one same_terminal self.entry (token_terminal name.now)) }
     {
@@ -172,7 +172,7 @@ impl<'t> Terminals<'t> {
         Ok(self)
     }
 
-    /// The terminals with the literal of a byte.
+    /// Adds the literal of a byte to the terminals.
     fn with_literal(mut self, byte: u8) -> Result<Terminals<'t>, OutOfMemory>
         ensures { IfOk result (λ t. t ≡ with_one same_terminal self.entry (byte_terminal byte)) }
     {
@@ -186,7 +186,7 @@ impl<'t> Terminals<'t> {
     }
 }
 
-/// The number of what comes behind so many symbols. More than a u32 counts are too many.
+/// The number that comes after this many. The error is `OutOfMemory` if it doesn't fit in a `u32`.
 pub(crate) fn next_number(count: usize) -> Result<Sym, OutOfMemory>
     ensures number { IfOk result (λ n. n.0 ≡ count) }
     ensures small { IfOk result (λ n. count + 1 < 2 ^ 32) }

@@ -1,4 +1,5 @@
-//! What transitions directly read: it goes straight into rows, since of a large grammar it is millions of terminals.
+//! What transitions directly read. It is put straight into rows, because a large grammar has millions of such
+//! terminals.
 ghost use Rattle.std.specs.Prelude.{◌≡◌, ◌<◌, ◌≤◌, ℕ, length, map, Contains, IfOk, OnOk};
 ghost use Rattle.ly_join.specs.Grammar.{terminal};
 ghost use Rattle.ly_lr0.specs.Automaton.{state_at, IsLr0Automaton};
@@ -13,8 +14,8 @@ use ly_relate::Goto;
 use ly_sets::SetMatrix;
 use std::alloc::Global;
 
-/// The terminals that each transition directly reads, in the row of its number: those that leave the state to which it
-/// leads. The end leaves the state behind the start symbol, though no transition is over it.
+/// The terminals that each transition directly reads, in the row with its number: those that leave the state that it
+/// leads to. The end leaves the state after the start symbol, though no transition is over it.
 pub(crate) fn direct_sets(
     alloc: Global,
     lr0: &Lr0<'_>,
@@ -39,7 +40,7 @@ pub(crate) fn direct_sets(
     Ok(sets)
 }
 
-/// Inserts the terminals over which transitions leave a state into a row.
+/// Inserts the terminals of a state's transitions into a row.
 fn insert_row(
     sets: &mut SetMatrix,
     lr0: &Lr0<'_>,

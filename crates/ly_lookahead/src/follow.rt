@@ -1,5 +1,5 @@
-//! Read and Follow: the least sets that hold the direct reads and grow along reads, and then along includes. A node of
-//! includes that gathers transitions begins with an empty row, and gets what follows them.
+//! Read and Follow: the least sets that contain the direct reads and are closed along reads, and then along includes.
+//! The row of a group's node in includes starts empty, and gets what follows its transitions.
 ghost use Rattle.std.specs.Prelude.{◌≡◌, ◌≤◌, length, IfOk};
 ghost use Rattle.ly_lr0.specs.Automaton.{IsLr0Automaton};
 ghost use Rattle.ly_relate.specs.Related.{AreRelations};
@@ -13,7 +13,8 @@ use ly_relate::Relations;
 use ly_sets::SetMatrix;
 use std::alloc::Global;
 
-/// What follows each transition, and those that a node gathers, in rows of their numbers, and empty rows past them.
+/// The terminals that follow each transition, and each group of them, in the rows with their numbers; empty rows after
+/// these.
 pub(crate) fn follow_sets(
     alloc: Global,
     lr0: &Lr0<'_>,

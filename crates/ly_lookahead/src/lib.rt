@@ -1,11 +1,12 @@
-//! From an automaton to the lookaheads of the rules that are complete in its states.
+//! Computes the LALR(1) lookaheads of the rules that are complete in an automaton's states.
 //!
-//! They are those of the canonical LR(1) automaton with sets of equal cores merged (Knuth 1965; `InLookahead`), and
-//! come from the relations of DeRemer and Pennello, "Efficient Computation of LALR(1) Look-Ahead Sets", TOPLAS 1982:
-//! the least sets of direct reads along reads, of those along includes, and their unions along lookback. That these
-//! are the same is `relations_give_lookaheads`; `lookaheads` finds them.
+//! They are those of the canonical LR(1) automaton with sets of equal cores merged (Knuth 1965; `InLookahead`). They
+//! are computed from the relations of DeRemer and Pennello, "Efficient Computation of LALR(1) Look-Ahead Sets", TOPLAS
+//! 1982: the least sets of direct reads along reads, the least sets of these along includes, and their unions along
+//! lookback. `relations_give_lookaheads` proves that both are the same; `lookaheads` computes them. What transitions
+//! directly read is put straight into the rows of their sets, because a list of it would have millions of entries.
 //!
-//! Left out: what a state does where lookaheads meet.
+//! Not done here: the conflicts between lookaheads.
 #![tactic(auto)]
 
 mod direct;

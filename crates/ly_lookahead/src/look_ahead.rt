@@ -10,11 +10,11 @@ use ly_lr0::Lr0;
 use ly_relate::relations;
 use std::alloc::Global;
 
-/// Finds the lookaheads of the rules that are complete in the states of an automaton: what follows the transitions to
-/// which they look back. It takes one union at most for each edge and node of reads and of includes, and for each
-/// lookback.
+/// Computes the lookaheads of the rules that are complete in an automaton's states: the terminals that follow the
+/// transitions to which they look back. It takes at most one union for each edge and node of reads and of includes, and
+/// for each lookback.
 ///
-/// `OutOfMemory` comes where a growth was refused.
+/// `OutOfMemory` if an allocation fails.
 pub fn lookaheads(alloc: Global, lr0: &Lr0<'_>) -> Result<Lookaheads, OutOfMemory>
     ensures { IfOk result (AreLookaheads lr0.now) }
 {

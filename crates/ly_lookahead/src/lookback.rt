@@ -10,7 +10,7 @@ use ly_lr0::Lr0;
 use ly_relate::Relations;
 use ly_sets::SetMatrix;
 
-/// Puts what follows transitions into the rows of the rules that look back to them, or to nodes that gather them.
+/// Adds what follows transitions to the rows of the rules that look back to them, or to nodes that represent them.
 pub(crate) fn look_back(
     lr0: &Lr0<'_>,
     relations: &Relations,
@@ -37,7 +37,7 @@ pub(crate) fn look_back(
     Ok(())
 }
 
-/// Where a rule stands among others that rise.
+/// The index of a rule in a rising list.
 fn place_of(rules: &[usize], rule: usize) -> Option<usize>
     requires { AllPairs (λ p q. p < q) rules.now }
     ensures { MatchOption result (Contains rules.now rule → ⊥) (λ k. slice_get rules.now k ≡ Some rule) }

@@ -5,8 +5,8 @@ use ly_base::{OutOfMemory, StateNo};
 use ly_lr0::Lr0;
 use std::alloc::Global;
 
-/// For each state the row of the first rule that is complete in it, past the rows of the nodes of includes, and at last
-/// how many rows there are.
+/// For each state, the row of the first rule that is complete in it, after the rows of the nodes of includes; at the
+/// end, the number of rows.
 pub(crate) fn first_rows(
     alloc: Global,
     lr0: &Lr0<'_>,

@@ -6,12 +6,12 @@ use ly_base::{StateNo, Sym};
 use ly_sets::SetMatrix;
 use std::marker::Model;
 
-/// The lookaheads of the rules that are complete in the states of an automaton.
+/// The lookaheads of the rules that are complete in an automaton's states.
 #[derive(Drop)]
 pub struct Lookaheads {
-    /// For each state the row of the first rule that is complete in it, and at last how many rows there are.
+    /// For each state, the row of the first rule that is complete in it; at the end, the number of rows.
     pub(crate) first: Vec<usize>,
-    /// A row for each node of includes, with what follows the transitions for which it stands, and then one for each
+    /// A row for each node of includes, with what follows the transitions that it represents, and then one for each
     /// complete rule.
     pub(crate) sets: SetMatrix,
 }
@@ -31,7 +31,8 @@ impl Model for Lookaheads {
 }
 
 impl Lookaheads {
-    /// Whether a terminal is a lookahead of the rule of an index among those that are complete in a state.
+    /// Whether a terminal is a lookahead of a complete rule. `index` is that of the rule among those complete in the
+    /// state.
     pub fn contains(&self, state: StateNo, index: usize, terminal: Sym) -> bool
         requires { HasSet self.now state.0 index }
         ensures { result ≡ set.contains (set_at self.now state.0 index) terminal.0 }

@@ -1,12 +1,12 @@
--- The edge and the terminal that are named where tables aren't steady: the first by the state below, then by the state
--- on top, then by the terminal.
+-- The edge and the terminal that are named if tables aren't steady: the first by the state below, then by the state on
+-- top, then by the terminal.
 use Rattle.std.specs.Prelude.{◌≡◌, ◌⊎◌, ℕ, ◌<◌, [], ◌∷◌}
 use Rattle.ly_pack.specs.Machine.{Machine}
 use Rattle.ly_pack.specs.Steady.{EndsWithin, IsTableEdge, run_bound}
 use Rattle.ly_loop.specs.declared.fault.LoopFault.{LoopFault}
 use Rattle.ly_loop.specs.declared.fault.LoopFault.TheVariants.{Endless, OutOfMemory}
 
--- the run of an edge on a terminal makes at most as many reductions as are allowed
+-- the run of an edge on a terminal makes at most the allowed number of reductions
 abbrev pub EdgeEnds : Machine → ℕ → ℕ → ℕ → Type 0
 EdgeEnds m below top token = EndsWithin m token (top ∷ below ∷ []) run_bound
 
@@ -21,7 +21,7 @@ pub record IsFirstEndless (m : Machine) (below top token : ℕ) : Type 0 where
   pub endless : EdgeEnds m below top token → ⊥
   pub first : (b s t : ℕ) → ComesBefore b s t below top token → t < m.terminals → IsTableEdge m b s → EdgeEnds m b s t
 
--- what a fault says of tables
+-- the meaning of an error for the tables
 abbrev pub AreTablesRefused : Machine → LoopFault → Type 0
 AreTablesRefused m (Endless below top token) = IsFirstEndless m below.0 top.0 token.0
 AreTablesRefused m OutOfMemory = Unit {0}

@@ -1,4 +1,4 @@
-//! What the runs of an edge come to that begin with a reduction by a rule: it is made out from what is known of others.
+//! The outcome of an edge's runs that begin with a reduction by a rule, computed from the known outcomes of others.
 ghost use Rattle.std.specs.Prelude.{◌<◌, ◌≤◌, [], ◌∷◌, IfSome, length};
 ghost use Rattle.ly_pack.specs.Machine.{IsRuleNumber, states_of};
 ghost use Rattle.ly_pack.specs.Steady.{run_bound};
@@ -23,7 +23,7 @@ const ENDED: Summary = Summary {
 };
 
 impl<A: Rows<TableAction> + Drop, G: Rows<StateNo> + Drop> Listed<'_, A, G> {
-    /// What the runs of an edge come to, on all terminals or on one.
+    /// The outcome of an edge's runs, on all terminals or on one.
     pub(crate) fn runs_of(&self, tokens: Tokens, edge: Edge, summaries: &Summaries) -> Lookup
         requires tokens { AreThere self.now tokens }
         requires edge { IsWithinStates self.now edge }
@@ -42,7 +42,7 @@ impl<A: Rows<TableAction> + Drop, G: Rows<StateNo> + Drop> Listed<'_, A, G> {
         }
     }
 
-    /// What the runs of an edge come to whose state on top reduces by these rules.
+    /// The outcome of an edge's runs, if its state on top reduces by these rules.
     fn all_by_rules(
         &self,
         tokens: Tokens,
@@ -65,7 +65,7 @@ impl<A: Rows<TableAction> + Drop, G: Rows<StateNo> + Drop> Listed<'_, A, G> {
         Lookup::Known(all)
     }
 
-    /// What the runs of an edge come to that begin with a reduction by a rule.
+    /// The outcome of an edge's runs that begin with a reduction by a rule.
     #[inline(always)]
     pub(crate) fn by_rule(
         &self,
@@ -95,7 +95,7 @@ impl<A: Rows<TableAction> + Drop, G: Rows<StateNo> + Drop> Listed<'_, A, G> {
         })
     }
 
-    /// What the runs of an edge come to that begin with a reduction of nothing: they go on above both its states.
+    /// The outcome of an edge's runs that begin with a reduction of an empty body: they continue above both its states.
     #[inline(always)]
     fn above(&self, tokens: Tokens, edge: Edge, left: Sym, summaries: &Summaries) -> Lookup
         requires edge { IsWithinStates self.now edge }
@@ -117,7 +117,7 @@ impl<A: Rows<TableAction> + Drop, G: Rows<StateNo> + Drop> Listed<'_, A, G> {
         longer(1, found)
     }
 
-    /// What runs come to above one more state, by what they come to without it.
+    /// The outcome of runs above one more state, from their outcome without it.
     #[inline(always)]
     fn above_one_more(
         &self,
@@ -150,7 +150,7 @@ impl<A: Rows<TableAction> + Drop, G: Rows<StateNo> + Drop> Listed<'_, A, G> {
         }
     }
 
-    /// What runs come to from a reduction on that takes all above a state away and has this left side.
+    /// The outcome of runs from a reduction on that pops all states above this one and has this left side.
     #[inline(always)]
     fn beside(&self, tokens: Tokens, below: StateNo, left: Sym, summaries: &Summaries) -> Lookup
         requires below { below.0 < states_of self.now }
@@ -165,7 +165,7 @@ impl<A: Rows<TableAction> + Drop, G: Rows<StateNo> + Drop> Listed<'_, A, G> {
     }
 }
 
-/// What runs come to that make so many reductions before.
+/// The outcome of runs that make this many reductions before.
 #[inline(always)]
 fn longer(made: usize, found: Lookup) -> Lookup
     requires made { made ≤ run_bound }
@@ -187,7 +187,7 @@ fn longer(made: usize, found: Lookup) -> Lookup
     }
 }
 
-/// What is known of the runs of an edge.
+/// The known outcome of an edge's runs.
 #[inline(always)]
 pub(crate) fn look_up(reductions: &[Vec<RuleNo>], summaries: &Summaries, edge: Edge) -> Lookup
     requires { edge.top.0 < length reductions.now }

@@ -15,8 +15,11 @@ use ly_base::{OutOfMemory, StateNo};
 use ly_pack::{MachineView, Rows, TableAction};
 use std::alloc::Global;
 
-/// Whether a parser's tables are steady: above each edge, every terminal's run makes at most 100,000 reductions. The
-/// fault names the first edge and the first terminal whose run makes more.
+/// Checks that a parser's tables are steady: above each edge, the run on every terminal makes at most 100,000
+/// reductions. The error names the first edge and the first terminal whose run makes more.
+///
+/// `Endless` if there is such a run, `OutOfMemory` if an allocation fails or there are more states or symbols than
+/// their numbers can count.
 pub fn steady<A: Rows<TableAction> + Drop, G: Rows<StateNo> + Drop>(
     alloc: Global,
     machine: &MachineView<'_, A, G>,
@@ -40,13 +43,13 @@ pub fn steady<A: Rows<TableAction> + Drop, G: Rows<StateNo> + Drop>(
 }
 
 impl<A: Rows<TableAction> + Drop, G: Rows<StateNo> + Drop> Listed<'_, A, G> {
-    /// Whether all states are steady. Runs are followed on each terminal alone only above edges of which nothing can be
-    /// said of all terminals together.
+    /// Whether all states are steady. Runs are followed separately on each terminal only above edges without a summary
+    /// for all terminals.
     fn all_steady(&self, alloc: Global) -> Result<(), LoopFault>
         ensures ok { OnOk result (IsSteady self.now) }
         ensures fault { IfErr result (AreTablesRefused self.now) }
     {
-        // the type's invariant says that edges lead to states
+        // the type's invariant guarantees that edges lead to states
         let _machine = self.machine;
         let doubtful = self.doubtful_edges(alloc)?;
         match self.first_passing(alloc, &doubtful)? {
@@ -59,7 +62,7 @@ impl<A: Rows<TableAction> + Drop, G: Rows<StateNo> + Drop> Listed<'_, A, G> {
         }
     }
 
-    /// The edges of whose runs nothing can be said on all terminals together.
+    /// The edges without a summary for all terminals.
     fn doubtful_edges(&self, alloc: Global) -> Result<Vec<Edge>, OutOfMemory>
         ensures { IfOk result (λ edges. AreDoubtful self.now (states_of self.now) edges.items) }
     {

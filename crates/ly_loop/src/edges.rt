@@ -24,7 +24,7 @@ pub(crate) struct Passing {
     pub(crate) token: Sym,
 }
 
-/// Lists the states to which a state leads, by its entries and gotos, each once. A default shifts nothing.
+/// Lists the states to which a state's entries and gotos lead, each once. A default shifts nothing.
 pub(crate) fn targets(
     entries: &[Cell<TableAction>],
     gotos: &[Cell<StateNo>],
@@ -47,7 +47,7 @@ pub(crate) fn targets(
 }
 
 impl<A: Rows<TableAction> + Drop, G: Rows<StateNo> + Drop> Listed<'_, A, G> {
-    /// Adds the edges above a state of whose runs nothing can be said on all terminals together.
+    /// Adds the edges above a state that have no summary for all terminals.
     pub(crate) fn push_doubtful(
         &self,
         below: StateNo,
@@ -62,7 +62,7 @@ impl<A: Rows<TableAction> + Drop, G: Rows<StateNo> + Drop> Listed<'_, A, G> {
         ensures doubtful { OnOk result
             (AreMoreDoubtful self.now below targets.now doubtful.old.items doubtful.new.items) }
     {
-        // the type's invariant says that the targets are states
+        // the type's invariant guarantees that the targets are states
         let _machine = self.machine;
         known.summaries.turn_to(below);
         for top in targets {
@@ -76,7 +76,7 @@ impl<A: Rows<TableAction> + Drop, G: Rows<StateNo> + Drop> Listed<'_, A, G> {
         Ok(())
     }
 
-    /// The first of these edges, and the first terminal on it, whose run makes too many reductions.
+    /// The first of these edges, and the first terminal, whose run makes too many reductions.
     pub(crate) fn first_passing(
         &self,
         alloc: Global,
@@ -95,8 +95,8 @@ impl<A: Rows<TableAction> + Drop, G: Rows<StateNo> + Drop> Listed<'_, A, G> {
         Ok(first)
     }
 
-    /// The first run that makes too many reductions, by the first one on lower terminals: what is known of runs on this
-    /// terminal is kept from edge to edge.
+    /// The first run on this terminal that makes too many reductions, given the first one on lower terminals. What is
+    /// known of runs on this terminal is kept from edge to edge.
     fn first_on(
         &self,
         alloc: Global,
@@ -123,8 +123,8 @@ impl<A: Rows<TableAction> + Drop, G: Rows<StateNo> + Drop> Listed<'_, A, G> {
         Ok(first)
     }
 
-    /// Whether the run of an edge on a terminal makes at most as many reductions as are allowed. It is followed where
-    /// what is known doesn't say so.
+    /// Whether the run of an edge on a terminal makes at most the allowed number of reductions. It is followed step by
+    /// step if no summary shows that.
     fn ends_on(
         &self,
         run: Passing,
@@ -145,7 +145,7 @@ impl<A: Rows<TableAction> + Drop, G: Rows<StateNo> + Drop> Listed<'_, A, G> {
     }
 }
 
-/// Whether a run comes before another one, if there is one: by the state below, the state on top, and the terminal.
+/// Whether a run precedes another one, if there is one: by the state below, the state on top, and the terminal.
 fn comes_before(run: Passing, other: Option<Passing>) -> bool
     ensures { IsBefore run other result }
 {
@@ -162,7 +162,7 @@ fn comes_before(run: Passing, other: Option<Passing>) -> bool
     run.token.0 < other.token.0
 }
 
-/// Whether the run of an edge on a terminal makes at most as many reductions as are allowed.
+/// Whether the run of an edge on a terminal makes at most the allowed number of reductions.
 fn edge_ends<A: Rows<TableAction> + Drop, G: Rows<StateNo> + Drop>(
     machine: &MachineView<'_, A, G>,
     below: StateNo,

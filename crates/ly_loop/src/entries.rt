@@ -9,7 +9,7 @@ use std::alloc::Global;
 use std::borrow::CowSlice;
 use std::rc::Rc;
 
-/// What each state does where it isn't its default, in the order of terminals.
+/// The actions of each state, except its default, in the order of terminals.
 pub(crate) fn all_entries<'a, A: Rows<TableAction> + Drop, G: Rows<StateNo> + Drop>(
     alloc: Global,
     machine: &MachineView<'a, A, G>,
@@ -20,7 +20,7 @@ pub(crate) fn all_entries<'a, A: Rows<TableAction> + Drop, G: Rows<StateNo> + Dr
     machine.actions().cells(alloc)
 }
 
-/// Where each state goes, in the order of nonterminals.
+/// The gotos of each state, in the order of nonterminals.
 pub(crate) fn all_gotos<'a, A: Rows<TableAction> + Drop, G: Rows<StateNo> + Drop>(
     alloc: Global,
     machine: &MachineView<'a, A, G>,

@@ -5,20 +5,20 @@ use ly_base::{OutOfMemory, StateNo, Sym};
 use std::alloc::{AllocError, AllocFailed};
 use thiserror::Error;
 
-/// Why tables aren't called steady. Nothing is said of them where memory runs out.
+/// Why tables aren't accepted as steady.
 #[derive(Clone, Copy, Debug, PartialEq, Eq, Error)]
 pub enum LoopFault {
-    /// The run of an edge on a terminal makes more reductions than are allowed. It is the first one.
+    /// The run of an edge on a terminal makes more reductions than are allowed. It is the first such run.
     #[error("a run of the parser makes too many reductions")]
     Endless {
         /// The state below of the edge.
         below: StateNo,
-        /// The state on its top.
+        /// The state on top.
         top: StateNo,
         /// The terminal.
         token: Sym,
     },
-    /// A growth was refused, or there are more states or symbols than their numbers can count.
+    /// Out of memory, or more states or symbols than their numbers can count.
     #[error("out of memory")]
     OutOfMemory,
 }
@@ -26,7 +26,7 @@ pub enum LoopFault {
 impl LoopFault {
     ghost use Rattle.ly_loop.specs.FaultNames.{loop_name, loop_number};
 
-    /// The fault's number; want of memory has none.
+    /// The error's number; none for `OutOfMemory`.
     pub fn number(&self) -> Option<u8>
         ensures { result ≡ loop_number self.now }
     {
@@ -36,7 +36,7 @@ impl LoopFault {
         }
     }
 
-    /// The fault's name.
+    /// The error's name.
     pub fn name(&self) -> &'static str
         ensures { result.now ≡ loop_name self.now }
     {

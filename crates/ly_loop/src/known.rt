@@ -1,4 +1,4 @@
-//! What is known of the runs of edges, each worked out once.
+//! The known outcomes of the runs of edges, each computed once.
 ghost use Rattle.std.specs.Prelude.{◌≡◌, ◌++◌, [], ◌∷◌, IfOk, IfSome, OnOk};
 ghost use Rattle.ly_pack.specs.Machine.{Machine};
 ghost use Rattle.ly_loop.specs.Private.Known.{AreKnown, ArePending, IsNoMore, IsSummaryOf, IsWithinStates};
@@ -28,11 +28,11 @@ pub(crate) struct Edge {
 /// What is known of some runs.
 #[derive(Clone, Copy)]
 pub(crate) enum Lookup {
-    /// What they come to.
+    /// Their outcome.
     Known(Summary),
-    /// Nothing, and it isn't sought.
+    /// Nothing, and it isn't being computed.
     Unknown,
-    /// What the runs of this edge come to has to be known first.
+    /// The outcome of this edge's runs must be computed first.
     Wanted(Edge),
 }
 
@@ -48,26 +48,26 @@ impl Lookup {
     }
 }
 
-/// An edge whose summary is sought.
+/// An edge whose summary is being computed.
 #[derive(Clone, Copy)]
 pub(crate) struct Pending {
     /// The edge.
     pub(crate) edge: Edge,
-    /// So many of the rules of its state on top want no other edge.
+    /// The number of rules of its state on top, from the first on, that need no other edge.
     pub(crate) passed: usize,
 }
 
 /// What is known of edges, on all terminals or on one.
 #[derive(Drop)]
 pub(crate) struct Known {
-    /// What the runs of edges come to.
+    /// The outcomes of the runs of edges.
     pub(crate) summaries: Summaries,
-    /// The edges whose summaries are sought, each for the one before it.
+    /// The edges whose summaries are being computed, each needed by the one before it.
     pub(crate) agenda: Vec<Pending>,
 }
 
 impl Known {
-    /// Nothing is known.
+    /// Without any outcome.
     pub(crate) fn new(alloc: Global) -> Known
         ensures { (m : Machine) → (k : Tokens) → AreKnown m k result.summaries }
     {
@@ -79,8 +79,8 @@ impl Known {
 }
 
 impl<A: Rows<TableAction> + Drop, G: Rows<StateNo> + Drop> Listed<'_, A, G> {
-    /// What the runs of an edge come to, on all terminals or on one, if it can be said. The edges that this takes are
-    /// worked out before.
+    /// The outcome of an edge's runs, on all terminals or on one, if it is defined. The edges that it depends on are
+    /// computed first.
     pub(crate) fn summary_of(
         &self,
         tokens: Tokens,
@@ -103,7 +103,7 @@ impl<A: Rows<TableAction> + Drop, G: Rows<StateNo> + Drop> Listed<'_, A, G> {
         }
     }
 
-    /// Works out an edge, and before it those that this takes.
+    /// Computes the outcome of an edge, and before it those that it depends on.
     fn seek(&self, tokens: Tokens, edge: Edge, known: &mut Known) -> Result<(), OutOfMemory>
         requires tokens { AreThere self.now tokens }
         requires edge { IsWithinStates self.now edge }
@@ -120,7 +120,8 @@ impl<A: Rows<TableAction> + Drop, G: Rows<StateNo> + Drop> Listed<'_, A, G> {
         Ok(())
     }
 
-    /// Works out the last edge on the agenda, or puts one on it that has to be known first. False where none is left.
+    /// Computes the outcome of the last edge on the agenda, or adds one to the agenda that must be computed first.
+    /// Returns false if the agenda is empty.
     fn work(&self, tokens: Tokens, known: &mut Known) -> Result<bool, OutOfMemory>
         requires tokens { AreThere self.now tokens }
         requires known { AreKnown self.now tokens known.old.summaries }
@@ -142,7 +143,7 @@ impl<A: Rows<TableAction> + Drop, G: Rows<StateNo> + Drop> Listed<'_, A, G> {
         Ok(true)
     }
 
-    /// The edge that has to be known before one that is sought, if there is one, and how many rules want none.
+    /// The edge that must be computed before this one, if there is one, and the number of rules that need none.
     fn wanted_for(
         &self,
         tokens: Tokens,
@@ -166,8 +167,7 @@ impl<A: Rows<TableAction> + Drop, G: Rows<StateNo> + Drop> Listed<'_, A, G> {
         }
     }
 
-    /// The first rule, behind those that are passed, by which the runs of an edge come to one that has to be known
-    /// first.
+    /// The first rule, after those already visited, whose runs depend on an edge that must be computed first.
     fn first_wanted(
         &self,
         tokens: Tokens,
@@ -194,7 +194,7 @@ impl<A: Rows<TableAction> + Drop, G: Rows<StateNo> + Drop> Listed<'_, A, G> {
     }
 }
 
-/// Puts an edge on the agenda.
+/// Adds an edge to the agenda.
 fn begin(edge: Edge, known: &mut Known) -> Result<(), OutOfMemory>
     ensures known { OnOk result (IsNoMore known.old.summaries known.new.summaries) }
     ensures agenda { OnOk result

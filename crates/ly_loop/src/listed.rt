@@ -3,14 +3,15 @@ use ly_pack::{Cell, MachineView, Rows, TableAction};
 use std::marker::Model;
 use std::rc::Rc;
 
-/// A machine whose states and symbols can be counted by their numbers, with what its states do in lists.
+/// A machine whose states and symbols can be counted by their numbers, with the actions and gotos of its states in
+/// lists.
 #[derive(Drop)]
 pub(crate) struct Listed<'a, A: Rows<TableAction> + Drop, G: Rows<StateNo> + Drop> {
     /// The machine.
     pub(crate) machine: &'a MachineView<'a, A, G>,
-    /// What each state does where it isn't its default.
+    /// The actions of each state, except its default.
     pub(crate) entries: &'a [Rc<Vec<Cell<TableAction>>>],
-    /// Where each state goes.
+    /// The gotos of each state.
     pub(crate) gotos: &'a [Rc<Vec<Cell<StateNo>>>],
     /// The rules by which each state reduces.
     pub(crate) reductions: &'a [Vec<RuleNo>],

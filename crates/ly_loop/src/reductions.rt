@@ -1,4 +1,4 @@
-//! The rules by which states reduce: above an edge to a state that has none no run makes a reduction.
+//! The rules by which states reduce. Above an edge to a state without any, no run makes a reduction.
 ghost use Rattle.std.specs.Prelude.{◌≡◌, ◌+◌, ◌<◌, IfOk, OnOk, length};
 ghost use Rattle.ly_pack.specs.Machine.{IsRuleNumber, states_of};
 ghost use Rattle.ly_loop.specs.Private.Entries.{AreAllEntries, AreEntries};
@@ -12,11 +12,11 @@ use std::alloc::Global;
 use std::collections::BTreeMap;
 use std::rc::Rc;
 
-/// Rules that are kept, by their left sides and how many symbols they have.
+/// The stored rules, by their left sides and lengths.
 type Alike = BTreeMap<(u32, usize), RuleNo>;
 
-/// The rules by which each state reduces before some terminal, by its entries or by its default, but for those by which
-/// a run ends at once, and those that say the same as another.
+/// The rules by which each state reduces before some terminal, by its entries or by its default. Rules by which a run
+/// ends at once are left out, and so are those with the same effect as another.
 pub(crate) fn all_reductions<A: Rows<TableAction> + Drop, G: Rows<StateNo> + Drop>(
     alloc: Global,
     machine: &MachineView<'_, A, G>,
@@ -37,7 +37,7 @@ pub(crate) fn all_reductions<A: Rows<TableAction> + Drop, G: Rows<StateNo> + Dro
     Ok(rows)
 }
 
-/// The rules by which a state with these entries reduces, each once. The set of those that were seen is room alone.
+/// The rules by which a state with these entries reduces, each once. `seen` is a scratch buffer.
 fn reductions<A: Rows<TableAction> + Drop, G: Rows<StateNo> + Drop>(
     alloc: Global,
     machine: &MachineView<'_, A, G>,
@@ -65,7 +65,7 @@ fn reductions<A: Rows<TableAction> + Drop, G: Rows<StateNo> + Drop>(
     Ok(row)
 }
 
-/// Those of the rules by which a state reduces that may lead on, and one of those that say the same.
+/// Those of the rules of a state by which a run may continue, one for each effect.
 fn without_ends<A: Rows<TableAction> + Drop, G: Rows<StateNo> + Drop>(
     alloc: Global,
     machine: &MachineView<'_, A, G>,
@@ -85,8 +85,8 @@ fn without_ends<A: Rows<TableAction> + Drop, G: Rows<StateNo> + Drop>(
     Ok(kept)
 }
 
-/// Adds a rule by which a state reduces to a row if it may lead on: it has symbols, or the state has a goto for its
-/// left side. A rule of the row that has this left side and as many symbols says the same.
+/// Adds a rule of a state to a row if a run may continue by it: it has symbols, or the state has a goto for its left
+/// side. A rule with the same left side and length as one in the row has the same effect.
 fn keep<A: Rows<TableAction> + Drop, G: Rows<StateNo> + Drop>(
     machine: &MachineView<'_, A, G>,
     state: StateNo,
@@ -113,7 +113,7 @@ fn keep<A: Rows<TableAction> + Drop, G: Rows<StateNo> + Drop>(
     Ok(())
 }
 
-/// Adds a rule to a row if it wasn't seen before.
+/// Adds a rule to a row if it hasn't been seen.
 fn note(rule: RuleNo, seen: &mut SparseSet, row: &mut Vec<RuleNo>) -> Result<(), OutOfMemory>
     requires { rule.0 < seen.old.below }
     ensures room { OnOk result (seen.new.below ≡ seen.old.below) }

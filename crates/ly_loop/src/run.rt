@@ -6,11 +6,11 @@ ghost use Rattle.ly_loop.specs.Private.Run.{AreStates, EndsAs, IsCountable, Make
 use ly_base::{OutOfMemory, RuleNo, StateNo, Sym};
 use ly_pack::{MachineView, Rows, TableAction};
 
-/// How many reductions a run may make.
+/// The number of reductions that a run may make.
 pub(crate) const RUN_BOUND: usize = 100_000;
 
-/// Reduces by a rule on a stack of states, its top last. False where the run ends by it, for a goto is missing or the
-/// body goes past the bottom.
+/// Reduces by a rule on a stack of states, its top last. Returns false if the run ends there, because a goto is missing
+/// or the body extends past the bottom.
 pub(crate) fn reduce<A: Rows<TableAction> + Drop, G: Rows<StateNo> + Drop>(
     machine: &MachineView<'_, A, G>,
     rule: RuleNo,
@@ -38,7 +38,7 @@ pub(crate) fn reduce<A: Rows<TableAction> + Drop, G: Rows<StateNo> + Drop>(
     Ok(true)
 }
 
-/// Whether the run on a terminal from a stack makes at most so many reductions.
+/// Whether the run on a terminal from a stack makes at most this many reductions.
 pub(crate) fn ends_within<A: Rows<TableAction> + Drop, G: Rows<StateNo> + Drop>(
     machine: &MachineView<'_, A, G>,
     token: Sym,

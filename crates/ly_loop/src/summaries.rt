@@ -1,6 +1,5 @@
-//! What is known of the runs of edges. Those above one state are gone through together, and are kept by themselves:
-//! what is known of them is given up when the next state comes, since of others only those are sought above an empty
-//! rule.
+//! The known outcomes of the runs of edges. Those above one state are computed together and stored separately. They are
+//! dropped when the next state begins, because of other edges only those above an empty rule are needed.
 ghost use Rattle.std.specs.Prelude.{◌≡◌, ◌⊎◌, OnOk};
 ghost use Rattle.ly_pack.specs.Machine.{Machine};
 ghost use Rattle.ly_loop.specs.Private.Known.{AreKnown, IsNoMore, IsPut};
@@ -12,13 +11,13 @@ use ly_base::{OutOfMemory, StateNo};
 use std::alloc::Global;
 use std::collections::BTreeMap;
 
-/// What the runs of an edge come to, by the numbers of its states. Nothing where it is sought, or can't be said.
+/// The outcome of an edge's runs, by the numbers of its states. None if it is being computed or undefined.
 type Kept = BTreeMap<(u32, u32), Option<Summary>>;
 
 /// What is known of edges.
 #[derive(Drop)]
 pub(crate) struct Summaries {
-    /// The state whose edges are gone through.
+    /// The state whose edges are being checked.
     below: StateNo,
     /// What is known of the edges above it.
     own: Kept,
@@ -27,7 +26,7 @@ pub(crate) struct Summaries {
 }
 
 impl Summaries {
-    /// Nothing is known.
+    /// Without any outcome.
     pub(crate) fn new(alloc: Global) -> Summaries
         ensures { (m : Machine) → (k : Tokens) → AreKnown m k result }
     {
@@ -38,7 +37,7 @@ impl Summaries {
         }
     }
 
-    /// Goes on to the edges above a state.
+    /// Moves on to the edges above this state.
     pub(crate) fn turn_to(&mut self, below: StateNo)
         ensures { IsNoMore self.old self.new }
     {
@@ -46,7 +45,7 @@ impl Summaries {
         self.own.clear();
     }
 
-    /// What is known of the edges above a state, or of more.
+    /// The map that holds what is known of the edges above a state.
     pub(crate) fn above(&self, below: StateNo) -> &Kept
         ensures { (result.now ≡ self.now.own) ⊎ (result.now ≡ self.now.others) }
     {
@@ -57,7 +56,7 @@ impl Summaries {
         }
     }
 
-    /// Keeps what the runs of an edge come to, or that it is sought, or can't be said.
+    /// Stores the outcome of an edge's runs, or that it is being computed or undefined.
     pub(crate) fn keep(&mut self, edge: Edge, found: Option<Summary>) -> Result<(), OutOfMemory>
         ensures { OnOk result (IsPut self.old self.new edge found) }
     {

@@ -1,4 +1,4 @@
-//! What the runs of an edge come to, whatever the terminal: how many reductions they make at most, and how they end.
+//! The outcome of an edge's runs over all terminals: the maximum number of reductions, and how they end.
 ghost use Rattle.ly_pack.specs.Machine.{Machine};
 ghost use Rattle.ly_loop.specs.Private.Summary.{IsJoined, IsOneOf, IsWider};
 
@@ -7,30 +7,30 @@ use ly_base::Sym;
 /// How the runs of an edge end.
 #[derive(Clone, Copy)]
 pub(crate) enum Ending {
-    /// None of them takes the state below away.
+    /// None of them pops the state below.
     Over,
-    /// Those that take it away do so by reductions alike.
+    /// Those that pop it do so by reductions with the same effect.
     Leaves {
-        /// How many states below it such a reduction takes away as well.
+        /// The number of states below it that such a reduction pops as well.
         rest: usize,
         /// The left side of its rule.
         left: Sym,
     },
-    /// They may take it away by reductions that differ.
+    /// They may pop it by reductions with different effects.
     Mixed,
 }
 
-/// What the runs of an edge come to, on whatever terminal.
+/// The outcome of an edge's runs, over all terminals.
 #[derive(Clone, Copy)]
 pub(crate) struct Summary {
-    /// None of them makes more reductions. It is no more than are allowed.
+    /// The maximum number of reductions that one of them makes. It is at most the allowed number.
     pub(crate) most: usize,
     /// How they end.
     pub(crate) ending: Ending,
 }
 
 impl Summary {
-    /// What runs come to of which each comes to one of both.
+    /// The outcome of runs that each have one of both outcomes.
     #[inline(always)]
     pub(crate) fn joined(self, other: Summary) -> Summary
         ensures { (m : Machine) → IsJoined m self other result }
@@ -42,7 +42,7 @@ impl Summary {
     }
 }
 
-/// How runs end that end in one of two ways.
+/// How runs end that each end in one of two ways.
 #[inline(always)]
 fn joined(one: Ending, other: Ending) -> Ending
     ensures first { IsWider one result }

@@ -1,10 +1,10 @@
 use ly_base::Sym;
 
-/// On which terminals runs are looked at.
+/// The terminals for which runs are computed.
 #[derive(Clone, Copy)]
 pub(crate) enum Tokens {
-    /// On all, of which the same is said.
+    /// All terminals together.
     All,
-    /// On one.
+    /// One terminal.
     One(Sym),
 }

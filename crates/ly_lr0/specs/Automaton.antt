@@ -1,4 +1,4 @@
--- The LR(0) automaton of a grammar: states for the cores of viable strings (Knuth 1965; DeRemer 1971). Strings of
+-- The LR(0) automaton of a grammar: states for the cores of viable prefixes (Knuth 1965; DeRemer 1971). Strings of
 -- symbols have their last symbol first.
 use Rattle.std.specs.Prelude.{◌≡◌, ◌↔◌, ◌⊎◌, ℕ, ◌<◌, List, [], ◌∷◌, Bool, false, true, Option, Some, None}
 use Rattle.std.specs.Prelude.{option_and_then}
@@ -23,7 +23,7 @@ pub record Lr0Automaton : Type 0 where
   pub grammar : Grammar
   pub states : List State
 
--- where states lead: by a state's number and a symbol to a state's number
+-- the transition function: from a state's number and a symbol to a state's number
 abbrev pub Gotos : Type 0
 Gotos = ℕ → Symbol → Option ℕ
 
@@ -46,12 +46,12 @@ is_shift t = is_terminal t.symbol
 abbrev pub is_goto : Transition → Bool
 is_goto t = not (is_terminal t.symbol)
 
--- where the first of the transitions over a symbol leads
+-- the target of the first of the transitions over a symbol
 abbrev pub target_of : List Transition → Symbol → Option ℕ
 target_of [] X = None
 target_of (t ∷ ts) X = if symbol_eq t.symbol X then Some t.target else target_of ts X
 
--- where the states of an automaton lead
+-- the transition function of an automaton
 abbrev pub goto_of : Lr0Automaton → Gotos
 goto_of M q X = option_and_then (λ s. target_of s.transitions X) (slice_get M.states q)
 
@@ -60,8 +60,8 @@ abbrev pub Reaches : Gotos → ℕ → List Symbol → ℕ → Type 0
 Reaches goto q [] s = s ≡ q
 Reaches goto q (X ∷ w) s = (r : ℕ) × Reaches goto q w r × (goto r X ≡ Some s)
 
--- One state for each core of a viable string: from state 0 a string leads somewhere exactly where it is viable, and
--- two strings lead to one state exactly where they have the same core.
+-- One state for each core of a viable prefix: from state 0 a string leads somewhere exactly if it is viable, and two
+-- strings lead to the same state exactly if they have the same core.
 pub record HasCores (G : Grammar) (goto : Gotos) : Type 0 where
   pub has : (g : List Symbol) → IsViable G g → (s : ℕ) × Reaches goto 0 g s
   pub only : (g : List Symbol) (s : ℕ) → Reaches goto 0 g s → IsViable G g
@@ -82,7 +82,7 @@ ComesBefore g [] = ⊥
 ComesBefore [] (Y ∷ h) = Unit {0}
 ComesBefore (X ∷ g) (Y ∷ h) = ComesBefore g h ⊎ ((g ≡ h) × IsLess X Y)
 
--- the state of a number
+-- the state with this number
 abbrev pub state_at : Lr0Automaton → ℕ → State
 state_at M s = slice_index_or M.states s (record { prefix = []; transitions = []; complete = [] })
 
@@ -97,7 +97,7 @@ pub record AreNumbered (M : Lr0Automaton) : Type 0 where
       → (g ≡ prefix_of M s) ⊎ ComesBefore (prefix_of M s) g
   pub rising : (s t : ℕ) → s < t → t < length M.states → ComesBefore (prefix_of M s) (prefix_of M t)
 
--- The state has its transitions in the order of their symbols, and the rules that are complete in it, rising.
+-- The transitions of the state are in the order of their symbols, and the rules complete in it in rising order.
 pub record IsState (G : Grammar) (count : ℕ) (s : State) : Type 0 where
   pub ordered : AllPairs (λ t u. IsLess t.symbol u.symbol) s.transitions
   pub within : (t : Transition) → Contains s.transitions t → t.target < count
@@ -113,6 +113,6 @@ pub record IsLr0Automaton (M : Lr0Automaton) : Type 0 where
   pub numbered : AreNumbered M
   pub each : (s : ℕ) (q : State) → slice_get M.states s ≡ Some q → IsState M.grammar (length M.states) q
 
--- An item of the rule with its dot behind so many symbols is one of the string's core.
+-- The item of the rule with its dot after this many symbols is in the string's core.
 abbrev pub HasInCore : Grammar → List Symbol → ℕ → ℕ → Type 0
 HasInCore G g p d = (before after : List Symbol) × InCore G g p before after × (length before ≡ d)

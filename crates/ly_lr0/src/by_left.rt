@@ -6,10 +6,10 @@ use ly_grammar::Reduced;
 use std::alloc::{AllocError, Global};
 use std::marker::Model;
 
-/// The rules of a reduced grammar by their left sides.
+/// The rules of a reduced grammar, by left side.
 #[derive(Drop)]
 pub(crate) struct RulesByLeft {
-    /// For each nonterminal its rules.
+    /// For each nonterminal, its rules.
     lists: Vec<Vec<usize>>,
 }
 
@@ -21,7 +21,7 @@ impl Model for RulesByLeft {
     ghost view = { λ w. map (λ rules. rules.items) w.lists.items };
 }
 
-/// The rules that are kept, by their left sides.
+/// The kept rules, by left side.
 pub(crate) fn rules_by_left(alloc: Global, reduced: &Reduced<'_>) -> Result<RulesByLeft, AllocError>
     ensures { IfOk result (AreByLeft reduced.now.grammar) }
 {
@@ -36,7 +36,7 @@ pub(crate) fn rules_by_left(alloc: Global, reduced: &Reduced<'_>) -> Result<Rule
 }
 
 impl RulesByLeft {
-    /// No rules for any of so many nonterminals.
+    /// Lists for this many nonterminals, without rules.
     fn new(alloc: Global, nonterminals: usize) -> Result<Self, AllocError>
         ensures { IfOk result (λ w. w ≡ replicate nonterminals []) }
     {

@@ -14,7 +14,7 @@ use ly_grammar::Reduced;
 use ly_join::Symbol;
 use std::alloc::{AllocError, Global};
 
-/// The symbol behind an item's dot and the item behind it, if the dot isn't at the end.
+/// The symbol after an item's dot and the item with the dot after it, if the dot isn't at the end.
 pub(crate) fn move_of(reduced: &Reduced<'_>, item: Item) -> Option<Move>
     requires { IsKept reduced.now.grammar item.rule }
     ensures behind { MatchOption result (IsAtEnd reduced.now.grammar item) (IsMove reduced.now.grammar item) }
@@ -32,7 +32,7 @@ pub(crate) fn move_of(reduced: &Reduced<'_>, item: Item) -> Option<Move>
     })
 }
 
-/// Enters the nonterminal behind the dot of an item, if there is one.
+/// Adds the nonterminal after the dot of an item to `entered`, if there is one.
 fn enter(reduced: &Reduced<'_>, item: Item, entered: &mut SparseSet)
     requires kept { IsKept reduced.now.grammar item.rule }
     requires room { reduced.now.grammar.accept < entered.old.below }
@@ -45,7 +45,7 @@ fn enter(reduced: &Reduced<'_>, item: Item, entered: &mut SparseSet)
     }
 }
 
-/// Enters the nonterminals that rules begin with.
+/// Adds the nonterminals at the front of rules to `entered`.
 fn enter_rules(reduced: &Reduced<'_>, rules: &[usize], entered: &mut SparseSet)
     requires kept { (q : ℕ) → Contains rules.now q → IsKept reduced.now.grammar q }
     requires room { reduced.now.grammar.accept < entered.old.below }
@@ -56,8 +56,8 @@ fn enter_rules(reduced: &Reduced<'_>, rules: &[usize], entered: &mut SparseSet)
     }
 }
 
-/// Enters the nonterminals that stand behind dots of a kernel, and those that rules of entered ones begin with. The
-/// rules of each are looked at once.
+/// Adds the nonterminals after the dots of a kernel to `entered`, and those at the front of the rules of entered ones.
+/// The rules of each nonterminal are visited once.
 pub(crate) fn close(
     reduced: &Reduced<'_>,
     by_left: &RulesByLeft,
@@ -82,7 +82,7 @@ pub(crate) fn close(
     }
 }
 
-/// Lists the rules of the nonterminals that were entered, with nothing before their dots.
+/// Lists the rules of the entered nonterminals, with the dot at the front.
 pub(crate) fn list_items(
     by_left: &RulesByLeft,
     entered: &[u32],
@@ -100,7 +100,7 @@ pub(crate) fn list_items(
     Ok(())
 }
 
-/// Lists what items move to, but over the end, and other moves that are known, in the order of symbols, rules and dots.
+/// Lists the moves of items, except those over the end, and other known moves, in the order of symbols, rules and dots.
 pub(crate) fn list_moves(
     reduced: &Reduced<'_>,
     items: &[Item],
@@ -113,7 +113,7 @@ pub(crate) fn list_moves(
     ensures rising { OnOk result (AllPairs MoveIsLess moves.new.items) }
 {
     moves.clear();
-    // Dots of a kernel mostly stand before nonterminals, which come behind terminals: so moves are nearly sorted.
+    // Dots of a kernel are mostly before nonterminals, which come after terminals: so the moves are nearly sorted.
     for step in known {
         moves.push(*step)?;
     }
@@ -139,7 +139,7 @@ fn is_end(symbol: Symbol) -> bool
     }
 }
 
-/// Lists the rules of the items whose dots are at the end, and others that are known, rising.
+/// Lists the rules of the items whose dots are at the end, and other known complete rules, in rising order.
 pub(crate) fn complete_rules(
     alloc: Global,
     reduced: &Reduced<'_>,

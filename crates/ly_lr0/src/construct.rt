@@ -16,10 +16,9 @@ use ly_grammar::Reduced;
 use std::alloc::Global;
 use std::mem::swap;
 
-/// The LR(0) automaton of a reduced grammar.
+/// Builds the LR(0) automaton of a reduced grammar.
 ///
-/// `TooManyStates` comes where the cores of viable strings are more than the limit, `OutOfMemory` where a growth was
-/// refused.
+/// `TooManyStates` if there are more cores of viable prefixes than the limit, `OutOfMemory` if an allocation fails.
 pub fn automaton<'a>(
     alloc: Global,
     reduced: &'a Reduced<'a>,
@@ -44,25 +43,25 @@ pub fn automaton<'a>(
     })
 }
 
-/// The automaton as far as it is made, and the room in which its next row is.
+/// The automaton built so far, and the buffers for its next row.
 #[derive(Drop)]
 pub(crate) struct Construction<'a> {
-    /// The kernels that were found, and the rows of the first of them.
+    /// The kernels found so far, and the rows of the first of them.
     pub(crate) found: Found<'a>,
     /// The rules by their left sides.
     pub(crate) by_left: RulesByLeft,
-    /// Room for the nonterminals that a row's kernel closes to.
+    /// Buffer for the nonterminals that a row's kernel closes to.
     pub(crate) entered: SparseSet,
     /// The nonkernel items of the last row.
     pub(crate) nonkernel: Nonkernel,
-    /// Room for the moves of the next row.
+    /// Buffer for the moves of the next row.
     pub(crate) moves: Vec<Move>,
     /// The moves of the last row.
     pub(crate) before: Vec<Move>,
 }
 
 impl<'a> Construction<'a> {
-    /// The kernel of the start and no row.
+    /// The kernel of the start state, and no row.
     fn start(alloc: Global, reduced: &'a Reduced<'a>, limit: u32) -> Result<Self, Lr0Fault>
         ensures made { IfOk result IsConstruction }
         ensures reduced { IfOk result (λ c. c.found.reduced.now ≡ reduced.now) }
@@ -81,7 +80,7 @@ impl<'a> Construction<'a> {
         })
     }
 
-    /// Makes the row of the first kernel that has none.
+    /// Adds the row of the first kernel that has none.
     fn push_row(&mut self) -> Result<(), Lr0Fault>
         requires made { IsConstruction self.old }
         requires next { length self.old.found.rows.items < length self.old.found.kernels }

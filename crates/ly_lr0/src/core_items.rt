@@ -16,9 +16,9 @@ use ly_join::Symbol;
 use std::alloc::{AllocError, Global};
 
 impl Lr0<'_> {
-    /// The items of a state, without lookaheads: those of the core of the strings that lead there.
+    /// The items of a state, without lookaheads: the core of the strings that lead there.
     ///
-    /// `OutOfMemory` comes where a growth was refused.
+    /// `OutOfMemory` if an allocation fails.
     pub fn core(&self, alloc: Global, state: StateNo) -> Result<Vec<Item>, OutOfMemory>
         requires { state.0 < length self.now.states }
         ensures { IfOk result (λ items. (i : spec.Item)
@@ -37,7 +37,7 @@ impl Lr0<'_> {
     }
 }
 
-/// The items that a kernel closes to, its own first.
+/// The closure of a kernel, its own items first.
 fn closed(
     alloc: Global,
     reduced: &Reduced<'_>,
@@ -58,7 +58,7 @@ fn closed(
     Ok(items)
 }
 
-/// What items move to over a symbol.
+/// The items that others move to over a symbol.
 fn kernel_behind(
     alloc: Global,
     reduced: &Reduced<'_>,

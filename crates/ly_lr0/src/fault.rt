@@ -5,13 +5,13 @@ use ly_base::OutOfMemory;
 use std::alloc::{AllocError, AllocFailed};
 use thiserror::Error;
 
-/// Why a grammar gets no automaton. Nothing is handed out then.
+/// Why a grammar gets no automaton.
 #[derive(Clone, Copy, Debug, PartialEq, Eq, Error)]
 pub enum Lr0Fault {
-    /// The cores of viable strings are more than the limit.
+    /// There are more cores of viable prefixes than the limit.
     #[error("the parser has too many states")]
     TooManyStates,
-    /// A growth was refused.
+    /// Out of memory.
     #[error("out of memory")]
     OutOfMemory,
 }
@@ -19,7 +19,7 @@ pub enum Lr0Fault {
 impl Lr0Fault {
     ghost use Rattle.ly_lr0.specs.FaultNames.{lr0_name, lr0_number};
 
-    /// The fault's number; want of memory has none.
+    /// The error's number; none for `OutOfMemory`.
     pub fn number(&self) -> Option<u8>
         ensures { result ≡ lr0_number self.now }
     {
@@ -29,7 +29,7 @@ impl Lr0Fault {
         }
     }
 
-    /// The fault's name.
+    /// The error's name.
     pub fn name(&self) -> &'static str
         ensures { result.now ≡ lr0_name self.now }
     {

@@ -23,27 +23,27 @@ use ly_join::Symbol;
 use std::alloc::{AllocError, Global};
 use std::cmp::min;
 
-/// The kernels that were found, and the rows of the first of them.
+/// The kernels found so far, and the rows of the first of them.
 #[derive(Drop)]
 pub(crate) struct Found<'a> {
-    /// Where room comes from.
+    /// The allocator.
     pub(crate) alloc: Global,
     /// The grammar.
     pub(crate) reduced: &'a Reduced<'a>,
-    /// How many states there may be.
+    /// The greatest number of states allowed.
     pub(crate) limit: u32,
-    /// The kernels, by the numbers of their states.
+    /// The kernels, by state number.
     pub(crate) kernels: Kernels,
-    /// By which link each state but the first was found.
+    /// For each state but the first, the link by which it was found.
     pub(crate) links: Vec<Link>,
-    /// The rows that are done.
+    /// The finished rows.
     pub(crate) rows: Vec<Row>,
-    /// All transitions of the last of them, and none before the first.
+    /// All transitions of the last finished row; none before the first.
     pub(crate) last: Vec<Transition>,
 }
 
 impl<'a> Found<'a> {
-    /// The kernel of the start alone: rule 0 with nothing before its dot.
+    /// The kernel of the start state: rule 0 with the dot at the front.
     pub(crate) fn start(
         alloc: Global,
         reduced: &'a Reduced<'a>,
@@ -75,8 +75,8 @@ impl<'a> Found<'a> {
         })
     }
 
-    /// The transitions of the next row, by the moves of its kernel and those of the state before. Kernels that weren't
-    /// found before get the next numbers. Where both states begin with the same moves, these lead to the same states.
+    /// The transitions of the next row, from the moves of its kernel and those of the state before. New kernels get the
+    /// next numbers. If the moves of both states begin alike, these lead to the same states.
     pub(crate) fn successors(
         &mut self,
         moves: &[Move],
@@ -115,8 +115,8 @@ impl<'a> Found<'a> {
         Ok(transitions)
     }
 
-    /// The next row as far as it is the last one's: the transitions over the symbols before that of the move at a
-    /// place, and none before the first.
+    /// The part of the next row that equals the last row: the transitions over the symbols before that of the move at
+    /// this index; none before the first.
     fn begun_row(&self, moves: &[Move], at: usize) -> Result<Vec<Transition>, AllocError>
         requires found { IsFound self.now }
         requires at { 0 < at → at < length moves.now }
@@ -133,7 +133,7 @@ impl<'a> Found<'a> {
         Ok(transitions)
     }
 
-    /// The transitions of the last row over the symbols before one.
+    /// The transitions of the last row over the symbols before this one.
     fn last_before(&self, symbol: Symbol) -> &[Transition]
         requires { IsFound self.now }
         ensures { IsLastRowBefore self.now (symbol_of symbol) (map transition_of result.now) }
@@ -142,8 +142,8 @@ impl<'a> Found<'a> {
         &transitions[..place_of(transitions, symbol)]
     }
 
-    /// Where a symbol led from the state before, since it mostly leads there again. Its transition is looked for from a
-    /// place on, so symbols that rise are found in one walk. Nothing rests on the answer: the kernel is compared.
+    /// The state to which a symbol led from the state before, because it mostly leads there again. Its transition is
+    /// searched from `place` on, so rising symbols are found in one pass. This is only a hint: the kernel is compared.
     fn hint(&self, symbol: Symbol, place: &mut usize) -> Option<StateNo> {
         let transitions: &[Transition] = &self.last;
         while *place < transitions.len() && comes_before(transitions[*place].symbol, symbol) {
@@ -157,8 +157,8 @@ impl<'a> Found<'a> {
         Some(near.target)
     }
 
-    /// The state of a kernel, by the moves that lead to its items. It is first compared with that of the hint; else the
-    /// items are listed.
+    /// The state of the kernel that these moves lead to. The kernel is compared with that of the hint first; only then
+    /// are the items listed.
     fn target(
         &mut self,
         moves: &[Move],
@@ -185,7 +185,7 @@ impl<'a> Found<'a> {
         self.number(kernel, link)
     }
 
-    /// Whether a state was found whose kernel has the items of these moves.
+    /// Whether the state has been found and its kernel consists of the items of these moves.
     fn has_kernel(&self, state: StateNo, moves: &[Move]) -> bool
         ensures { IsTrue result → (state.0 < length self.now.kernels)
             × (kernel_at self.now.kernels state.0 ≡ map (λ m. m.item) moves.now) }
@@ -194,7 +194,7 @@ impl<'a> Found<'a> {
         number < self.kernels.len() && are_items_of(self.kernels.kernel(number), moves)
     }
 
-    /// The number of a kernel, which gets the next one where it is new.
+    /// The number of a kernel. A new one gets the next number.
     fn number(&mut self, kernel: &[Item], link: Link) -> Result<StateNo, Lr0Fault>
         requires { length self.old.kernels ≤ self.old.limit }
         ensures numbered { IfOk result (λ s. IsNumbered self.old.kernels (links_of self.old) kernel.now (link_of link)
@@ -220,8 +220,8 @@ impl<'a> Found<'a> {
     }
 }
 
-/// Where the moves over the last of the symbols begin over which two lists begin with the same moves. All moves before
-/// it are the same, and the one there.
+/// The start of the last run of moves over one symbol at which two lists still agree. All moves before it are equal,
+/// and so is the one there.
 fn shared_moves(moves: &[Move], before: &[Move]) -> usize
     ensures { 0 < result → IsShared moves.now before.now result }
 {
@@ -237,7 +237,7 @@ fn shared_moves(moves: &[Move], before: &[Move]) -> usize
     at
 }
 
-/// Where the moves over the symbol of the one at a place end.
+/// The end of the run of moves over the same symbol as the one at this index.
 fn group_end(moves: &[Move], at: usize) -> usize
     requires { at < length moves.now }
     ensures { IsGroupEnd moves.now at result }
@@ -261,7 +261,7 @@ fn items_of(moves: &[Move], items: &mut Vec<Item>) -> Result<(), AllocError>
     Ok(())
 }
 
-/// Whether a kernel has the items of moves, in their order.
+/// Whether a kernel consists of the items of moves, in their order.
 fn are_items_of(kernel: &[Item], moves: &[Move]) -> bool
     ensures { IsTrue result → kernel.now ≡ map (λ m. m.item) moves.now }
 {

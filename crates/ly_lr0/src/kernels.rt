@@ -6,7 +6,7 @@ use indexmap::IndexSet;
 use std::alloc::{AllocError, Global};
 use std::marker::Model;
 
-/// Kernels of states, numbered in the order in which they came and looked up by a hash.
+/// Kernels of states, numbered in the order in which they are added, and looked up by a hash.
 #[derive(Drop)]
 pub(crate) struct Kernels {
     /// The kernels.
@@ -32,14 +32,14 @@ impl Kernels {
         }
     }
 
-    /// How many kernels there are.
+    /// The number of kernels.
     pub(crate) fn len(&self) -> usize
         ensures { result ≡ length self.now }
     {
         self.kernels.len()
     }
 
-    /// The kernel of a number.
+    /// The kernel with this number.
     pub(crate) fn kernel(&self, number: usize) -> &[Item]
         requires { number < length self.now }
         ensures { result.now ≡ slice_index_or self.now number [] }
@@ -50,7 +50,7 @@ impl Kernels {
         }
     }
 
-    /// The number of a kernel, if it is there.
+    /// The number of a kernel, if it has been added.
     pub(crate) fn find(&self, kernel: &[Item]) -> Option<usize>
         ensures { MatchOption result (IsAbsent self.now kernel.now)
             (λ n. (n < length self.now) × (slice_index_or self.now n [] ≡ kernel.now)) }
@@ -58,7 +58,7 @@ impl Kernels {
         self.kernels.get_index_of(kernel)
     }
 
-    /// Adds a kernel that isn't there, with the next number.
+    /// Adds a new kernel, with the next number.
     pub(crate) fn push(&mut self, kernel: Vec<Item>) -> Result<(), AllocError>
         requires { IsAbsent self.old kernel.items }
         ensures { OnOk result (self.new ≡ self.old ++ kernel.items ∷ []) }

@@ -20,9 +20,9 @@ use std::marker::Model;
 pub struct Lr0<'a> {
     /// The grammar.
     pub(crate) reduced: &'a Reduced<'a>,
-    /// For each state but the first, how its prefix ends.
+    /// For each state but the first, the last step of its prefix.
     pub(crate) links: Vec<Link>,
-    /// What leaves each state, and what is complete in it.
+    /// The transitions of each state, and the rules complete in it.
     pub(crate) rows: Vec<Row>,
     /// The rules of each nonterminal.
     pub(crate) by_left: RulesByLeft,
@@ -51,7 +51,7 @@ impl<'a> Lr0<'a> {
         self.reduced
     }
 
-    /// How many states there are.
+    /// The number of states.
     pub fn states(&self) -> usize
         ensures count { result ≡ length self.now.states }
         ensures few { result ≤ 4294967295 }
@@ -76,7 +76,7 @@ impl<'a> Lr0<'a> {
         &self.rows[state.0 as usize].gotos
     }
 
-    /// Where a symbol leads from a state.
+    /// The target of a symbol's transition from a state.
     pub fn goto(&self, state: StateNo, symbol: Symbol) -> Option<StateNo>
         requires { state.0 < length self.now.states }
         ensures { option_map (λ s. s.0) result ≡ goto_of self.now state.0 (symbol_of symbol) }
@@ -85,10 +85,10 @@ impl<'a> Lr0<'a> {
         target_at(transitions, place_of(transitions, symbol), symbol)
     }
 
-    /// Where a symbol leads from a state. Its transition is looked for at an index of those of the state over its kind
-    /// of symbols, and by a search if it isn't there; then the index is the one behind it. So symbols of one kind that
-    /// rise are found without a search.
-    #[inline(always)] // it is asked for each state and symbol
+    /// The target of a symbol's transition from a state. `index` is a hint among the transitions over the symbol's
+    /// kind: that transition is tried first, and if it isn't the right one, a search follows. After the call, `index`
+    /// is one past the transition found. So rising symbols of one kind are found without a search.
+    #[inline(always)] // called for each state and symbol
     pub fn goto_near(&self, state: StateNo, symbol: Symbol, index: &mut usize) -> Option<StateNo>
         requires { state.0 < length self.now.states }
         ensures { option_map (λ s. s.0) result ≡ goto_of self.now state.0 (symbol_of symbol) }
@@ -104,7 +104,7 @@ impl<'a> Lr0<'a> {
         found
     }
 
-    /// The transitions of a state over symbols of a symbol's kind, in their order.
+    /// The transitions of a state over the same kind of symbols as this one, in their order.
     fn row_over(&self, state: StateNo, symbol: Symbol) -> &[Transition]
         requires { state.0 < length self.now.states }
         ensures ordered { AreInOrder (map transition_of result.now) }
@@ -118,7 +118,7 @@ impl<'a> Lr0<'a> {
         }
     }
 
-    /// The numbers of the rules that are complete in a state, rising.
+    /// The numbers of the rules that are complete in a state, in rising order.
     pub fn complete(&self, state: StateNo) -> &[usize]
         requires { state.0 < length self.now.states }
         ensures { result.now ≡ (state_at self.now state.0).complete }
@@ -126,8 +126,8 @@ impl<'a> Lr0<'a> {
         &self.rows[state.0 as usize].complete
     }
 
-    /// The symbol of all transitions that lead to a state, which is the last one of the strings that lead there (its
-    /// accessing symbol); none of the first state, to which only the empty string leads.
+    /// The accessing symbol of a state: the symbol of all transitions to it, which is the last of each string that
+    /// leads there. None for the first state, to which only the empty string leads.
     pub fn accessing_symbol(&self, state: StateNo) -> Option<Symbol>
         requires { state.0 < length self.now.states }
         ensures last { option_map symbol_of result ≡ slice_get (prefix_of self.now state.0) 0 }
@@ -139,7 +139,7 @@ impl<'a> Lr0<'a> {
         Some(links[before].symbol)
     }
 
-    /// The numbers of a nonterminal's rules.
+    /// The numbers of the rules of a nonterminal.
     pub fn rules_of(&self, symbol: Sym) -> &[usize]
         requires { symbol.0 ≤ self.now.grammar.accept }
         ensures { (q : ℕ) → Contains result.now q
@@ -164,7 +164,8 @@ impl<'a> Lr0<'a> {
     }
 }
 
-/// The place of a symbol's transition among others in the order of their symbols, or where it would stand.
+/// The index of a symbol's transition among others in the order of their symbols, or the index where it would be
+/// inserted.
 pub(crate) fn place_of(transitions: &[Transition], symbol: Symbol) -> usize
     requires { AreInOrder (map transition_of transitions.now) }
     ensures { IsPlace transitions.now (symbol_of symbol) result }
@@ -182,12 +183,12 @@ pub(crate) fn place_of(transitions: &[Transition], symbol: Symbol) -> usize
     low
 }
 
-/// Whether a place is that of a symbol's transition, or the one where it would stand.
+/// Whether this is the index of a symbol's transition, or where it would be inserted.
 fn is_place_of(transitions: &[Transition], place: usize, symbol: Symbol) -> bool
     requires { AreInOrder (map transition_of transitions.now) }
     ensures { IsTrue result ↔ IsPlace transitions.now (symbol_of symbol) place }
 {
-    // it is mostly there
+    // mostly true
     if has_symbol_at(transitions, place, symbol) {
         return true;
     }
@@ -205,7 +206,7 @@ fn is_place_of(transitions: &[Transition], place: usize, symbol: Symbol) -> bool
     !comes_before(transitions[place].symbol, symbol)
 }
 
-/// Whether the transition at a place is over a symbol.
+/// Whether the transition at this index is over this symbol.
 fn has_symbol_at(transitions: &[Transition], place: usize, symbol: Symbol) -> bool
     ensures { IsTrue result → (t : spec.Transition) × (slice_get transitions.now place ≡ Some t) × (t.symbol ≡ symbol) }
 {
@@ -215,7 +216,7 @@ fn has_symbol_at(transitions: &[Transition], place: usize, symbol: Symbol) -> bo
     }
 }
 
-/// Where a symbol's transition leads, by its place.
+/// The target of a symbol's transition, if it is at this index.
 fn target_at(transitions: &[Transition], place: usize, symbol: Symbol) -> Option<StateNo>
     requires ordered { AreInOrder (map transition_of transitions.now) }
     requires place { IsPlace transitions.now (symbol_of symbol) place }
@@ -230,7 +231,7 @@ fn target_at(transitions: &[Transition], place: usize, symbol: Symbol) -> Option
     }
 }
 
-/// Whether a symbol's number comes before another's, terminals before nonterminals.
+/// Whether a symbol comes before another: by number, terminals before nonterminals.
 pub(crate) fn comes_before(left: Symbol, right: Symbol) -> bool
     ensures { IsTrue result ↔ IsLess (symbol_of left) (symbol_of right) }
 {

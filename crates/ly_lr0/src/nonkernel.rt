@@ -1,5 +1,5 @@
-//! The items that a kernel closes to but its own, the nonkernel items (Aho, Sethi and Ullman 1986, 4.7). States that
-//! come one behind the other often have the same, so what these move to is listed once.
+//! The nonkernel items: the closure of a kernel without its own items (Aho, Sethi and Ullman 1986, 4.7). Consecutive
+//! states often have the same ones, so their moves are listed once.
 ghost use Rattle.std.specs.Prelude.{◌<◌, ℕ, [], Contains, length, OnOk};
 ghost use Rattle.ly_join.specs.Grammar.{Grammar};
 ghost use Rattle.ly_lr0.specs.Private.Closing.{AreByLeft};
@@ -11,18 +11,18 @@ use crate::item::{Item, Move};
 use ly_grammar::Reduced;
 use std::alloc::{AllocError, Global};
 
-/// The rules of some nonterminals, with nothing before their dots.
+/// The rules of some nonterminals, with the dot at the front.
 #[derive(Drop)]
 pub(crate) struct Nonkernel {
-    /// Where room comes from.
+    /// The allocator.
     alloc: Global,
     /// The nonterminals.
     entered: Vec<u32>,
     /// The items.
     items: Vec<Item>,
-    /// What they move to, in the order of symbols, rules and dots.
+    /// Their moves, in the order of symbols, rules and dots.
     pub(crate) moves: Vec<Move>,
-    /// The rules among them that are empty, rising.
+    /// The empty rules among them, in rising order.
     pub(crate) complete: Vec<usize>,
 }
 
@@ -40,8 +40,7 @@ impl Nonkernel {
         }
     }
 
-    /// Makes it the items of the nonterminals that were entered. Where they are the same as before nothing is listed
-    /// anew.
+    /// Changes it to the items of the entered nonterminals. If they are the same as before, nothing is listed again.
     pub(crate) fn enter(
         &mut self,
         reduced: &Reduced<'_>,

@@ -1,5 +1,5 @@
-//! A state's row, from its transitions. A state often has the same transitions over terminals as the one before, so the
-//! list of these is held in common.
+//! The row of a state, from its transitions. Consecutive states that have the same transitions over terminals share one
+//! list of them.
 ghost use Rattle.std.specs.Prelude.{◌≡◌, map, IfOk};
 ghost use Rattle.std.specs.Rc.{rc_slice_items};
 ghost use Rattle.ly_lr0.specs.Private.Built.{transitions_of, AreInOrder};
@@ -12,8 +12,8 @@ use ly_join::Symbol;
 use std::alloc::{AllocError, Global};
 use std::rc::RcSlice;
 
-/// The row of transitions in the order of their symbols. Those over terminals are the list of the last row before it
-/// where that is the same.
+/// The row with these transitions, which are in the order of their symbols. The list of those over terminals is shared
+/// with the last row if it is equal.
 pub(crate) fn row_of(
     alloc: Global,
     transitions: &[Transition],
@@ -33,7 +33,7 @@ pub(crate) fn row_of(
     })
 }
 
-/// A list of transitions over terminals to be kept: that of the last row before, where it is the same.
+/// The list of transitions over terminals to store: that of the last row, if it is equal.
 fn shared_shifts(
     alloc: Global,
     shifts: &[Transition],

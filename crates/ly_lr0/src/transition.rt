@@ -10,11 +10,11 @@ use std::rc::RcSlice;
 pub struct Transition {
     /// The symbol.
     pub symbol: Symbol,
-    /// Where it leads.
+    /// The state it leads to.
     pub target: StateNo,
 }
 
-/// How the least string that leads to a state ends: the state before its last symbol, and that symbol.
+/// The last step of the least string that leads to a state: the state before its last symbol, and that symbol.
 #[derive(Clone, Copy, Debug, PartialEq, Eq)]
 pub(crate) struct Link {
     /// The state before.
@@ -23,15 +23,15 @@ pub(crate) struct Link {
     pub(crate) symbol: Symbol,
 }
 
-/// What leaves a state, and what is complete in it.
+/// The transitions of a state, and the rules complete in it.
 #[derive(Drop)]
 pub(crate) struct Row {
-    /// The transitions over terminals, in their order. Rows that come one behind the other hold equal ones in common:
-    /// there are grammars of thousands of states with the same thousands of transitions.
+    /// The transitions over terminals, in their order. Consecutive rows share equal lists, because some grammars have
+    /// thousands of states with the same thousands of transitions.
     pub(crate) shifts: RcSlice<Transition>,
     /// The transitions over nonterminals, in their order.
     pub(crate) gotos: Vec<Transition>,
-    /// The rules that are complete, rising.
+    /// The complete rules, in rising order.
     pub(crate) complete: Vec<usize>,
     ghost over_terminals: { AreOverTerminals (rc_slice_items shifts) },
     ghost over_nonterminals: { AreOverNonterminals gotos.items },

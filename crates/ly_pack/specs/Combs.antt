@@ -1,4 +1,4 @@
--- What contracts see of combs.
+-- Combs, as contracts see them.
 use Rattle.std.specs.Prelude.{ℕ, List, Option, length, map}
 use Rattle.std.specs.Option.{option_map}
 use Rattle.ly_pack.specs.Placement.{IsPlaced, Table}
@@ -14,10 +14,10 @@ slots_from slots = map (option_map used_from) slots
 abbrev pub comb_from : {E : Type 0} → ℕ → List ℕ → List (Option (Slot E)) → Comb E
 comb_from width bases slots = record { width = width; bases = bases; slots = slots_from slots }
 
--- the table that a comb is of
+-- the table that a comb represents
 abbrev pub table_in : {E : Type 0} → Comb E → Table E
 table_in c = record { entries = comb_entry c; rows = length c.bases; width = c.width }
 
--- the comb's rows are placed by first fit
+-- the rows of the comb are placed by first fit
 abbrev pub IsFirstFit : {E : Type 0} → Comb E → Type 0
 IsFirstFit c = IsPlaced (table_in c) c

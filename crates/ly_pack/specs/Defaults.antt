@@ -9,21 +9,21 @@ abbrev pub is_by : ℕ → Option TableAction → Bool
 is_by p (Some (reduce q)) = nat_eq p q
 is_by p _ = false
 
--- how many entries of a state reduce by the rule
+-- the number of entries of a state that reduce by the rule
 abbrev pub count_by : Machine → ℕ → ℕ → ℕ
 count_by m state p = length (filter (λ t. is_by p (entry_at m state t)) (range_with_len 0 m.terminals))
 
--- The rule by which most entries of a state reduce, and the least of those.
+-- The rule by which most entries of a state reduce; the least if there are several.
 pub record IsMostFrequent (m : Machine) (state p : ℕ) : Type 0 where
   pub some : 1 ≤ count_by m state p
   pub most : (q : ℕ) → (count_by m state q < count_by m state p)
       ⊎ ((count_by m state q ≡ count_by m state p) × (p ≤ q)) ⊎ (count_by m state q ≡ 0)
 
--- the default of a state: the most frequent rule, or none where no entry reduces
+-- the default of a state: the most frequent rule, or none if no entry reduces
 abbrev pub IsDefaultOf : Machine → ℕ → Option ℕ → Type 0
 IsDefaultOf m state d = MatchOption d ((p : ℕ) → count_by m state p ≡ 0) (IsMostFrequent m state)
 
--- an entry, but for those that the default stands for
+-- an entry, removed if it equals the default
 abbrev pub without : Option ℕ → Option TableAction → Option TableAction
 without None a = a
 without (Some p) a = if is_by p a then None else a

@@ -3,15 +3,15 @@ use Rattle.std.specs.Prelude.{◌≡◌, ℕ, suc, ◌<◌, ◌≤◌, List, len
 use Rattle.ly_base.specs.Shape.{Shape, nil, place, node}
 use Rattle.ly_pack.specs.Rows.{Grid, cell}
 
--- What a table's entry has a parser do before a terminal: shift it and go to a state, reduce by a rule, accept, or
--- refuse it.
+-- An entry of a parser's tables: its action before a terminal. It shifts the terminal and goes to a state, reduces by a
+-- rule, accepts, or rejects the terminal.
 pub data TableAction : Type 0 where
   shift : ℕ → TableAction
   reduce : ℕ → TableAction
   accept : TableAction
   error : TableAction
 
--- A rule: its left side, how many symbols its body has, and what it makes of their trees.
+-- A rule: its left side, the number of symbols of its body, and the tree that it builds from theirs.
 pub record TableRule : Type 0 where
   pub left : ℕ
   pub body_length : ℕ
@@ -31,7 +31,7 @@ pub record Machine : Type 0 where
 abbrev pub with_rules : Machine → List TableRule → Machine
 with_rules m rules = record m { rules = rules }
 
--- how many states there are
+-- the number of states
 abbrev pub states_of : Machine → ℕ
 states_of m = length m.defaults
 
@@ -39,7 +39,7 @@ states_of m = length m.defaults
 abbrev pub entry_at : Machine → ℕ → ℕ → Option TableAction
 entry_at m state t = cell m.actions state t
 
--- where a state goes by a nonterminal, if it does
+-- the goto of a state by a nonterminal, if it has one
 abbrev pub goto_at : Machine → ℕ → ℕ → Option ℕ
 goto_at m state left = cell m.gotos state left
 
@@ -49,7 +49,7 @@ or_default (Some a) d = a
 or_default None (Some (Some p)) = reduce p
 or_default None _ = error
 
--- what is done in a state before a terminal
+-- the action of a state before a terminal
 abbrev pub action_of : Machine → ℕ → ℕ → TableAction
 action_of m state t = or_default (entry_at m state t) (slice_get m.defaults state)
 
@@ -61,25 +61,25 @@ IsTableRule m p r = (q : ℕ) × (p ≡ suc q) × (slice_get m.rules q ≡ Some 
 abbrev pub IsRuleNumber : Machine → ℕ → Type 0
 IsRuleNumber m p = (1 ≤ p) × (p ≤ length m.rules)
 
--- The end is accepted and never shifted, and what is shifted to and reduced by is there.
+-- The end is accepted and never shifted, and the states and rules of entries exist.
 abbrev pub IsLegal : Machine → ℕ → TableAction → Type 0
 IsLegal m t (shift state) = (state < states_of m) × (1 ≤ t)
 IsLegal m t (reduce p) = IsRuleNumber m p
 IsLegal m t accept = t ≡ 0
 IsLegal m t error = Unit {0}
 
--- the shape speaks of places of a body of this length, of each once, and a constructor has a name
+-- the shape uses places of a body of this length, each at most once, and a constructor has a name
 abbrev pub IsShapeFor : ℕ → Shape → Type 0
 IsShapeFor n nil = n ≡ 0
 IsShapeFor n (place i) = (1 ≤ i) × (i ≤ n)
 IsShapeFor n (node name is) = (1 ≤ length name) × All (λ i. (1 ≤ i) × (i ≤ n)) is × AllPairs (λ i j. i ≡ j → ⊥) is
 
--- a rule's left side and the places of its shape are there
+-- a rule's left side and the places of its shape exist
 pub record IsRuleWithin (nonterminals : ℕ) (r : TableRule) : Type 0 where
   pub left : r.left < nonterminals
   pub shape : IsShapeFor r.body_length r.shape
 
--- All that the tables name is there: states, rules, symbols and places. State 0 is the bottom's.
+-- All states, rules, symbols and places in the tables exist. State 0 is the bottom of the stack.
 pub record IsMachine (m : Machine) : Type 0 where
   pub bottom : 0 < states_of m
   pub actions : (state t : ℕ) (a : TableAction) → entry_at m state t ≡ Some a → IsLegal m t a
@@ -87,15 +87,14 @@ pub record IsMachine (m : Machine) : Type 0 where
   pub gotos : (state left next : ℕ) → goto_at m state left ≡ Some next → next < states_of m
   pub rules : All (IsRuleWithin m.nonterminals) m.rules
 
--- The rows of actions and those of gotos are as many as the states, and as wide as there are terminals and
--- nonterminals.
+-- There are as many rows of actions and of gotos as states, and as many columns as terminals and as nonterminals.
 pub record HaveSizes (states terminals nonterminals action_rows action_width goto_rows goto_width : ℕ) : Type 0 where
   pub actions : action_rows ≡ states
   pub actions_wide : action_width ≡ terminals
   pub gotos : goto_rows ≡ states
   pub gotos_wide : goto_width ≡ nonterminals
 
--- Entries and gotos stand in rows and columns that are there.
+-- Entries and gotos are within the rows and columns.
 pub record AreEntriesWithin (m : Machine) : Type 0 where
   pub actions : (state t : ℕ) (a : TableAction) → entry_at m state t ≡ Some a
       → (state < states_of m) × (t < m.terminals)

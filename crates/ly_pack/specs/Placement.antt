@@ -1,10 +1,10 @@
--- Where the rows of a comb begin: first fit, the rows with the most entries first (Tarjan and Yao 1979).
+-- The bases of a comb's rows: first fit, the rows with the most entries first (Tarjan and Yao 1979).
 use Rattle.std.specs.Prelude.{◌≡◌, ◌≢◌, ◌⊎◌, ◌↔◌, ℕ, suc, ◌+◌, ◌<◌, List, length, filter, Some}
 use Rattle.std.specs.Prelude.{slice_get, is_some}
 use Rattle.std.specs.List.{range_with_len}
 use Rattle.ly_pack.specs.Rows.{Entries, Comb, Used}
 
--- Rows of entries: what they are, how many, and how wide.
+-- Rows of entries: the entries, the number of rows, and their width.
 pub record Table (E : Type 0) : Type 0 where
   pub entries : Entries E
   pub rows : ℕ
@@ -14,11 +14,11 @@ pub record Table (E : Type 0) : Type 0 where
 abbrev pub Has : {E : Type 0} → Table E → ℕ → ℕ → Type 0
 Has T row column = (column < T.width) × (e : _) × (T.entries row column ≡ Some e)
 
--- how many entries a row has
+-- the number of entries of a row
 abbrev pub entry_count : {E : Type 0} → Table E → ℕ → ℕ
 entry_count T row = length (filter (λ column. is_some (T.entries row column)) (range_with_len 0 T.width))
 
--- a row is placed before another: it has more entries, or as many and a lower number
+-- a row is placed before another: it has more entries, or equally many and a lower number
 abbrev pub GoesBefore : {E : Type 0} → Table E → ℕ → ℕ → Type 0
 GoesBefore T r s = (entry_count T s < entry_count T r) ⊎ ((entry_count T r ≡ entry_count T s) × (r < s))
 
@@ -27,8 +27,8 @@ abbrev pub Fits : {E : Type 0} → Table E → List ℕ → ℕ → ℕ → Type
 Fits T bases row base = (other there column its : ℕ) → other < T.rows → GoesBefore T other row
     → slice_get bases other ≡ Some there → Has T row column → Has T other its → base + column ≢ there + its
 
--- The comb holds the rows: each that has entries begins at the least base where it fits, and each other at 0; a slot is
--- used just where a row has an entry for it; and the last slot is used.
+-- The comb has the rows: each with entries begins at the least base where it fits, and each without at 0; a slot is
+-- used exactly if a row has an entry for it; and the last slot is used.
 pub record IsPlaced {E : Type 0} (T : Table E) (c : Comb E) : Type 0 where
   pub width : c.width ≡ T.width
   pub rows : length c.bases ≡ T.rows

@@ -1,4 +1,4 @@
--- Rows of entries, as they are kept: as lists, and laid over one another.
+-- Rows of entries, as they are stored: as lists, and as combs.
 use Rattle.std.specs.Prelude.{◌≡◌, ℕ, ◌+◌, ◌<◌, ◌≤◌, List, [], ◌∷◌, Option, Some, None, slice_get, Contains}
 use Rattle.std.specs.Prelude.{length, map, option_and_then, nat_lt, nat_eq, if◌then◌else◌, All, AllPairs}
 use Rattle.std.specs.Global.{Global, Vec}
@@ -10,7 +10,7 @@ use Rattle.ly_pack.specs.declared.cell.Cell.{Cell}
 abbrev pub Entries : Type 0 → Type 0
 Entries E = ℕ → ℕ → Option E
 
--- rows of entries written out
+-- rows of entries, written out
 abbrev pub Grid : Type 0 → Type 0
 Grid E = List (List (Option E))
 
@@ -18,26 +18,26 @@ Grid E = List (List (Option E))
 abbrev pub cell : {E : Type 0} → Grid E → Entries E
 cell g row column = option_and_then (λ cells. option_and_then (λ e. e) (slice_get cells column)) (slice_get g row)
 
--- so many rows of entries, each of this width, written out
+-- this many rows of entries, each of this width, written out
 abbrev pub grid_of : {E : Type 0} → ℕ → ℕ → Entries E → Grid E
 grid_of rows width entries = map (λ row. map (entries row) (range_with_len 0 width)) (range_with_len 0 rows)
 
--- each column is below those behind it
+-- each column is less than those after it
 abbrev pub AreRising : {E : Type 0} → List (Cell E) → Type 0
 AreRising cells = AllPairs (λ c d. c.column < d.column) cells
 
--- the entry of a column, where it is among these
+-- the entry of a column, if it is among these cells
 abbrev pub entry_in : {E : Type 0} → List (Cell E) → ℕ → Option E
 entry_in [] column = None
 entry_in (c ∷ cells) column = if nat_eq column c.column then Some c.entry else entry_in cells column
 
--- Rows as lists: for each of them its entries with their columns.
+-- Rows as lists: the entries of each row with their columns.
 pub record Dense (E : Type 0) : Type 0 where
   pub rows : ℕ
   pub width : ℕ
   pub lists : List (List (Cell E))
 
--- the cells of a row, counted by the rows that have them
+-- the cells of a row, in an `Rc`
 abbrev pub Counted : Type 0 → Type 0
 Counted E = Rc (Vec (Cell E)) Global
 
@@ -54,7 +54,7 @@ pub record IsDense {E : Type 0} (d : Dense E) : Type 0 where
   pub rising : All AreRising d.lists
   pub within : All (All (λ c. c.column < d.width)) d.lists
 
--- The entries of a row with their columns, which rise, and no others.
+-- Exactly the entries of a row with their columns, which rise.
 pub record AreCellsOf {E : Type 0} (entries : ℕ → Option E) (cells : List (Cell E)) : Type 0 where
   pub rising : AreRising cells
   pub sound : (c : Cell E) → Contains cells c → entries c.column ≡ Some c.entry
@@ -69,19 +69,19 @@ pub record AreAllCellsOf {E : Type 0} (entries : Entries E) (rows width : ℕ) (
     pub within : (row : ℕ) (cells : Counted E) → slice_get lists row ≡ Some cells
         → All (λ c. c.column < width) cells.value.items
 
--- A slot that is used: its row, and the entry.
+-- A used slot: its row, and the entry.
 pub record Used (E : Type 0) : Type 0 where
   pub row : ℕ
   pub entry : E
 
--- Rows laid over one another: row r begins at its base, and its entries stand in slots that no other row uses there
--- (Tarjan and Yao 1979; Aho, Sethi and Ullman 1986, 3.9).
+-- Rows laid over one another: row r begins at its base, and its entries are in slots that no other row uses (Tarjan and
+-- Yao 1979; Aho, Sethi and Ullman 1986, 3.9).
 pub record Comb (E : Type 0) : Type 0 where
   pub width : ℕ
   pub bases : List ℕ
   pub slots : List (Option (Used E))
 
--- what a slot gives to a row: its entry, where the row uses it
+-- the entry of a slot for a row, if the row uses it
 abbrev pub given_to : {E : Type 0} → ℕ → Used E → Option E
 given_to row slot = if nat_eq slot.row row then Some slot.entry else None
 
@@ -91,7 +91,7 @@ comb_entry c row column = if nat_lt column c.width
     then option_and_then (λ base. option_and_then (λ slot. option_and_then (given_to row) slot)
     (slice_get c.slots (base + column))) (slice_get c.bases row) else None
 
--- Each base is in the list or at its end, and a used slot lies in its row.
+-- Each base is within the list of slots or at its end, and a used slot is within its row.
 pub record IsComb {E : Type 0} (c : Comb E) : Type 0 where
   pub bases : (row base : ℕ) → slice_get c.bases row ≡ Some base → base ≤ length c.slots
   pub slots : (k : ℕ) (slot : Used E) → slice_get c.slots k ≡ Some (Some slot)

@@ -1,9 +1,9 @@
--- Runs of a parser's tables on one token, without the trees, and the tables of which every run ends soon.
+-- Runs of a parser's tables on one token, without the trees, and tables whose runs all end within a bound.
 use Rattle.std.specs.Prelude.{◌≡◌, ℕ, suc, ◌-◌, ◌<◌, ◌≤◌, List, [], ◌∷◌, drop, Option, Some, None, slice_get}
 use Rattle.ly_pack.specs.Machine.{Machine, TableAction, TableRule, shift, reduce, accept, error, action_of, goto_at}
 
--- How a run on one token ends: it is read, and the parser goes to a state; it is accepted; it is refused; or the tables
--- are at fault, for a goto is missing, or a body goes past the bottom.
+-- The end of a run on one token: it is read, and the parser goes to a state; it is accepted; it is rejected; or the
+-- tables are faulty, because a goto is missing or a body extends past the bottom of the stack.
 pub data RunEnd : Type 0 where
   reads : ℕ → RunEnd
   accepts : RunEnd
@@ -11,7 +11,7 @@ pub data RunEnd : Type 0 where
   lacks_goto : RunEnd
   leaves_bottom : RunEnd
 
--- a run ends, or goes on with a stack of states, its top first
+-- a run ends, or continues with a stack of states, its top first
 pub data Move : Type 0 where
   ends : RunEnd → Move
   goes_on : List ℕ → Move
@@ -29,7 +29,7 @@ abbrev pub reduce_by : Machine → List ℕ → Option TableRule → Move
 reduce_by m stack None = ends lacks_goto
 reduce_by m stack (Some r) = go_to m r.left (drop r.body_length stack)
 
--- rule p, which stands one place before its number, for rule 0 isn't among the rules
+-- rule p, whose index is p - 1, because rule 0 isn't among the rules
 abbrev pub rule_at : Machine → ℕ → Option TableRule
 rule_at m p = slice_get m.rules (p - 1)
 
@@ -47,13 +47,13 @@ action_on m t (top ∷ below) = action_of m top t
 abbrev pub move : Machine → ℕ → List ℕ → Move
 move m t stack = perform m stack (action_on m t stack)
 
--- n reductions on the terminal t lead from a stack to another
+-- n reductions on the terminal t lead from one stack to another
 pub data ReducesTo (m : Machine) (t : ℕ) : List ℕ → ℕ → List ℕ → Type 0 where
   here : {stack : List ℕ} → ReducesTo m t stack 0 stack
   onward : {stack next last : List ℕ} {n : ℕ} → move m t stack ≡ goes_on next → ReducesTo m t next n last
       → ReducesTo m t stack (suc n) last
 
--- the run on the terminal t from a stack ends after at most so many reductions
+-- the run on the terminal t from a stack ends after at most this many reductions
 pub record EndsWithin (m : Machine) (t : ℕ) (stack : List ℕ) (bound : ℕ) : Type 0 where
   pub count : ℕ
   pub last : List ℕ
@@ -62,21 +62,21 @@ pub record EndsWithin (m : Machine) (t : ℕ) (stack : List ℕ) (bound : ℕ) :
   pub stops : move m t last ≡ ends ending
   pub within : count ≤ bound
 
--- An edge: an entry of the state below, or its default, leads to the state on top.
+-- An edge: the state below has a shift or a goto to the state on top.
 pub data IsTableEdge (m : Machine) (below top : ℕ) : Type 0 where
   by_shift : (t : ℕ) → action_of m below t ≡ shift top → IsTableEdge m below top
   by_goto : (left : ℕ) → goto_at m below left ≡ Some top → IsTableEdge m below top
 
--- The run of an edge is that from its two states alone: it ends in `leaves_bottom` where a reduction would take the
--- state below away. It makes at most so many reductions, on every terminal.
+-- The run of an edge starts with its two states alone. It ends in `leaves_bottom` if a reduction would pop the state
+-- below. It makes at most this many reductions, on every terminal.
 abbrev pub IsSteadyWithin : Machine → ℕ → Type 0
 IsSteadyWithin m bound = (below top t : ℕ) → t < m.terminals → IsTableEdge m below top
     → EndsWithin m t (top ∷ below ∷ []) bound
 
--- how many reductions are allowed above an edge
+-- the number of reductions allowed above an edge
 abbrev pub run_bound : ℕ
 run_bound = 100000
 
--- the tables of which every edge's run ends soon
+-- the tables for which the run of every edge ends within the bound
 abbrev pub IsSteady : Machine → Type 0
 IsSteady m = IsSteadyWithin m run_bound

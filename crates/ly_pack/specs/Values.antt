@@ -1,4 +1,4 @@
--- What contracts see of rows and machines.
+-- Rows and machines, as contracts see them.
 use Rattle.std.specs.Prelude.{ℕ, List, Option, length, map}
 use Rattle.std.specs.Option.{option_map}
 use Rattle.ly_base.specs.Shape.{shape_of}
@@ -37,7 +37,7 @@ machine_from terminals nonterminals actions gotos defaults rules = record {
   rules = map rule_from rules;
 }
 
--- the machine that parts are of, by the entries of their rows
+-- the machine with these parts, by the entries of their rows
 abbrev pub machine_of_parts : {A G : Type 0} → (A → Entries code.TableAction) → (G → Entries StateNo)
     → MachineParts A G → Machine
 machine_of_parts actions gotos parts = machine_from parts.terminals parts.nonterminals (actions parts.actions)

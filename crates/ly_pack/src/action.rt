@@ -1,14 +1,14 @@
 use ly_base::{RuleNo, StateNo};
 
-/// What an entry of a parser's tables has it do before a terminal.
+/// An entry of a parser's tables: its action before a terminal.
 #[derive(Clone, Copy, Debug, PartialEq, Eq)]
 pub enum TableAction {
-    /// It shifts the terminal and goes to this state.
+    /// Shift the terminal and go to this state.
     Shift(StateNo),
-    /// It reduces by this rule, counted from 1.
+    /// Reduce by this rule, counted from 1.
     Reduce(RuleNo),
-    /// It accepts.
+    /// Accept.
     Accept,
-    /// It refuses the terminal.
+    /// Reject the terminal.
     Error,
 }

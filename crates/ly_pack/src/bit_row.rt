@@ -1,4 +1,4 @@
-//! Which slots are used, a bit each, and the first place where a row fits: 64 bases are tested at a time.
+//! A bit for each used slot, and the first position where a row fits: 64 bases are tested at a time.
 ghost use Rattle.std.specs.Prelude.{◌≡◌, ◌≢◌, ◌+◌, ◌*◌, ◌^◌, ◌<◌, ◌≤◌, ℕ, length, slice_index, OnOk};
 ghost use Rattle.std.specs.Int.{bit_at};
 ghost use Rattle.ly_pack.specs.Private.Bits.{taken, IsFreeAt, IsTakenAt};
@@ -6,15 +6,15 @@ ghost use Rattle.ly_pack.specs.Private.Bits.{taken, IsFreeAt, IsTakenAt};
 use std::alloc::{AllocError, Global};
 use std::cmp::max;
 
-/// How many bits a word has.
+/// The number of bits in a word.
 const WORD_BITS: usize = 64;
 
-/// A set of places, a bit each.
+/// A set of positions, one bit each.
 #[derive(Drop)]
 pub(crate) struct BitRow {
-    /// The bits: place `k` is bit `k % 64` of word `k / 64`.
+    /// The bits: position `k` is bit `k % 64` of word `k / 64`.
     words: Vec<u64>,
-    /// How many words, from the first on, are known to be full.
+    /// The number of words, from the first on, that are known to be full.
     full: usize,
     ghost small: { length words.items ≤ 2 ^ 27 },
     ghost within: { full ≤ length words.items },
@@ -22,7 +22,7 @@ pub(crate) struct BitRow {
 }
 
 impl BitRow {
-    /// No place is taken.
+    /// An empty set.
     pub(crate) fn new(alloc: Global) -> BitRow
         ensures { (k : ℕ) → taken result.words.items k ≡ 0 }
     {
@@ -32,8 +32,8 @@ impl BitRow {
         }
     }
 
-    /// Takes a place.
-    #[inline(always)] // it is called for each entry
+    /// Adds a position.
+    #[inline(always)] // called for each entry
     pub(crate) fn insert(&mut self, place: usize) -> Result<(), AllocError>
         requires { place < 2 ^ 33 }
         ensures same { OnOk result (taken self.new.words.items place ≡ 1) }
@@ -49,7 +49,7 @@ impl BitRow {
         Ok(())
     }
 
-    /// Counts the full words anew.
+    /// Recounts the full words.
     fn skip_full(&mut self)
         ensures { self.new.words ≡ self.old.words }
     {
@@ -58,7 +58,7 @@ impl BitRow {
         }
     }
 
-    /// The least base at which every column's place is free, where none below a base that is given is one.
+    /// The least base at which the position of every column is free. No base below `refused` fits.
     pub(crate) fn first_fit(&self, columns: &[u32], refused: usize) -> usize
         requires some { 0 < length columns.now }
         requires refused { (lower : ℕ) → lower < refused → IsTakenAt self.now.words.items columns.now lower }
@@ -75,7 +75,7 @@ impl BitRow {
         WORD_BITS * self.words.len()
     }
 
-    /// Of the 64 bases of a word, those at which some column's place is taken.
+    /// The bases of a word, of 64, at which the position of some column is used.
     fn taken_bases(&self, word: usize, columns: &[u32]) -> u64
         requires { word < length self.now.words.items }
         ensures taken { (i : ℕ) → i < 64 → bit_at result i ≡ 1
@@ -93,7 +93,7 @@ impl BitRow {
         taken
     }
 
-    /// The 64 bits from a place on.
+    /// The 64 bits from a position on.
     fn window(&self, place: usize) -> u64
         ensures { (i : ℕ) → i < 64 → bit_at result i ≡ taken self.now.words.items (place + i) }
     {
@@ -106,7 +106,7 @@ impl BitRow {
         low | self.word(word + 1) << (WORD_BITS - shift)
     }
 
-    /// A word, with no bit past the end.
+    /// A word; 0 past the end.
     fn word(&self, index: usize) -> u64
         ensures { result ≡ slice_index self.now.words.items index }
     {

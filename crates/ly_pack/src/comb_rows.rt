@@ -11,23 +11,23 @@ use std::borrow::CowSlice;
 use std::marker::Model;
 use std::rc::Rc;
 
-/// A slot that is used.
+/// A used slot.
 #[derive(Clone, Copy, Debug, PartialEq, Eq)]
 pub struct Slot<E> {
     /// The row that uses it.
     pub row: StateNo,
-    /// Its entry there.
+    /// The entry of the row there.
     pub entry: E,
 }
 
-/// Rows laid over one another: a row begins at its base, and its entries stand in slots that no other row uses there.
+/// Rows laid over one another: each row begins at its base, and its entries are in slots that no other row uses.
 #[derive(Drop)]
 pub struct Comb<E> {
-    /// How many columns each row has.
+    /// The number of columns of each row.
     width: usize,
-    /// Where each row begins.
+    /// The base of each row.
     bases: Vec<u32>,
-    /// The slots, those that no row uses too.
+    /// The slots, including free ones.
     slots: Vec<CombSlot<E>>,
 }
 
@@ -44,7 +44,7 @@ impl<E> Model for Comb<E> {
 }
 
 impl<E: Copy> Comb<E> {
-    /// The comb of these.
+    /// The comb with these columns, bases and slots.
     pub fn new(width: usize, bases: Vec<u32>, slots: Vec<CombSlot<E>>) -> Comb<E>
         requires { IsComb (comb_from width bases.items slots.items) }
         ensures { result ≡ comb_from width bases.items slots.items }
@@ -56,7 +56,7 @@ impl<E: Copy> Comb<E> {
         }
     }
 
-    /// How many columns each row has.
+    /// The number of columns of each row.
     pub fn width(&self) -> usize
         ensures count { result ≡ self.now.width }
         ensures whole { IsComb self.now }
@@ -64,14 +64,14 @@ impl<E: Copy> Comb<E> {
         self.width
     }
 
-    /// Where each row begins.
+    /// The base of each row.
     pub fn bases(&self) -> &[u32]
         ensures { result.now ≡ self.now.bases }
     {
         &self.bases
     }
 
-    /// The slots, those that no row uses too.
+    /// The slots, including free ones.
     pub fn slots(&self) -> &[CombSlot<E>]
         ensures { slots_from result.now ≡ self.now.slots }
     {
@@ -118,7 +118,7 @@ impl<E: Copy> Rows<E> for Comb<E> {
     }
 }
 
-/// A list without a cell for each of so many rows.
+/// A list without cells for each of this many rows.
 fn no_cells<E: Copy>(alloc: Global, rows: usize) -> Result<Vec<Vec<Cell<E>>>, AllocError>
     ensures { IfOk result (λ lists. map (λ cells. cells.items) lists.items ≡ replicate rows []) }
 {
@@ -129,7 +129,7 @@ fn no_cells<E: Copy>(alloc: Global, rows: usize) -> Result<Vec<Vec<Cell<E>>>, Al
     Ok(lists)
 }
 
-/// The same lists, each with a count of the rows that have it.
+/// The same lists, each in an `Rc`.
 fn counted<E: Copy>(
     alloc: Global,
     lists: Vec<Vec<Cell<E>>>,

@@ -5,12 +5,12 @@ use ly_base::StateNo;
 use std::alloc::AllocError;
 use std::marker::Model;
 
-/// A slot of a comb: used, or free. It has no more bytes than one that is used, since combs have millions.
+/// A slot of a comb: used, or free. It takes no more bytes than a used slot, because combs have millions.
 #[derive(Drop)]
 pub struct CombSlot<E> {
-    /// The number of the row that uses it, or the greatest number where it is free.
+    /// The number of the row that uses it, or the greatest number if it is free.
     row: u32,
-    /// The row's entry there; where the slot is free, it says nothing.
+    /// The entry of the row there. Meaningless if the slot is free.
     entry: E,
 }
 
@@ -27,7 +27,7 @@ impl<E> Model for CombSlot<E> {
 }
 
 impl<E: Copy> CombSlot<E> {
-    /// A free one. The entry fills its room, no more.
+    /// A free slot. The entry only fills its bytes.
     pub fn free(entry: E) -> Self
         ensures { result ≡ None }
     {
@@ -37,7 +37,7 @@ impl<E: Copy> CombSlot<E> {
         }
     }
 
-    /// A used one. It fails where its row has the greatest number: no memory holds so many rows.
+    /// A used slot. It fails if the number of its row is the greatest one; no memory holds so many rows.
     pub fn used(slot: Slot<E>) -> Result<Self, AllocError>
         ensures { IfOk result (λ s. s ≡ Some slot) }
     {
@@ -49,7 +49,7 @@ impl<E: Copy> CombSlot<E> {
         Ok(CombSlot { row, entry })
     }
 
-    /// What uses it, if it is used.
+    /// The row and the entry, if the slot is used.
     #[inline(always)]
     pub fn get(&self) -> Option<Slot<E>>
         ensures { result ≡ self.now }

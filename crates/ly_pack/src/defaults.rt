@@ -1,5 +1,5 @@
-//! Default reductions: each state that reduces does so by its most frequent rule wherever no entry says otherwise, and
-//! the entries that say just this are left out (Aho, Sethi and Ullman 1986, 4.7).
+//! Default reductions. Each state that reduces does so by its most frequent rule if no entry says otherwise, and the
+//! entries that are equal to this reduction are removed (Aho, Sethi and Ullman 1986, 4.7).
 ghost use Rattle.std.specs.Prelude.{◌≡◌, ◌≢◌, ◌<◌, ◌≤◌, ℕ, length, slice_get, IfOk, OnOk, Some};
 ghost use Rattle.ly_pack.specs.Defaults.{HasDefaultsOf};
 ghost use Rattle.ly_pack.specs.Private.Tally.{out_by, reductions, HaveDefaults};
@@ -12,8 +12,8 @@ use crate::tally::{list_rules, most_frequent};
 use ly_base::{OutOfMemory, RuleNo, StateNo};
 use std::alloc::Global;
 
-/// The machine with its default reductions, and without the entries that are equal to them. It fails where memory runs
-/// out.
+/// The machine with its default reductions, and without the entries that are equal to them. It fails if an allocation
+/// fails.
 pub fn choose_defaults(
     alloc: Global,
     machine: Machine<Dense<TableAction>, Dense<StateNo>>,
@@ -26,7 +26,7 @@ pub fn choose_defaults(
     Ok(Machine::new(parts))
 }
 
-/// The defaults of all states; the entries that are equal to them are taken out of the rows.
+/// The defaults of all states. The entries that are equal to them are removed from the rows.
 fn take_defaults(
     alloc: Global,
     actions: &mut Dense<TableAction>,
@@ -58,7 +58,7 @@ fn take_defaults(
     Ok(defaults)
 }
 
-/// Takes the reductions by a rule, if one is given, out of a row. It fails where memory runs out.
+/// Removes the reductions by a rule, if there is one, from a row. It fails if an allocation fails.
 fn take_out(
     actions: &mut Dense<TableAction>,
     state: StateNo,

@@ -17,14 +17,14 @@ use std::borrow::CowSlice;
 use std::marker::Model;
 use std::rc::Rc;
 
-/// Rows as lists: for each of them its entries, with their columns, which rise.
+/// Rows as lists: the entries of each row with their columns, in rising order of columns.
 #[derive(Drop)]
 pub struct Dense<E> {
-    /// Where room comes from.
+    /// The allocator.
     alloc: Global,
-    /// How many columns each has.
+    /// The number of columns of each row.
     width: usize,
-    /// The entries of each. One list may be that of many rows, and is copied before one of them is written.
+    /// The entries of each row. Several rows may share a list, which is copied before one of them is changed.
     lists: Vec<Rc<Vec<Cell<E>>>>,
 }
 
@@ -41,7 +41,7 @@ impl<E> Model for Dense<E> {
 }
 
 impl<E: Copy> Dense<E> {
-    /// Rows without an entry. It fails where memory runs out.
+    /// Rows without entries. It fails if an allocation fails.
     pub fn new(alloc: Global, rows: usize, width: usize) -> Result<Dense<E>, OutOfMemory>
         ensures rows { IfOk result (λ d. d.rows ≡ rows) }
         ensures width { IfOk result (λ d. d.width ≡ width) }
@@ -54,14 +54,14 @@ impl<E: Copy> Dense<E> {
         })
     }
 
-    /// How many rows there are.
+    /// The number of rows.
     pub fn rows(&self) -> usize
         ensures { result ≡ self.now.rows }
     {
         self.lists.len()
     }
 
-    /// How many columns each has.
+    /// The number of columns of each row.
     pub fn width(&self) -> usize
         ensures count { result ≡ self.now.width }
         ensures all { IsDense self.now }
@@ -69,7 +69,7 @@ impl<E: Copy> Dense<E> {
         self.width
     }
 
-    /// The entries of a row, with their columns, which rise.
+    /// The entries of a row, in rising order of columns.
     pub fn row(&self, row: StateNo) -> &[Cell<E>]
         requires { row.0 < self.now.rows }
         ensures these { AreCellsOf (dense_entry self.now row.0) result.now }
@@ -78,7 +78,7 @@ impl<E: Copy> Dense<E> {
         &self.lists[row.0 as usize]
     }
 
-    /// Makes room for so many more entries of a row. It fails where memory runs out.
+    /// Reserves capacity for this many more entries of a row. It fails if an allocation fails.
     pub fn reserve(&mut self, row: StateNo, more: usize) -> Result<(), OutOfMemory>
         requires { row.0 < self.old.rows }
         ensures { self.new ≡ self.old }
@@ -86,8 +86,8 @@ impl<E: Copy> Dense<E> {
         Ok(reserve_own(self.alloc, &mut self.lists[row.0 as usize], more)?)
     }
 
-    /// Puts an entry, or none, into a row and a column. It fails where memory runs out, and where the column has no
-    /// `u32`.
+    /// Sets or removes the entry of a row and a column. It fails if an allocation fails, or if the column doesn't fit
+    /// in a `u32`.
     pub fn set(&mut self, row: StateNo, column: usize, entry: Option<E>) -> Result<(), OutOfMemory>
         requires row { row.0 < self.old.rows }
         requires column { column < self.old.width }
@@ -104,8 +104,8 @@ impl<E: Copy> Dense<E> {
 }
 
 impl Dense<TableAction> {
-    /// Keeps a row once with the one before it, where both are equal. What the rows are stays the same. It fails where
-    /// memory runs out.
+    /// Shares the list of a row with the row before it, if both are equal. The value of the rows doesn't change. It
+    /// fails if an allocation fails.
     pub fn share(&mut self, row: StateNo) -> Result<(), OutOfMemory>
         requires { row.0 < self.old.rows }
         ensures { self.new ≡ self.old }
@@ -125,7 +125,7 @@ fn are_equal(one: &[Cell<TableAction>], other: &[Cell<TableAction>]) -> bool
     one == other
 }
 
-/// One list without a cell for all of so many rows.
+/// One list without cells for all of this many rows.
 fn no_lists<E: Copy>(alloc: Global, rows: usize) -> Result<Vec<Rc<Vec<Cell<E>>>>, AllocError>
     ensures { IfOk result (λ lists. map (λ cells. cells.value.items) lists.items ≡ replicate rows []) }
 {
@@ -137,7 +137,7 @@ fn no_lists<E: Copy>(alloc: Global, rows: usize) -> Result<Vec<Rc<Vec<Cell<E>>>>
     Ok(lists)
 }
 
-/// Makes room for so many more entries of a row: in a list of its own, where another row has the same.
+/// Reserves capacity for this many more entries of a row. A shared list is copied first.
 fn reserve_own<E: Copy>(
     alloc: Global,
     row: &mut Rc<Vec<Cell<E>>>,
@@ -154,7 +154,7 @@ fn reserve_own<E: Copy>(
     Ok(())
 }
 
-/// Puts an entry, or none, into a column of a row: into a list of its own, where another row has the same.
+/// Sets or removes the entry of a column in a row. A shared list is copied first.
 fn put_own<E: Copy>(
     alloc: Global,
     row: &mut Rc<Vec<Cell<E>>>,
@@ -175,7 +175,7 @@ fn put_own<E: Copy>(
     Ok(())
 }
 
-/// Takes the reductions by a rule out of a row: out of a list of its own, where another row has the same.
+/// Removes the reductions by a rule from a row. A shared list is copied first.
 fn leave_out_own(
     alloc: Global,
     row: &mut Rc<Vec<Cell<TableAction>>>,
@@ -195,15 +195,15 @@ fn leave_out_own(
     Ok(())
 }
 
-/// Takes the reductions by a rule out of these cells.
+/// Removes the reductions by a rule from these cells.
 fn drop_by(cells: &mut Vec<Cell<TableAction>>, rule: RuleNo)
     ensures { cells.new.items ≡ filter (λ c. not (is_by rule.0 (Some (action_from c.entry)))) cells.old.items }
 {
     cells.retain(|cell| !reduces_by(cell.entry, rule));
 }
 
-/// Puts an entry, or none, into a column of a row.
-#[inline(always)] // it is asked for each entry of a table
+/// Sets or removes the entry of a column in a row.
+#[inline(always)] // called for each entry of a table
 fn put<E: Copy>(cells: &mut Vec<Cell<E>>, column: u32, entry: Option<E>) -> Result<(), AllocError>
     requires { AreRising cells.old.items }
     ensures kept { AreCellsStill column cells.old.items cells.new.items }
@@ -224,7 +224,7 @@ fn put<E: Copy>(cells: &mut Vec<Cell<E>>, column: u32, entry: Option<E>) -> Resu
     Ok(())
 }
 
-/// Puts an entry, or none, into a column behind all others of a row.
+/// Sets or removes the entry of a column that is greater than all others of a row.
 fn append<E: Copy>(
     cells: &mut Vec<Cell<E>>,
     column: u32,
@@ -241,7 +241,7 @@ fn append<E: Copy>(
     Ok(())
 }
 
-/// Where the cell of a column stands, or where it would.
+/// The index of the cell of a column, or the index where it would be inserted.
 fn place_of<E: Copy>(cells: &[Cell<E>], column: usize) -> usize
     requires { AreRising cells.now }
     ensures within { result ≤ length cells.now }
@@ -254,7 +254,7 @@ fn place_of<E: Copy>(cells: &[Cell<E>], column: usize) -> usize
     cells.partition_point(|cell| (cell.column as usize) < column)
 }
 
-/// Whether all cells stand before a column.
+/// Whether the columns of all cells are less than this one.
 fn are_before<E: Copy>(cells: &[Cell<E>], column: usize) -> bool
     requires { AreRising cells.now }
     ensures { IsTrue result ↔ All (λ c. c.column < column) cells.now }
@@ -265,7 +265,7 @@ fn are_before<E: Copy>(cells: &[Cell<E>], column: usize) -> bool
     }
 }
 
-/// Whether the cell of a column stands at a place.
+/// Whether the cell at this index is that of this column.
 fn is_at<E: Copy>(cells: &[Cell<E>], place: usize, column: usize) -> bool
     ensures { IsTrue result ↔ ((c : Cell E) × (slice_get cells.now place ≡ Some c) × (c.column ≡ column)) }
 {
@@ -275,7 +275,7 @@ fn is_at<E: Copy>(cells: &[Cell<E>], place: usize, column: usize) -> bool
     }
 }
 
-/// The entry of a column, if it is among these.
+/// The entry of a column, if there is one.
 fn entry_of<E: Copy>(cells: &[Cell<E>], column: usize) -> Option<E>
     requires { AreRising cells.now }
     ensures { result ≡ entry_in cells.now column }
@@ -288,7 +288,7 @@ fn entry_of<E: Copy>(cells: &[Cell<E>], column: usize) -> Option<E>
     }
 }
 
-/// Takes the reductions by a rule out of a row. It fails where memory runs out.
+/// Removes the reductions by a rule from a row. It fails if an allocation fails.
 pub(crate) fn leave_out(
     actions: &mut Dense<TableAction>,
     row: StateNo,

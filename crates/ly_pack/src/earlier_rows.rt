@@ -1,4 +1,4 @@
-//! The bases of the rows that are placed, by their columns.
+//! The bases of the placed rows, by their columns.
 ghost use Rattle.std.specs.Prelude.{◌<◌, ℕ, List, OnOk};
 ghost use Rattle.ly_pack.specs.Private.Bits.{AreTakenBelow, IsTakenAt};
 
@@ -6,8 +6,8 @@ use indexmap::IndexMap;
 use ly_base::OutOfMemory;
 use std::alloc::Global;
 
-/// For each list of columns that placed rows have, the base of the last of these rows. Slots are never given up, so a
-/// base that a row was refused stays refused for those with the same columns.
+/// For each list of columns of placed rows, the base of the last row with these columns. Slots are never freed, so a
+/// base where a row didn't fit doesn't fit later rows with the same columns either.
 #[derive(Drop)]
 pub(crate) struct EarlierRows {
     /// The bases.
@@ -24,7 +24,7 @@ impl EarlierRows {
         }
     }
 
-    /// The base of the last row with these columns, or 0 where there is none.
+    /// The base of the last row with these columns, or 0 if there is none.
     pub(crate) fn base(&self, columns: &[u32]) -> u32
         ensures { (words : List ℕ) → AreTakenBelow words self.now.bases.entries → (lower : ℕ) → lower < result
             → IsTakenAt words columns.now lower }
@@ -35,7 +35,7 @@ impl EarlierRows {
         }
     }
 
-    /// Adds a row with these columns. It fails where memory runs out.
+    /// Adds a row with these columns. It fails if an allocation fails.
     pub(crate) fn insert(&mut self, columns: Vec<u32>, base: u32) -> Result<(), OutOfMemory>
         ensures { OnOk result ((words : List ℕ) → AreTakenBelow words self.old.bases.entries
             → ((lower : ℕ) → lower < base → IsTakenAt words columns.items lower)

@@ -12,8 +12,8 @@ use crate::rule::TableRule;
 use ly_base::{RuleNo, StateNo, Sym};
 use std::marker::Model;
 
-/// A parser as tables, over any rows: all that its entries name is there, and there is a row for each state. State 0 is
-/// the bottom's.
+/// A parser's tables, over any rows. All states, rules and symbols in its entries exist, and there is a row for each
+/// state. State 0 is the bottom of the stack.
 #[derive(Drop)]
 pub struct Machine<A: Rows<TableAction> + Drop, G: Rows<StateNo> + Drop> {
     parts: MachineParts<A, G>,
@@ -35,7 +35,7 @@ impl<A: Rows<TableAction> + Drop, G: Rows<StateNo> + Drop> Model for Machine<A, 
 }
 
 impl<A: Rows<TableAction> + Drop, G: Rows<StateNo> + Drop> Machine<A, G> {
-    /// The machine of these parts.
+    /// The machine with these parts.
     pub fn new(parts: MachineParts<A, G>) -> Machine<A, G>
         requires whole { IsMachine (machine_of_parts A.entries G.entries parts) }
         requires sizes { HaveSizes (length parts.defaults.items) parts.terminals parts.nonterminals
@@ -56,21 +56,21 @@ impl<A: Rows<TableAction> + Drop, G: Rows<StateNo> + Drop> Machine<A, G> {
         parts
     }
 
-    /// How many terminals there are.
+    /// The number of terminals.
     pub fn terminals(&self) -> usize
         ensures { result ≡ self.now.terminals }
     {
         self.parts.terminals
     }
 
-    /// How many nonterminals there are.
+    /// The number of nonterminals.
     pub fn nonterminals(&self) -> usize
         ensures { result ≡ self.now.nonterminals }
     {
         self.parts.nonterminals
     }
 
-    /// How many states there are.
+    /// The number of states.
     pub fn states(&self) -> usize
         ensures count { result ≡ states_of self.now }
         ensures all { IsMachine self.now }
@@ -79,7 +79,7 @@ impl<A: Rows<TableAction> + Drop, G: Rows<StateNo> + Drop> Machine<A, G> {
         self.view().states()
     }
 
-    /// What is done in a state before a terminal, where it isn't the default: the rows of the states.
+    /// The actions of states before terminals, except defaults: a row for each state.
     pub fn actions(&self) -> &A
         ensures entries { self.now.actions
             ≡ grid_of (states_of self.now) self.now.terminals (actions_from (A.entries result.now)) }
@@ -89,7 +89,7 @@ impl<A: Rows<TableAction> + Drop, G: Rows<StateNo> + Drop> Machine<A, G> {
         self.view().actions()
     }
 
-    /// Where a state goes by a nonterminal: the rows of the states.
+    /// The gotos of states by nonterminals: a row for each state.
     pub fn gotos(&self) -> &G
         ensures entries { self.now.gotos
             ≡ grid_of (states_of self.now) self.now.nonterminals (gotos_from (G.entries result.now)) }
@@ -99,7 +99,7 @@ impl<A: Rows<TableAction> + Drop, G: Rows<StateNo> + Drop> Machine<A, G> {
         self.view().gotos()
     }
 
-    /// The machine by reference.
+    /// The machine, borrowed.
     pub fn view(&self) -> MachineView<'_, A, G>
         ensures { result ≡ self.now }
     {
@@ -113,7 +113,7 @@ impl<A: Rows<TableAction> + Drop, G: Rows<StateNo> + Drop> Machine<A, G> {
         )
     }
 
-    /// The rules but rule 0, in their order.
+    /// The rules, in their order, without rule 0.
     pub fn rules(&self) -> &[TableRule]
         ensures { self.now.rules ≡ map rule_from result.now }
     {
@@ -128,7 +128,7 @@ impl<A: Rows<TableAction> + Drop, G: Rows<StateNo> + Drop> Machine<A, G> {
         self.view().default(state)
     }
 
-    /// The entry of a state before a terminal, if it isn't the default.
+    /// The entry of a state before a terminal, if it has one that isn't the default.
     pub fn entry(&self, state: StateNo, terminal: Sym) -> Option<TableAction>
         requires state { state.0 < states_of self.now }
         requires terminal { terminal.0 < self.now.terminals }
@@ -137,7 +137,7 @@ impl<A: Rows<TableAction> + Drop, G: Rows<StateNo> + Drop> Machine<A, G> {
         self.view().entry(state, terminal)
     }
 
-    /// What is done in a state before a terminal: the entry, or else the default reduction, or else an error.
+    /// The action of a state before a terminal: the entry, or else the default reduction, or else an error.
     pub fn action(&self, state: StateNo, terminal: Sym) -> TableAction
         requires state { state.0 < states_of self.now }
         requires terminal { terminal.0 < self.now.terminals }
@@ -146,7 +146,7 @@ impl<A: Rows<TableAction> + Drop, G: Rows<StateNo> + Drop> Machine<A, G> {
         self.view().action(state, terminal)
     }
 
-    /// Where a state goes by a nonterminal, if it does.
+    /// The goto of a state by a nonterminal, if it has one.
     pub fn goto(&self, state: StateNo, left: Sym) -> Option<StateNo>
         requires state { state.0 < states_of self.now }
         requires left { left.0 < self.now.nonterminals }
@@ -155,7 +155,7 @@ impl<A: Rows<TableAction> + Drop, G: Rows<StateNo> + Drop> Machine<A, G> {
         self.view().goto(state, left)
     }
 
-    /// A rule by its number, which counts from 1.
+    /// The rule with this number, counted from 1.
     pub fn rule(&self, rule: RuleNo) -> &TableRule
         requires { IsRuleNumber self.now rule.0 }
         ensures { IsTableRule self.now rule.0 (rule_from result.now) }

@@ -1,19 +1,19 @@
 use crate::rule::TableRule;
 use ly_base::RuleNo;
 
-/// What a machine consists of. `A` are rows of `TableAction`, `G` rows of `StateNo`, a row for each state.
+/// The parts of a machine. `A` are rows of `TableAction`, `G` rows of `StateNo`, one row for each state.
 #[derive(Drop)]
 pub struct MachineParts<A, G> {
-    /// How many terminals there are.
+    /// The number of terminals.
     pub terminals: usize,
-    /// How many nonterminals.
+    /// The number of nonterminals.
     pub nonterminals: usize,
-    /// What is done in a state before a terminal, where it isn't the default.
+    /// The actions of states before terminals, except defaults.
     pub actions: A,
-    /// Where a state goes by a nonterminal.
+    /// The gotos of states by nonterminals.
     pub gotos: G,
     /// The default reduction of each state.
     pub defaults: Vec<Option<RuleNo>>,
-    /// The rules but rule 0: the first is rule 1.
+    /// The rules without rule 0: the first is rule 1.
     pub rules: Vec<TableRule>,
 }

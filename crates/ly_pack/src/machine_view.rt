@@ -10,21 +10,21 @@ use crate::rule::TableRule;
 use ly_base::{RuleNo, StateNo, Sym};
 use std::marker::Model;
 
-/// A parser as tables that are borrowed, over any rows: all that its entries name is there, and there is a row for each
-/// state. State 0 is the bottom's.
+/// A parser's tables, borrowed, over any rows. All states, rules and symbols in its entries exist, and there is a row
+/// for each state. State 0 is the bottom of the stack.
 #[derive(Drop)]
 pub struct MachineView<'a, A: Rows<TableAction> + Drop, G: Rows<StateNo> + Drop> {
-    /// How many terminals there are.
+    /// The number of terminals.
     terminals: usize,
-    /// How many nonterminals.
+    /// The number of nonterminals.
     nonterminals: usize,
-    /// What is done in a state before a terminal, where it isn't the default.
+    /// The actions of states before terminals, except defaults.
     actions: &'a A,
-    /// Where a state goes by a nonterminal.
+    /// The gotos of states by nonterminals.
     gotos: &'a G,
     /// The default reduction of each state.
     defaults: &'a [Option<RuleNo>],
-    /// The rules but rule 0: the first is rule 1.
+    /// The rules without rule 0: the first is rule 1.
     rules: &'a [TableRule],
 }
 
@@ -46,8 +46,8 @@ impl<'a, A: Rows<TableAction> + Drop, G: Rows<StateNo> + Drop> Model for Machine
 }
 
 impl<'a, A: Rows<TableAction> + Drop, G: Rows<StateNo> + Drop> MachineView<'a, A, G> {
-    /// The machine of these parts: how many terminals and nonterminals there are, what is done in states and where they
-    /// go, the default reduction of each, and the rules but rule 0.
+    /// The machine with these parts: the numbers of terminals and nonterminals, the actions and gotos of states, their
+    /// default reductions, and the rules without rule 0.
     pub fn new(
         terminals: usize,
         nonterminals: usize,
@@ -88,21 +88,21 @@ impl<'a, A: Rows<TableAction> + Drop, G: Rows<StateNo> + Drop> MachineView<'a, A
         }
     }
 
-    /// How many terminals there are.
+    /// The number of terminals.
     pub fn terminals(&self) -> usize
         ensures { result ≡ self.now.terminals }
     {
         self.terminals
     }
 
-    /// How many nonterminals there are.
+    /// The number of nonterminals.
     pub fn nonterminals(&self) -> usize
         ensures { result ≡ self.now.nonterminals }
     {
         self.nonterminals
     }
 
-    /// How many states there are.
+    /// The number of states.
     pub fn states(&self) -> usize
         ensures count { result ≡ states_of self.now }
         ensures all { IsMachine self.now }
@@ -111,8 +111,7 @@ impl<'a, A: Rows<TableAction> + Drop, G: Rows<StateNo> + Drop> MachineView<'a, A
         self.defaults.len()
     }
 
-    /// What is done in a state before a terminal, where it isn't the default: the rows of the states, for as long as
-    /// the tables are borrowed.
+    /// The actions of states before terminals, except defaults, with the lifetime of the tables: a row for each state.
     pub fn actions(&self) -> &'a A
         ensures entries { self.now.actions
             ≡ grid_of (states_of self.now) self.now.terminals (actions_from (A.entries result.now)) }
@@ -122,7 +121,7 @@ impl<'a, A: Rows<TableAction> + Drop, G: Rows<StateNo> + Drop> MachineView<'a, A
         self.actions
     }
 
-    /// Where a state goes by a nonterminal: the rows of the states, for as long as the tables are borrowed.
+    /// The gotos of states by nonterminals, with the lifetime of the tables: a row for each state.
     pub fn gotos(&self) -> &'a G
         ensures entries { self.now.gotos
             ≡ grid_of (states_of self.now) self.now.nonterminals (gotos_from (G.entries result.now)) }
@@ -132,7 +131,7 @@ impl<'a, A: Rows<TableAction> + Drop, G: Rows<StateNo> + Drop> MachineView<'a, A
         self.gotos
     }
 
-    /// The rules but rule 0, in their order, for as long as the tables are borrowed.
+    /// The rules, in their order, without rule 0, with the lifetime of the tables.
     pub fn rules(&self) -> &'a [TableRule]
         ensures { self.now.rules ≡ map rule_from result.now }
     {
@@ -147,7 +146,7 @@ impl<'a, A: Rows<TableAction> + Drop, G: Rows<StateNo> + Drop> MachineView<'a, A
         self.defaults[state.0 as usize]
     }
 
-    /// The entry of a state before a terminal, if it isn't the default.
+    /// The entry of a state before a terminal, if it has one that isn't the default.
     pub fn entry(&self, state: StateNo, terminal: Sym) -> Option<TableAction>
         requires state { state.0 < states_of self.now }
         requires terminal { terminal.0 < self.now.terminals }
@@ -156,7 +155,7 @@ impl<'a, A: Rows<TableAction> + Drop, G: Rows<StateNo> + Drop> MachineView<'a, A
         self.actions.entry(state, terminal.0 as usize)
     }
 
-    /// What is done in a state before a terminal: the entry, or else the default reduction, or else an error.
+    /// The action of a state before a terminal: the entry, or else the default reduction, or else an error.
     pub fn action(&self, state: StateNo, terminal: Sym) -> TableAction
         requires state { state.0 < states_of self.now }
         requires terminal { terminal.0 < self.now.terminals }
@@ -171,7 +170,7 @@ impl<'a, A: Rows<TableAction> + Drop, G: Rows<StateNo> + Drop> MachineView<'a, A
         }
     }
 
-    /// Where a state goes by a nonterminal, if it does.
+    /// The goto of a state by a nonterminal, if it has one.
     pub fn goto(&self, state: StateNo, left: Sym) -> Option<StateNo>
         requires state { state.0 < states_of self.now }
         requires left { left.0 < self.now.nonterminals }
@@ -180,7 +179,7 @@ impl<'a, A: Rows<TableAction> + Drop, G: Rows<StateNo> + Drop> MachineView<'a, A
         self.gotos.entry(state, left.0 as usize)
     }
 
-    /// A rule by its number, which counts from 1, for as long as the tables are borrowed.
+    /// The rule with this number, counted from 1, with the lifetime of the tables.
     pub fn rule(&self, rule: RuleNo) -> &'a TableRule
         requires { IsRuleNumber self.now rule.0 }
         ensures { IsTableRule self.now rule.0 (rule_from result.now) }

@@ -10,8 +10,8 @@ use crate::placing::comb;
 use ly_base::{OutOfMemory, StateNo};
 use std::alloc::Global;
 
-/// The machine over combs that are placed by first fit. It fails where memory runs out, and where a base or a column
-/// has no `u32`.
+/// The machine over combs that are placed by first fit. It fails if an allocation fails, or if a base or a column
+/// doesn't fit in a `u32`.
 pub fn pack(
     alloc: Global,
     machine: Machine<Dense<TableAction>, Dense<StateNo>>,

@@ -44,7 +44,7 @@ impl<E: Copy> Packed<E> {
         &self.comb
     }
 
-    /// The comb, given away.
+    /// The comb, by value.
     pub fn into_comb(self) -> Comb<E>
         ensures same { result ≡ self }
         ensures placed { IsFirstFit self }

@@ -1,7 +1,7 @@
-//! From rows as lists to a comb: first fit, the rows with the most entries first (Tarjan and Yao 1979). The search for
-//! a row begins at the base of the last one with the same columns: those below it are refused still.
+//! Places rows as a comb: first fit, the rows with the most entries first (Tarjan and Yao 1979). The search for a row
+//! begins at the base of the last one with the same columns, because no base below it fits.
 //!
-//! Left out: anything that would make combs shorter than first fit does.
+//! Not done here: anything that would make combs shorter than first fit does.
 ghost use Rattle.std.specs.Prelude.{◌≡◌, ◌≢◌, ◌⊎◌, ◌<◌, ◌≤◌, ◌^◌, ℕ, suc, length, IfOk, OnOk, Some};
 ghost use Rattle.ly_pack.specs.Placement.{IsPlaced};
 ghost use Rattle.ly_pack.specs.Private.Bits.{AreStillTaken, IsTakenAt};
@@ -18,8 +18,8 @@ use crate::order::{columns_of_row, rows_in_order};
 use ly_base::{OutOfMemory, StateNo};
 use std::alloc::{AllocError, Global};
 
-/// Lays rows over one another: each begins at the least base where it shares no slot with a row of more entries, or of
-/// as many and a lower number. It fails where memory runs out, and where a base or a column has no `u32`.
+/// Lays rows over one another. Each begins at the least base where it shares no slot with a row of more entries, or of
+/// equally many and a lower number. It fails if an allocation fails, or if a base or a column doesn't fit in a `u32`.
 pub fn comb<E: Copy>(alloc: Global, dense: &Dense<E>) -> Result<Comb<E>, OutOfMemory>
     ensures placed { IfOk result (IsPlaced (record {
       entries = dense_entry dense.now;
@@ -62,17 +62,17 @@ fn place_rows<E: Copy>(
     Ok((bases, placing.slots))
 }
 
-/// Rows that are placed, with a bit for each slot that is used.
+/// The rows placed so far, with a bit for each used slot.
 #[derive(Drop)]
 struct Placing<E> {
     /// The slots.
     slots: Vec<CombSlot<E>>,
-    /// Which of them are used.
+    /// A bit for each used slot.
     used: BitRow,
 }
 
 impl<E: Copy> Placing<E> {
-    /// Places a row, which doesn't fit below some base, and tells its own.
+    /// Places a row, which doesn't fit below some base, and returns its base.
     fn place(
         &mut self,
         dense: &Dense<E>,
@@ -103,7 +103,7 @@ impl<E: Copy> Placing<E> {
         Ok(base as u32)
     }
 
-    /// Puts the entries of a row into the slots from a base on.
+    /// Fills the slots from a base on with the entries of a row.
     fn fill(&mut self, dense: &Dense<E>, row: StateNo, base: usize) -> Result<(), OutOfMemory>
         requires row { row.0 < dense.now.rows }
         requires base { base < 2 ^ 32 }
@@ -119,7 +119,7 @@ impl<E: Copy> Placing<E> {
         Ok(())
     }
 
-    /// Puts a used slot into its place.
+    /// Marks a slot as used, and fills it.
     fn take(&mut self, place: usize, slot: Slot<E>) -> Result<(), AllocError>
         requires place { place < 2 ^ 33 }
         requires tied { AreTied self.old.used.words.items self.old.slots.items }

@@ -8,23 +8,23 @@ use std::alloc::Global;
 use std::borrow::CowSlice;
 use std::rc::Rc;
 
-/// Rows of entries, however they are kept.
+/// Rows of entries, however they are stored.
 pub trait Rows<E> {
     /// The entry of a row and a column, if there is one.
     ghost entries: { Self → Entries E };
 
-    /// How many rows there are.
+    /// The number of rows.
     ghost rows: { Self → ℕ };
 
-    /// How many columns each row has.
+    /// The number of columns of each row.
     ghost width: { Self → ℕ };
 
-    /// The entry of a row and a column, if there is one. The call takes no memory.
+    /// The entry of a row and a column, if there is one. The call doesn't allocate.
     fn entry(&self, row: StateNo, column: usize) -> Option<E>
         ensures { result ≡ entries self.now row.0 column };
 
-    /// The entries of each row, with their columns, which rise: the rows' own lists where they have them. It fails
-    /// where memory runs out, and where a column has no `u32`.
+    /// The entries of each row, in rising order of columns: the rows' own lists if they are stored as such. It fails if
+    /// an allocation fails, or if a column doesn't fit in a `u32`.
     fn cells(&self, alloc: Global) -> Result<CowSlice<'_, Rc<Vec<Cell<E>>>>, OutOfMemory>
         ensures { IfOk result (λ lists. AreAllCellsOf (entries self.now) (rows self.now) (width self.now)
             (cow_slice_items lists)) };

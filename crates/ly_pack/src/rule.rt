@@ -5,8 +5,8 @@ use ly_base::{RuleTree, Sym};
 pub struct TableRule {
     /// The nonterminal on its left side.
     pub left: Sym,
-    /// How many symbols its body has.
+    /// The number of symbols of its body.
     pub body_length: usize,
-    /// What its tree is.
+    /// The tree that it builds.
     pub tree: RuleTree,
 }

@@ -1,5 +1,5 @@
-//! The rule by which most entries of a state reduce. The counts are cleared by going over the state's rules again, so
-//! a state costs no more than its entries.
+//! The most frequent rule among the reductions of a state. The counts are cleared by visiting the state's rules again,
+//! so the cost of a state is that of its entries.
 ghost use Rattle.std.specs.Prelude.{◌≡◌, ◌≢◌, ◌<◌, ◌≤◌, ℕ, length, slice_index, All, Contains};
 ghost use Rattle.std.specs.Prelude.{MatchOption, OnOk};
 ghost use Rattle.ly_pack.specs.Private.Tally.{reductions, times, IsBestOf, IsBetter, IsChosen};
@@ -29,7 +29,7 @@ pub(crate) fn list_rules(
     Ok(())
 }
 
-/// The most frequent of the rules, and the least of those. The counts are 0 before and after.
+/// The most frequent of the rules; the least if there are several. The counts are 0 before and after.
 pub(crate) fn most_frequent(rules: &[u32], counts: &mut [usize]) -> Option<RuleNo>
     requires room { All (λ p. p < length counts.old) rules.now }
     requires clear { (p : ℕ) → slice_index counts.old p ≡ 0 }
@@ -53,7 +53,7 @@ fn count(rules: &[u32], counts: &mut [usize])
     }
 }
 
-/// The rule with the greatest count, and the least of those.
+/// The rule with the greatest count; the least if there are several.
 fn best_of(rules: &[u32], counts: &[usize]) -> Option<RuleNo>
     requires room { All (λ p. p < length counts.now) rules.now }
     requires counted { All (λ p. 1 ≤ slice_index counts.now p) rules.now }
@@ -68,7 +68,7 @@ fn best_of(rules: &[u32], counts: &[usize]) -> Option<RuleNo>
     best
 }
 
-/// Whether a rule has a greater count than the best, or as great a one and a lower number.
+/// Whether a rule has a greater count than the best one, or the same count and a lower number.
 fn is_better(counts: &[usize], rule: u32, best: Option<RuleNo>) -> bool
     requires rule { rule < length counts.now }
     requires best { MatchOption best (Unit {0}) (λ p. p.0 < length counts.now) }
@@ -81,7 +81,7 @@ fn is_better(counts: &[usize], rule: u32, best: Option<RuleNo>) -> bool
     most < count || (most == count && rule < best.0)
 }
 
-/// Makes the counts of the rules 0.
+/// Resets the counts of the rules to 0.
 fn clear(rules: &[u32], counts: &mut [usize])
     requires room { All (λ p. p < length counts.old) rules.now }
     requires counted { (p : ℕ) → slice_index counts.old p ≢ 0 → Contains rules.now p }

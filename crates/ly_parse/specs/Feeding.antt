@@ -1,11 +1,11 @@
--- What a parser's tables do with a token, trees and all (Knuth 1965; Aho, Sethi and Ullman 1986, 4.7).
+-- The effect of a parser's tables on a token, with trees (Knuth 1965; Aho, Sethi and Ullman 1986, 4.7).
 use Rattle.std.specs.Prelude.{◌≡◌, ℕ, zero, suc, List, [], ◌∷◌, Option, Some, None}
 use Rattle.ly_base.specs.Lexed.{Token}
 use Rattle.ly_pack.specs.Machine.{Machine, TableAction, TableRule, accept, action_of, error, goto_at, reduce, shift}
 use Rattle.ly_pack.specs.Steady.{rule_at}
 use Rattle.ly_tree.specs.Term.{Term, Terms, leaf, made, more, none}
 
--- A state on a parser's stack, with the term that led to it.
+-- A state on a parser's stack, with the term of the symbol that led to it.
 pub record Level : Type 0 where
   pub state : ℕ
   pub term : Term
@@ -20,26 +20,26 @@ abbrev pub states_on : List Level → List ℕ
 states_on [] = 0 ∷ []
 states_on (l ∷ stack) = l.state ∷ states_on stack
 
--- What becomes of a token: it is read, and the stack is this; the tables accept with a term; they refuse the token; or
--- they are at fault: a goto is missing, a body goes past the bottom, or they accept without a term.
+-- The outcome for a token: it is read, with this stack; the tables accept with a term; they reject the token; or they
+-- are faulty, because a goto is missing, a body extends past the bottom, or they accept without a term.
 pub data Fed : Type 0 where
   pushed : List Level → Fed
   done : Term → Fed
   refused : Fed
   faulty : Fed
 
--- one turn: the token is settled, or a reduction is made and this is the stack
+-- one turn: the outcome for the token, or the stack after a reduction
 pub data Turn : Type 0 where
   settles : Fed → Turn
   goes_on : List Level → Turn
 
--- so many terms off a stack, in front of others as they stand in the text, and what is left of it
+-- this many terms popped from a stack, in the order of the text before others, and the rest of the stack
 abbrev pub pop : ℕ → List Level → Terms → Option (Terms × List Level)
 pop zero stack ts = Some (ts, stack)
 pop (suc n) [] ts = None
 pop (suc n) (l ∷ stack) ts = pop n stack (more l.term ts)
 
--- the term of a rule's left side is put on a stack
+-- a stack with the term of a rule's left side pushed
 abbrev pub go_to : ℕ → TableRule → Terms → List Level → Option ℕ → Turn
 go_to p r ts stack None = settles faulty
 go_to p r ts stack (Some state) = goes_on (record { state = state; term = made p r.shape ts } ∷ stack)
@@ -67,7 +67,7 @@ perform m token stack error = settles refused
 abbrev pub turn : Machine → Token ℕ → List Level → Turn
 turn m token stack = perform m token stack (action_of m (top_of stack) token.terminal)
 
--- Turns, one after another, settle a token.
+-- Turns lead to the outcome for a token.
 pub data Feeds (m : Machine) (token : Token ℕ) : List Level → Fed → Type 0 where
   settled : {stack : List Level} {out : Fed} → turn m token stack ≡ settles out → Feeds m token stack out
   onward : {stack next : List Level} {out : Fed} → turn m token stack ≡ goes_on next → Feeds m token next out

@@ -1,4 +1,4 @@
--- A code of a level of a parser's stack.
+-- An encoding of a level of a parser's stack.
 use Rattle.std.specs.Prelude.{ℕ, refl}
 use Rattle.std.specs.Coded.{Coded, code_by, coded×, coded_ℕ}
 use Rattle.ly_parse.specs.Feeding.{Level}

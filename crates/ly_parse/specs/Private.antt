@@ -1,4 +1,4 @@
--- What private functions' contracts cite.
+-- Cited by contracts of private functions.
 pub mod Answered
 pub mod Before
 pub mod Copied

@@ -4,7 +4,7 @@ use Rattle.ly_base.specs.Lexed.{Token}
 use Rattle.ly_pack.specs.Machine.{Machine}
 use Rattle.ly_parse.specs.Feeding.{Feeds, Level, pushed}
 
--- Each token leaves the stack that the next is fed from.
+-- The next token is processed with the stack that each token leaves.
 pub data ReadsTokens (m : Machine) : List Level → List (Token ℕ) → List Level → Type 0 where
   at_end : {levels : List Level} → ReadsTokens m levels [] levels
   onward : {levels next last : List Level} {token : Token ℕ} {tokens : List (Token ℕ)}

@@ -1,26 +1,26 @@
 ghost use Rattle.std.specs.Prelude.{◌≡◌};
 ghost use Rattle.ly_parse.specs.Parse.{ends_by};
 
-/// What becomes of a token. It has no fields, so that it goes through a register: what there is to tell of a refusal is
-/// asked for by `Parser::refusal`.
+/// The outcome for a token. It has no fields, so that it is returned in a register. `Parser::refusal` gives the details
+/// of a rejected token.
 #[derive(Clone, Copy, Debug, PartialEq, Eq)]
 pub enum Answer {
-    /// The token is read, and the parse goes on.
+    /// The token is read, and the parse continues.
     Reads,
     /// The tables accept with the term on top of the stack.
     Accepts,
-    /// The token, or the end, is refused.
+    /// The token, or the end, is rejected.
     Refuses,
-    /// The tables are at fault, as `ParseFault::FaultyTables` says.
+    /// The tables are faulty, as described at `ParseFault::FaultyTables`.
     FaultyTables,
-    /// The parse was over before the call.
+    /// The parse had ended before the call.
     Over,
-    /// A growth was refused, or the forest has no more numbers, as `ParseFault::OutOfMemory` says.
+    /// Out of memory, as described at `ParseFault::OutOfMemory`.
     OutOfMemory,
 }
 
 impl Answer {
-    /// Whether the parse is over behind it.
+    /// Whether the parse has ended after it.
     pub(crate) fn is_last(self) -> bool
         ensures { result ≡ ends_by self }
     {

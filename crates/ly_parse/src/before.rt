@@ -1,4 +1,4 @@
-//! What a stack was before the token that a parse is at, while reductions take it down.
+//! The stack as it was before the current token, while reductions pop it.
 ghost use Rattle.std.specs.Prelude.{◌≡◌, ◌<◌, ◌≤◌, [], ◌∷◌, IfOk, OnOk, length};
 ghost use Rattle.ly_parse.specs.Private.Before.{before_of, before_on, levels_with_top};
 ghost use Rattle.ly_parse.specs.Private.Copied.{states_in};
@@ -7,22 +7,21 @@ use crate::level::Level;
 use ly_base::StateNo;
 use std::alloc::{AllocError, Global};
 
-/// The states that a stack had before a token, as far as they aren't still there: each is noted once, before it is
-/// popped.
+/// The states that a stack had before a token, as far as they are gone: each is noted once, before it is popped.
 #[derive(Drop)]
 pub(crate) struct Before {
-    /// How many levels, from the bottom on, are still as they were.
+    /// The number of levels, from the bottom on, that are unchanged.
     kept: usize,
-    /// The state that stood on top, if one stood above the bottom.
+    /// The state that was on top, if there was one above the bottom.
     top: Option<StateNo>,
-    /// The states that stood between, the uppermost first; behind them what is left from other tokens.
+    /// The states between these two, the uppermost first; after them remains of other tokens.
     popped: Vec<StateNo>,
-    /// How many of these are this token's.
+    /// The number of these that belong to this token.
     noted: usize,
 }
 
 impl Before {
-    /// Nothing is noted.
+    /// Without notes.
     pub(crate) fn new(alloc: Global) -> Self
         ensures { before_on [] result ≡ 0 ∷ [] }
     {
@@ -34,12 +33,13 @@ impl Before {
         }
     }
 
-    /// Begins anew: the stack is as it was, but for the state that stood on top, if one stands there.
+    /// Starts again: the stack is unchanged, except that `first` was the state on top, if there is one above the
+    /// bottom.
     pub(crate) fn begin(&mut self, stack: &[Level], first: StateNo)
         ensures kept { self.new.kept ≤ length stack.now }
         ensures before { before_of stack.now self.new ≡ levels_with_top first.0 stack.now }
     {
-        // without a look at what was popped before, which a processor would have to guess
+        // without a look at what was popped before, because that branch would be mispredicted
         self.noted = 0;
         match stack.len().checked_sub(1) {
             Some(kept) => {
@@ -53,8 +53,8 @@ impl Before {
         }
     }
 
-    /// Begins anew, as `begin` does, where a state stands above the bottom.
-    #[inline(always)] // by stores alone
+    /// Starts again like `begin`, if there is a state above the bottom.
+    #[inline(always)] // only stores
     pub(crate) fn begin_above(&mut self, stack: &[Level], first: StateNo)
         requires { 0 < length stack.now }
         ensures kept { self.new.kept ≤ length stack.now }
@@ -78,8 +78,8 @@ impl Before {
         Ok(())
     }
 
-    /// Notes the states above a height, some of which are still as they were, where others were noted before.
-    #[inline(never)] // so that reductions have the registers
+    /// Notes the states above a height, some of which are unchanged. The list has enough elements to overwrite.
+    #[inline(never)] // so that reductions get the registers
     fn note_popped(&mut self, stack: &[Level], height: usize) -> Result<(), AllocError>
         requires kept { self.old.kept ≤ length stack.now }
         requires some { height ≤ self.old.kept }
@@ -103,8 +103,8 @@ impl Before {
         Ok(())
     }
 
-    /// Notes the states above a height, some of which are still as they were, where more are noted than ever before.
-    #[inline(never)] // as few tokens note so many
+    /// Notes the states above a height, some of which are unchanged. The list has to grow.
+    #[inline(never)] // few tokens need this
     fn note_further(&mut self, stack: &[Level], height: usize) -> Result<(), AllocError>
         requires kept { self.old.kept ≤ length stack.now }
         requires some { height ≤ self.old.kept }
@@ -129,7 +129,7 @@ impl Before {
         ensures { IfOk result (λ states. states_in states.items ≡ before_of stack.now self.now) }
     {
         let mut states = Vec::new(alloc);
-        // behind a token that is read the stack may be lower than what is kept
+        // after a token that is read, the stack may be lower than what is unchanged
         for place in 0..self.kept.min(stack.len()) {
             states.push(stack[place].state)?;
         }

@@ -1,4 +1,4 @@
-//! A copy of a stack of states that takes no room for what it has in common with the stack.
+//! A copy of a stack of states that shares the unchanged part with the stack.
 ghost use Rattle.std.specs.Prelude.{◌≡◌, ◌↔◌, ◌<◌, [], ◌∷◌, All, IfOk, IsTrue, OnOk, drop, false, length, true};
 ghost use Rattle.ly_pack.specs.Machine.{states_of, IsMachine, IsRuleNumber};
 ghost use Rattle.ly_parse.specs.Private.Copied.{states_in, top_in, IsMade};
@@ -8,14 +8,14 @@ use ly_pack::{MachineView, Rows, TableAction};
 use std::alloc::{AllocError, Global};
 use std::marker::Model;
 
-/// A copy of a stack of states. What a run doesn't come to stays in the stack.
+/// A copy of a stack of states. States that a run doesn't reach are only in the stack.
 #[derive(Drop)]
 pub(crate) struct Copied<'a> {
     /// The states above the bottom, the top last.
     stack: &'a [StateNo],
-    /// How many of them, from the bottom on, the copy has still.
+    /// The number of these, from the bottom on, that are still in the copy.
     kept: usize,
-    /// Its states above these, the top last.
+    /// The states of the copy above these, the top last.
     above: Vec<StateNo>,
 }
 
@@ -65,14 +65,14 @@ impl<'a> Copied<'a> {
         }
     }
 
-    /// Whether something stands on the bottom.
+    /// Whether there is a state above the bottom.
     pub(crate) fn has_term(&self) -> bool
         ensures { IsTrue result ↔ (1 < length self.now.now) }
     {
         0 < self.kept || !self.above.is_empty()
     }
 
-    /// Pops so many states, if as many stand on the bottom.
+    /// Pops this many states, if there are as many above the bottom.
     fn pop(&mut self, count: usize) -> bool
         ensures whole { self.new.whole ≡ self.old.whole }
         ensures popped { result ≡ true → self.new.now ≡ drop count self.old.now }
@@ -91,7 +91,7 @@ impl<'a> Copied<'a> {
         true
     }
 
-    /// Puts a state on top.
+    /// Pushes a state.
     fn push(&mut self, state: StateNo) -> Result<(), AllocError>
         ensures whole { self.new.whole ≡ self.old.whole }
         ensures pushed { OnOk result (self.new.now ≡ state.0 ∷ self.old.now) }
@@ -100,7 +100,8 @@ impl<'a> Copied<'a> {
         Ok(())
     }
 
-    /// Reduces by a rule. False where the run ends by it, for a goto is missing or the body goes past the bottom.
+    /// Reduces by a rule. Returns false if the run ends there, because a goto is missing or the body extends past the
+    /// bottom.
     pub(crate) fn reduce<A: Rows<TableAction> + Drop, G: Rows<StateNo> + Drop>(
         &mut self,
         machine: &MachineView<'_, A, G>,

@@ -5,17 +5,17 @@ use ly_base::OutOfMemory;
 use std::alloc::{AllocError, AllocFailed};
 use thiserror::Error;
 
-/// Why a parser has no step to answer. The parse is over then.
+/// Why a parser can't return a step. The parse has ended then.
 #[derive(Clone, Copy, Debug, PartialEq, Eq, Error)]
 pub enum ParseFault {
-    /// The tables are at fault: a goto is missing, a body goes past the bottom of the stack, or they accept without a
+    /// The tables are faulty: a goto is missing, a body extends past the bottom of the stack, or they accept without a
     /// term.
     #[error("the tables are at fault")]
     FaultyTables,
-    /// The parse was over before the call.
+    /// The parse had ended before the call.
     #[error("the parse is over")]
     Over,
-    /// A growth was refused, or the forest has no more numbers for nodes, children or bytes of tokens.
+    /// Out of memory, or the forest has no more numbers for nodes, children or bytes of tokens.
     #[error("out of memory")]
     OutOfMemory,
 }
@@ -23,7 +23,7 @@ pub enum ParseFault {
 impl ParseFault {
     ghost use Rattle.ly_parse.specs.FaultNames.{parse_name, parse_number};
 
-    /// The fault's number; want of memory has none.
+    /// The error's number; none for `OutOfMemory`.
     pub fn number(&self) -> Option<u8>
         ensures { result ≡ parse_number self.now }
     {
@@ -34,7 +34,7 @@ impl ParseFault {
         }
     }
 
-    /// The fault's name.
+    /// The error's name.
     pub fn name(&self) -> &'static str
         ensures { result.now ≡ parse_name self.now }
     {

@@ -6,23 +6,23 @@ use crate::shortcut::Shortcut;
 use ly_base::StateNo;
 use ly_pack::TableAction;
 
-/// A shortcut as it is kept: in 16 bytes, so that more of those that are used together lie in a processor's caches.
+/// A cached shortcut. It takes 16 bytes, so that more of those used together fit in a cache line.
 #[derive(Clone, Copy)]
 pub(crate) struct Kept {
     /// The number of a state.
     below: u16,
-    /// That of what stands above it.
+    /// The number of what is above it.
     above: u16,
-    /// That of the terminal that is next.
+    /// The number of the next terminal.
     terminal: u16,
-    /// That of the state that is on top then.
+    /// The number of the state that is on top after it.
     state: u16,
-    /// What is done there before the terminal.
+    /// The action there before the terminal.
     action: TableAction,
 }
 
 impl Kept {
-    /// A shortcut as it is kept. There is none where one of its numbers is past `u16::MAX`.
+    /// The cached form of a shortcut. None if one of its numbers is above `u16::MAX`.
     pub(crate) fn new<O: Origin>(shortcut: Shortcut<O>) -> Option<Kept>
         ensures { IfSome result (λ k. shortcut_of O.origin_of k ≡ shortcut) }
     {
@@ -36,7 +36,7 @@ impl Kept {
         })
     }
 
-    /// The shortcut, if it is from there. All three numbers are one condition, so that a compiler may take one branch.
+    /// The shortcut, if it has this origin. All three numbers are one condition, so that a compiler may use one branch.
     pub(crate) fn shortcut<O: Origin>(&self, from: O) -> Option<Shortcut<O>>
         ensures same { IfSome result (λ s. s ≡ shortcut_of O.origin_of self.now) }
         ensures from { IfSome result (λ s. s.from ≡ from) }

@@ -12,14 +12,14 @@ use crate::shortcuts::Shortcuts;
 use ly_base::{StateNo, Sym};
 use ly_pack::{MachineView, Rows, TableAction};
 
-/// All that a goto and the passes behind it depend on, where a reduction has put a term above a state.
+/// Everything that a goto and the passes after it depend on, if a reduction has put a term above a state.
 #[derive(Clone, Copy)]
 pub(crate) struct Landing {
     /// The state.
     pub(crate) below: StateNo,
-    /// The left side that the term is of.
+    /// The left side of the term.
     pub(crate) left: Sym,
-    /// The terminal that is next.
+    /// The next terminal.
     pub(crate) terminal: Sym,
 }
 
@@ -38,7 +38,7 @@ impl Origin for Landing {
 }
 
 impl Shortcut<Landing> {
-    /// The shortcut from a landing: its goto, and the passes behind that. There is none where a goto is missing.
+    /// The shortcut from a landing: its goto, and the passes after it. None if a goto is missing.
     pub(crate) fn behind<A: Rows<TableAction> + Drop, G: Rows<StateNo> + Drop>(
         machine: &MachineView<'_, A, G>,
         from: Landing,
@@ -71,7 +71,7 @@ impl Shortcut<Landing> {
 }
 
 impl Shortcuts<Landing> {
-    /// The shortcut from a landing, which is kept. It fails with `FaultyTables` where a goto is missing.
+    /// The shortcut from a landing, which is then cached. It fails with `FaultyTables` if a goto is missing.
     pub(crate) fn land<A: Rows<TableAction> + Drop, G: Rows<StateNo> + Drop>(
         &mut self,
         machine: &MachineView<'_, A, G>,
@@ -100,9 +100,9 @@ impl Shortcuts<Landing> {
         })
     }
 
-    /// The state that the landing of a term of this left side above this state leads to, by the tables; the shortcut is
-    /// kept then.
-    #[inline(never)] // so that a shortcut that is kept has the registers; a number alone needs no room in memory
+    /// The state that the landing of a term of this left side above this state leads to, computed from the tables. The
+    /// shortcut is then cached.
+    #[inline(never)] // so that a cached shortcut gets the registers; a single number stays in one
     fn land_by_tables<A: Rows<TableAction> + Drop, G: Rows<StateNo> + Drop>(
         &mut self,
         machine: &MachineView<'_, A, G>,
@@ -143,8 +143,8 @@ impl Shortcuts<Landing> {
     }
 }
 
-/// What is done in a state before a terminal, by the tables.
-#[inline(never)] // as `land_by_tables`
+/// The action of a state before a terminal, from the tables.
+#[inline(never)] // like `land_by_tables`
 fn action_there<A: Rows<TableAction> + Drop, G: Rows<StateNo> + Drop>(
     machine: &MachineView<'_, A, G>,
     state: StateNo,

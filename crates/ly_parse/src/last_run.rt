@@ -1,4 +1,4 @@
-//! A run on a terminal, and the terminals that share it.
+//! A run on a terminal, and the terminals that share its outcome.
 ghost use Rattle.std.specs.Prelude.{◌≡◌, ◌<◌, All, IfOk, IfSome, IsTrue, None, OnOk};
 ghost use Rattle.ly_pack.specs.Machine.{states_of, IsMachine};
 ghost use Rattle.ly_pack.specs.Values.{action_from};
@@ -11,20 +11,20 @@ use ly_base::{OutOfMemory, SparseSet, StateNo, Sym};
 use ly_pack::{MachineView, Rows, TableAction};
 use std::alloc::{AllocError, Global};
 
-/// The last run on a terminal from the whole of a stack. Terminals on which the states that it met do the same share
-/// it.
+/// The last run on a terminal from the whole of a stack. Terminals on which the states that it visited do the same
+/// share its outcome.
 #[derive(Drop)]
 pub(crate) struct LastRun {
-    /// The terminal. There is none before the first run.
+    /// The terminal. None before the first run.
     terminal: Option<Sym>,
-    /// Whether it would be read, or accepted with.
+    /// Whether it would be read, or accepted if it is the end.
     is_expected: bool,
     /// The states that were on top.
     met: SparseSet,
 }
 
 impl LastRun {
-    /// None as yet, with room for so many states.
+    /// Without a run, for this many states.
     pub(crate) fn new(alloc: Global, states: usize) -> Result<Self, AllocError>
         ensures none { IfOk result (λ l. l.terminal ≡ None) }
         ensures room { IfOk result (λ l. l.met.below ≡ states) }
@@ -36,7 +36,8 @@ impl LastRun {
         })
     }
 
-    /// Whether a terminal would be read, or accepted with, from the whole of a stack, of which all runs are.
+    /// Whether a terminal would be read, or accepted if it is the end, from the whole of a stack. All runs are from
+    /// this stack.
     pub(crate) fn is_expected<A: Rows<TableAction> + Drop, G: Rows<StateNo> + Drop>(
         &mut self,
         machine: &MachineView<'_, A, G>,
@@ -62,7 +63,7 @@ impl LastRun {
         Ok(is_expected)
     }
 
-    /// Whether a terminal is expected, if it shares the run.
+    /// Whether a terminal is expected, if it shares the outcome of the run.
     fn known<A: Rows<TableAction> + Drop, G: Rows<StateNo> + Drop>(
         &self,
         machine: &MachineView<'_, A, G>,
@@ -88,7 +89,7 @@ impl LastRun {
     }
 }
 
-/// Whether runs go on, or end, alike by two actions, wherever a shift goes to.
+/// Whether runs continue, or end, alike by two actions, whatever the target of a shift.
 fn does_the_same(one: TableAction, other: TableAction) -> bool
     ensures { IsTrue result → IsAlike (action_from one) (action_from other) }
 {
@@ -98,8 +99,8 @@ fn does_the_same(one: TableAction, other: TableAction) -> bool
     }
 }
 
-/// Runs on a terminal from the whole of a stack, until it is known whether it would be read, or accepted with. Notes
-/// the states that are on top.
+/// Runs on a terminal from the whole of a stack until it is known whether it would be read, or accepted if it is the
+/// end. Notes the states that are on top.
 fn run<A: Rows<TableAction> + Drop, G: Rows<StateNo> + Drop>(
     machine: &MachineView<'_, A, G>,
     terminal: Sym,

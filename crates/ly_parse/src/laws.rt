@@ -1,6 +1,6 @@
 ghost use Rattle.ly_parse.specs.FeedingLaws.{FeedsInOneWay};
 
-/// A token is settled in one way.
+/// Theorem: the outcome for a token is unique.
 pub fn a_token_is_fed_in_one_way()
     ensures { FeedsInOneWay }
 {}

@@ -1,7 +1,7 @@
 use ly_base::StateNo;
 use ly_tree::{Refers, TermRef};
 
-/// A state on the stack, with the term that led to it.
+/// A state on the stack, with the term of the symbol that led to it.
 #[derive(Clone, Copy)]
 pub(crate) struct Level {
     /// The state.

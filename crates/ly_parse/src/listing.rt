@@ -1,5 +1,5 @@
-//! Which terminals tables would read, or accept with, next: each is run on a copy of the stack, until it is known, or
-//! shares the last run.
+//! The terminals that tables would read next, or accept if it is the end: each is run on a copy of the stack until this
+//! is known, or shares the last run.
 ghost use Rattle.std.specs.Prelude.{◌<◌, All, IfOk, map};
 ghost use Rattle.ly_pack.specs.Machine.{states_of};
 ghost use Rattle.ly_pack.specs.Steady.{IsSteady};
@@ -13,9 +13,9 @@ use ly_base::{OutOfMemory, StateNo, Sym};
 use ly_pack::{MachineView, Rows, TableAction};
 use std::alloc::Global;
 
-/// The terminals that a parser's tables would read, or accept with, from a stack of states, rising. The stack stays as
-/// it is.
-#[inline(never)] // so that a token that is read has the registers
+/// The terminals that a parser's tables would read, or accept if it is the end, from a stack of states, in rising
+/// order. The stack isn't changed.
+#[inline(never)] // so that a token that is read gets the registers
 pub(crate) fn expected<A: Rows<TableAction> + Drop, G: Rows<StateNo> + Drop>(
     alloc: Global,
     machine: &MachineView<'_, A, G>,
@@ -31,7 +31,7 @@ pub(crate) fn expected<A: Rows<TableAction> + Drop, G: Rows<StateNo> + Drop>(
     let mut list = Vec::new(alloc);
     for number in 0..machine.terminals() {
         let Ok(number) = u32::try_from(number) else {
-            return Err(OutOfMemory); // so many terminals have no numbers
+            return Err(OutOfMemory); // there are more terminals than numbers
         };
         let terminal = Sym(number);
         if last.is_expected(machine, terminal, &mut copied)? {

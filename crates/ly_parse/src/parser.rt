@@ -22,12 +22,12 @@ use ly_tree::{Forest, TermRef};
 use std::alloc::Global;
 use std::marker::Model;
 
-/// A parse over tables of which every run ends.
+/// A parse with tables whose runs all end.
 #[derive(Drop)]
 pub struct Parser<'a, A: Rows<TableAction> + Drop, G: Rows<StateNo> + Drop> {
     /// The parse.
     running: Running<'a, A, G>,
-    /// What its stack was before the token that it refused last.
+    /// The stack as it was before the token that was rejected last.
     before: Before,
 }
 
@@ -46,7 +46,7 @@ impl<'a, A: Rows<TableAction> + Drop, G: Rows<StateNo> + Drop> Model for Parser<
 }
 
 impl<'a, A: Rows<TableAction> + Drop, G: Rows<StateNo> + Drop> Parser<'a, A, G> {
-    /// A parse that has read nothing: the bottom alone is on its stack.
+    /// A parse that has read nothing: only the bottom is on its stack.
     pub fn new(alloc: Global, machine: MachineView<'a, A, G>) -> Self
         requires { IsSteady machine }
         ensures { result ≡ record {
@@ -64,23 +64,23 @@ impl<'a, A: Rows<TableAction> + Drop, G: Rows<StateNo> + Drop> Parser<'a, A, G> 
         }
     }
 
-    /// The terms so far.
+    /// The terms built so far.
     pub fn forest(&self) -> &Forest
         ensures { result.now ≡ self.now.forest }
     {
         self.running.forest()
     }
 
-    /// Gives up the stack, and hands out the terms.
+    /// Drops the stack, and returns the terms.
     pub fn into_forest(self) -> Forest
         ensures { result ≡ self.entry.forest }
     {
         self.running.into_forest()
     }
 
-    /// Takes a token: makes the reductions before it, and then reads it or refuses it. After any other answer than
-    /// `Reads` the parse is over. What there is to tell of a token that is refused is asked for by `refusal`.
-    #[inline(always)] // for it is one call
+    /// Processes a token: makes the reductions before it, and then reads or rejects it. After any result other than
+    /// `Reads` the parse has ended. For a rejected token, `refusal` returns the details.
+    #[inline(always)] // it is a single call
     pub fn take(&mut self, token: &Token<'_>) -> Answer
         requires not_end { token.now.terminal.0 ≢ 0 }
         requires terminal { token.now.terminal.0 < self.old.machine.terminals }
@@ -93,8 +93,8 @@ impl<'a, A: Rows<TableAction> + Drop, G: Rows<StateNo> + Drop> Parser<'a, A, G> 
         self.running.feed(token, &mut self.before)
     }
 
-    /// Takes a token, as `take` does; the parse isn't over.
-    #[inline(always)] // for it is one call
+    /// Processes a token like `take`. The parse must not have ended.
+    #[inline(always)] // it is a single call
     pub fn go_on(&mut self, token: &Token<'_>) -> Answer
         requires goes_on { self.old.over ≡ false }
         requires not_end { token.now.terminal.0 ≢ 0 }
@@ -108,11 +108,11 @@ impl<'a, A: Rows<TableAction> + Drop, G: Rows<StateNo> + Drop> Parser<'a, A, G> 
         self.running.go_on(token, &mut self.before)
     }
 
-    /// What there is to tell of the token that was refused last: its number, and the terminals that would have been
-    /// read in its place, or accepted with, as the stack stood before it.
+    /// Describes the token that was rejected last: its number, and the terminals that would have been read in its
+    /// place, or accepted if it is the end, with the stack as it was before the token.
     ///
-    /// It fails where memory runs out, or tokens have no more numbers.
-    #[inline(never)] // so that the room of the list is made where a token is refused, and at no other
+    /// It fails if an allocation fails, or if tokens have no more numbers.
+    #[inline(never)] // so that only a rejected token pays for the list
     pub fn refusal(&self) -> Result<Refusal, OutOfMemory>
         requires { IsTellable self.now }
         ensures number { IfOk result (λ r. r.number ≡ self.now.count + 1) }
@@ -125,11 +125,11 @@ impl<'a, A: Rows<TableAction> + Drop, G: Rows<StateNo> + Drop> Parser<'a, A, G> 
         })
     }
 
-    /// Takes a token, as `take` does, and tells what there is to tell. A refusal lists the terminals that would have
-    /// been read in its place, or accepted with, as the stack stood before the call. After any other answer than `More`
-    /// the parse is over.
+    /// Processes a token like `take`, and returns the details. A refusal lists the terminals that would have been read
+    /// in its place, or accepted if it is the end, with the stack as it was before the call. After any result other
+    /// than `More` the parse has ended.
     ///
-    /// Its faults are those of `ParseFault`.
+    /// The errors are those of `ParseFault`.
     pub fn feed(&mut self, token: &Token<'_>) -> Result<Step, ParseFault>
         requires not_end { token.now.terminal.0 ≢ 0 }
         requires terminal { token.now.terminal.0 < self.old.machine.terminals }
@@ -143,11 +143,11 @@ impl<'a, A: Rows<TableAction> + Drop, G: Rows<StateNo> + Drop> Parser<'a, A, G> 
         self.told(answer, token.at)
     }
 
-    /// Takes the end of the text, which stands at this byte: makes the reductions before it, and then accepts or
-    /// refuses it, as `feed` does. The parse is over then. The term that it accepts with uses no part of the forest
-    /// twice, so the forest says how much there is to print.
+    /// Processes the end of the text, which is at this offset: makes the reductions before it, and then accepts or
+    /// rejects it, like `feed`. The parse has then ended. The term that it accepts with uses no part of the forest
+    /// twice, so the forest bounds the length of its printed text.
     ///
-    /// Its faults are those of `ParseFault`.
+    /// The errors are those of `ParseFault`.
     pub fn end(&mut self, at: u64) -> Result<Step, ParseFault>
         requires { 0 < self.old.machine.terminals }
         ensures call { IsCall self.old (record { terminal = 0; at = at; bytes = [] }) self.new result }
@@ -159,8 +159,8 @@ impl<'a, A: Rows<TableAction> + Drop, G: Rows<StateNo> + Drop> Parser<'a, A, G> 
         self.told(answer, at)
     }
 
-    /// What is told of a call that came to this answer, and whose token stands at this byte. A term that is accepted
-    /// uses no part of the forest twice.
+    /// The result of a call with this outcome, whose token is at this offset. A term that is accepted uses no part of
+    /// the forest twice.
     fn told(&self, answer: Answer, at: u64) -> Result<Step, ParseFault>
         requires { answer ≡ answers.Refuses → IsTellable self.now }
         ensures told { IsTold self.now at answer result }
@@ -177,7 +177,7 @@ impl<'a, A: Rows<TableAction> + Drop, G: Rows<StateNo> + Drop> Parser<'a, A, G> 
         }
     }
 
-    /// Refuses the last token, which stands at this byte.
+    /// The refusal of the last token, which is at this offset.
     fn refuse(&self, at: u64) -> Result<Step, ParseFault>
         requires { IsTellable self.now }
         ensures { IsRefusal self.now at result }

@@ -1,10 +1,10 @@
 use ly_base::Sym;
 
-/// What there is to tell of a token that a parser refused.
+/// The description of a token that a parser rejected.
 #[derive(Debug, Drop)]
 pub struct Refusal {
-    /// Its number: how many tokens there are up to it, it among them.
+    /// Its number: the number of tokens up to it, including it.
     pub number: u64,
-    /// The terminals that would have been read in its place, or accepted with, by rising number.
+    /// The terminals that would have been read in its place, or accepted if it is the end, in rising order.
     pub expected: Vec<Sym>,
 }

@@ -31,24 +31,24 @@ use ly_tree::{Forest, TermRef};
 use std::alloc::Global;
 use std::marker::Model;
 
-/// A parse over tables of which every run ends, but for what its stack was before the token that it is at.
+/// A parse with tables whose runs all end, without the notes on the stack before the current token.
 #[derive(Drop)]
 pub(crate) struct Running<'a, A: Rows<TableAction> + Drop, G: Rows<StateNo> + Drop> {
-    /// Where room is taken from.
+    /// The allocator.
     alloc: Global,
     /// The tables.
     pub(crate) machine: MachineView<'a, A, G>,
-    /// The terms so far.
+    /// The terms built so far.
     pub(crate) forest: Forest,
     /// The stack above the bottom, whose state is 0; its top is last.
     pub(crate) stack: Vec<Level>,
-    /// What runs of passes came to so far.
+    /// The cached outcomes of runs of passes.
     pub(crate) shortcuts: Shortcuts<Situation>,
-    /// What gotos and the passes behind them came to so far.
+    /// The cached outcomes of gotos and the passes after them.
     pub(crate) landings: Shortcuts<Landing>,
-    /// How many tokens were read.
+    /// The number of tokens read.
     count: u64,
-    /// Whether the parse has ended, well or not.
+    /// Whether the parse has ended, successfully or not.
     over: bool,
 }
 
@@ -71,7 +71,7 @@ impl<'a, A: Rows<TableAction> + Drop, G: Rows<StateNo> + Drop> Model for Running
 }
 
 impl<'a, A: Rows<TableAction> + Drop, G: Rows<StateNo> + Drop> Running<'a, A, G> {
-    /// A parse that has read nothing: the bottom alone is on its stack.
+    /// A parse that has read nothing: only the bottom is on its stack.
     pub(crate) fn new(alloc: Global, machine: MachineView<'a, A, G>) -> Self
         requires { IsSteady machine }
         ensures { result ≡ record {
@@ -83,7 +83,7 @@ impl<'a, A: Rows<TableAction> + Drop, G: Rows<StateNo> + Drop> Running<'a, A, G>
           asked = [];
         } }
     {
-        // the call's contract says that all that the tables name is there
+        // the call's contract requires that all states, rules and symbols in the tables exist
         let _states = machine.states();
         Running {
             alloc,
@@ -97,23 +97,23 @@ impl<'a, A: Rows<TableAction> + Drop, G: Rows<StateNo> + Drop> Running<'a, A, G>
         }
     }
 
-    /// The terms so far.
+    /// The terms built so far.
     pub(crate) fn forest(&self) -> &Forest
         ensures { result.now ≡ self.now.forest }
     {
         &self.forest
     }
 
-    /// Gives up the stack, and hands out the terms.
+    /// Drops the stack, and returns the terms.
     pub(crate) fn into_forest(self) -> Forest
         ensures { result ≡ self.entry.forest }
     {
         self.forest
     }
 
-    /// Takes a token: makes the reductions before it, and then reads it or refuses it. After any other answer than
-    /// `Reads` the parse is over. Where the token is refused, what the stack was is noted.
-    #[inline(always)] // by a call a token takes a fifteenth more instructions
+    /// Processes a token: makes the reductions before it, and then reads or rejects it. After any result other than
+    /// `Reads` the parse has ended. If the token is rejected, the stack as it was is noted.
+    #[inline(always)] // a call would cost a fifteenth more instructions per token
     pub(crate) fn feed(&mut self, token: &Token<'_>, before: &mut Before) -> Answer
         requires not_end { token.now.terminal.0 ≢ 0 }
         requires terminal { token.now.terminal.0 < self.old.machine.terminals }
@@ -129,8 +129,8 @@ impl<'a, A: Rows<TableAction> + Drop, G: Rows<StateNo> + Drop> Running<'a, A, G>
         self.go_on(token, before)
     }
 
-    /// Takes a token, as `feed` does; the parse isn't over.
-    #[inline(always)] // so that a token that is read has the registers
+    /// Processes a token like `feed`. The parse must not have ended.
+    #[inline(always)] // so that a token that is read gets the registers
     pub(crate) fn go_on(&mut self, token: &Token<'_>, before: &mut Before) -> Answer
         requires goes_on { self.old.over ≡ false }
         requires not_end { token.now.terminal.0 ≢ 0 }
@@ -148,9 +148,9 @@ impl<'a, A: Rows<TableAction> + Drop, G: Rows<StateNo> + Drop> Running<'a, A, G>
         answer
     }
 
-    /// What a token comes to: reductions are made before it, and then it is read or refused. Where it is refused, what
-    /// the stack was is noted.
-    #[inline(always)] // so that the loop over tokens has the registers
+    /// The outcome for a token: reductions are made before it, and then it is read or rejected. If it is rejected, the
+    /// stack as it was is noted.
+    #[inline(always)] // so that the loop over tokens gets the registers
     fn come(&mut self, token: &Token<'_>, before: &mut Before) -> Answer
         requires not_end { token.now.terminal.0 ≢ 0 }
         requires terminal { token.now.terminal.0 < self.old.machine.terminals }
@@ -162,7 +162,7 @@ impl<'a, A: Rows<TableAction> + Drop, G: Rows<StateNo> + Drop> Running<'a, A, G>
         ensures machine { self.new.machine ≡ self.old.machine }
         ensures over { self.new.over ≡ self.old.over }
     {
-        // the invariant says that what the stack was can be told
+        // the invariant guarantees that the stack as it was can be reconstructed
         let _ = &self.machine;
         match self.settle(token.terminal, before) {
             Settled::Reads(state) => match self.read(state, token) {
@@ -176,8 +176,8 @@ impl<'a, A: Rows<TableAction> + Drop, G: Rows<StateNo> + Drop> Running<'a, A, G>
         }
     }
 
-    /// Takes the end of the text: makes the reductions before it, and then accepts or refuses it. The parse is over
-    /// then. Where the end is refused, what the stack was is noted.
+    /// Processes the end of the text: makes the reductions before it, and then accepts or rejects it. The parse has
+    /// then ended. If the end is rejected, the stack as it was is noted.
     pub(crate) fn end(&mut self, before: &mut Before) -> Answer
         requires { 0 < self.old.machine.terminals }
         ensures call { (at : ℕ) → IsTake (with_note self.old before.old) (record {
@@ -201,7 +201,7 @@ impl<'a, A: Rows<TableAction> + Drop, G: Rows<StateNo> + Drop> Running<'a, A, G>
         }
     }
 
-    /// What a call comes to where the tables accept: they are at fault without a term.
+    /// The outcome of a call if the tables accept: they are faulty if there is no term.
     fn acceptance(&self) -> Answer
         ensures { IsAcceptance self.now.stack result }
     {
@@ -211,8 +211,8 @@ impl<'a, A: Rows<TableAction> + Drop, G: Rows<StateNo> + Drop> Running<'a, A, G>
         Answer::Accepts
     }
 
-    /// Puts a token that is read onto the stack.
-    #[inline(always)] // so that the loop over tokens has the registers
+    /// Pushes a token that is read onto the stack.
+    #[inline(always)] // so that the loop over tokens gets the registers
     fn read(&mut self, state: StateNo, token: &Token<'_>) -> Result<(), OutOfMemory>
         requires { action_of self.old.machine (top_of self.old.stack) token.now.terminal.0 ≡ shift state.0 }
         ensures stack { OnOk result (self.new.stack ≡ record {
@@ -232,8 +232,8 @@ impl<'a, A: Rows<TableAction> + Drop, G: Rows<StateNo> + Drop> Running<'a, A, G>
         Ok(())
     }
 
-    /// Puts a token that is read and counted onto the stack, whose text isn't copied as a block.
-    #[inline(never)] // so that the others have the registers; a token that is handed to it would lie in memory
+    /// Pushes a token that is read and counted, and whose text isn't copied as a block, onto the stack.
+    #[inline(never)] // so that the others get the registers; passing it the token would put that into memory
     fn read_long(&mut self, state: StateNo, terminal: Sym, text: &[u8]) -> Result<(), OutOfMemory>
         requires { action_of self.old.machine (top_of self.old.stack) terminal.0 ≡ shift state.0 }
         ensures stack { OnOk result (self.new.stack ≡ record {
@@ -263,7 +263,7 @@ impl<'a, A: Rows<TableAction> + Drop, G: Rows<StateNo> + Drop> Running<'a, A, G>
         }
     }
 
-    /// What is expected in place of the next token, from the stack as it was.
+    /// The terminals expected in place of the next token, with the stack as it was.
     pub(crate) fn expected(&self, before: &Before) -> Result<Vec<Sym>, OutOfMemory>
         requires { IsTellable (with_note self.now before.now) }
         ensures { IfOk result (λ ts. AreExpected self.now.machine (before_on self.now.stack before.now)
@@ -281,8 +281,8 @@ impl<'a, A: Rows<TableAction> + Drop, G: Rows<StateNo> + Drop> Running<'a, A, G>
     }
 }
 
-/// Makes room for a level more, where there is none.
-#[inline(always)] // as `read`
+/// Reserves capacity for one more level, if there is none.
+#[inline(always)] // like `read`
 fn make_room(stack: &mut Vec<Level>) -> Result<(), OutOfMemory>
     ensures items { stack.new.items ≡ stack.old.items }
     ensures room { OnOk result (length stack.new.items < vec_capacity stack.new) }
@@ -293,8 +293,8 @@ fn make_room(stack: &mut Vec<Level>) -> Result<(), OutOfMemory>
     Ok(())
 }
 
-/// Makes room for a level more.
-#[inline(never)] // so that most tokens have the registers
+/// Reserves capacity for one more level.
+#[inline(never)] // so that most tokens get the registers
 fn grow(stack: &mut Vec<Level>) -> Result<(), OutOfMemory>
     ensures items { stack.new.items ≡ stack.old.items }
     ensures room { OnOk result (length stack.new.items < vec_capacity stack.new) }

@@ -1,17 +1,17 @@
 use ly_base::StateNo;
 
-/// What is done with a token once no reduction is left before it, or what went wrong before that. It has one number at
-/// most, so that it goes through registers.
+/// The outcome for a token when no reduction is left before it, or an error before that. It has at most one number, so
+/// that it is returned in registers.
 #[derive(Clone, Copy)]
 pub(crate) enum Settled {
-    /// It is read, and this is the state.
+    /// It is read, and the parser goes to this state.
     Reads(StateNo),
     /// The tables accept.
     Accepts,
-    /// It is refused.
+    /// It is rejected.
     Refuses,
-    /// The tables are at fault.
+    /// The tables are faulty.
     FaultyTables,
-    /// A growth was refused.
+    /// Out of memory.
     OutOfMemory,
 }

@@ -1,4 +1,4 @@
-//! What a parse does before a terminal: passes and reductions, until it is settled what is done with that.
+//! The passes and reductions before a terminal, until its outcome is known.
 ghost use Rattle.std.specs.Prelude.{◌≡◌, ◌≢◌, ◌<◌, ◌≤◌, ◌+◌, ◌-◌, ◌*◌, ℕ, Err, None, drop, length, take, IfOk, IfSome};
 ghost use Rattle.std.specs.Prelude.{List, OnOk};
 ghost use Rattle.ly_base.specs.Shape.{shape_of};
@@ -26,9 +26,9 @@ use ly_pack::{Rows, TableAction};
 use ly_tree::TermRef;
 
 impl<A: Rows<TableAction> + Drop, G: Rows<StateNo> + Drop> Running<'_, A, G> {
-    /// Makes the reductions before a terminal, and answers what is done then. Where it is refused, what the stack was
-    /// is noted.
-    #[inline(always)] // by a call a token takes a fifteenth more instructions
+    /// Makes the reductions before a terminal, and returns the outcome. If it is rejected, the stack as it was is
+    /// noted.
+    #[inline(always)] // a call would cost a fifteenth more instructions per token
     pub(crate) fn settle(&mut self, terminal: Sym, before: &mut Before) -> Settled
         requires { terminal.0 < self.old.machine.terminals }
         ensures settled { IsSettled self.old.machine terminal.0 self.old.stack (states_on self.old.stack) self.new.stack
@@ -37,22 +37,22 @@ impl<A: Rows<TableAction> + Drop, G: Rows<StateNo> + Drop> Running<'_, A, G> {
         ensures count { self.new.count ≡ self.old.count }
         ensures over { self.new.over ≡ self.old.over }
     {
-        // else no place is asked for whether the bottom is there
+        // from here on no step needs to check for the bottom
         if self.stack.len() < 2 {
             return self.settle_low(terminal, before);
         }
         let Some((first, action)) = self.pass(terminal) else {
             return self.settle_by_tables(terminal, before);
         };
-        // most tokens are read at once, so it is looked for first
+        // most tokens are read at once, so this is checked first
         if let TableAction::Shift(state) = action {
             return Settled::Reads(state);
         }
         self.settle_above(action, terminal, first, before)
     }
 
-    /// Makes the reductions before a terminal, as `settle` does, where few states are on the stack.
-    #[inline(never)] // so that the others have the registers
+    /// Makes the reductions before a terminal like `settle`, if few states are on the stack.
+    #[inline(never)] // so that the common case gets the registers
     fn settle_low(&mut self, terminal: Sym, before: &mut Before) -> Settled
         requires { terminal.0 < self.old.machine.terminals }
         ensures settled { IsSettled self.old.machine terminal.0 self.old.stack (states_on self.old.stack) self.new.stack
@@ -67,9 +67,9 @@ impl<A: Rows<TableAction> + Drop, G: Rows<StateNo> + Drop> Running<'_, A, G> {
         }
     }
 
-    /// Makes the reductions before a terminal, the passes that come first by the tables, and answers what is done then.
-    /// Where it is refused, what the stack was is noted.
-    #[inline(never)] // so that a shortcut that is kept has the registers
+    /// Makes the reductions before a terminal, the first passes by the tables, and returns the outcome. If it is
+    /// rejected, the stack as it was is noted.
+    #[inline(never)] // so that a cached shortcut gets the registers
     fn settle_by_tables(&mut self, terminal: Sym, before: &mut Before) -> Settled
         requires { terminal.0 < self.old.machine.terminals }
         ensures settled { IsSettled self.old.machine terminal.0 self.old.stack (states_on self.old.stack) self.new.stack
@@ -87,8 +87,8 @@ impl<A: Rows<TableAction> + Drop, G: Rows<StateNo> + Drop> Running<'_, A, G> {
         }
     }
 
-    /// Does what the tables do before a terminal, as `settle_behind` does. Where the terminal is refused, what the
-    /// stack was, with this state on top, is noted.
+    /// Executes the actions of the tables before a terminal like `settle_behind`. If the terminal is rejected, the
+    /// stack as it was, with this state on top, is noted.
     fn settle_from(
         &mut self,
         action: TableAction,
@@ -109,8 +109,8 @@ impl<A: Rows<TableAction> + Drop, G: Rows<StateNo> + Drop> Running<'_, A, G> {
         self.settle_behind(action, terminal, before)
     }
 
-    /// Does what the tables do before a terminal, as `settle_from` does, where a state stands above the bottom.
-    #[inline(always)] // so that most tokens needn't ask for it
+    /// Executes the actions of the tables before a terminal like `settle_from`, if there is a state above the bottom.
+    #[inline(always)] // so that most tokens skip it
     fn settle_above(
         &mut self,
         action: TableAction,
@@ -132,9 +132,9 @@ impl<A: Rows<TableAction> + Drop, G: Rows<StateNo> + Drop> Running<'_, A, G> {
         self.settle_behind(action, terminal, before)
     }
 
-    /// Does what the tables do before a terminal, as long as they reduce, and answers what is done then. Where the
-    /// terminal is refused, what is noted says of the stack what it said before.
-    #[inline(never)] // so that a token that is read at once has the registers
+    /// Executes the actions of the tables before a terminal as long as they reduce, and returns the outcome. If the
+    /// terminal is rejected, the notes still describe the same stack as before.
+    #[inline(never)] // so that a token that is read at once gets the registers
     fn settle_behind(&mut self, action: TableAction, terminal: Sym, before: &mut Before) -> Settled
         requires terminal { terminal.0 < self.old.machine.terminals }
         requires action { action_from action ≡ action_of self.old.machine (top_of self.old.stack) terminal.0 }
@@ -146,7 +146,7 @@ impl<A: Rows<TableAction> + Drop, G: Rows<StateNo> + Drop> Running<'_, A, G> {
         ensures count { self.new.count ≡ self.old.count }
         ensures over { self.new.over ≡ self.old.over }
     {
-        // the invariant says that the run on a token ends
+        // the invariant guarantees that the run on a token ends
         let _ = &self.machine;
         let mut next = action;
         loop {
@@ -165,9 +165,9 @@ impl<A: Rows<TableAction> + Drop, G: Rows<StateNo> + Drop> Running<'_, A, G> {
         }
     }
 
-    /// Makes the passes before a terminal, if they are kept as a shortcut. Answers which state stood on top before, and
-    /// what is done then.
-    #[inline(always)] // as `settle`
+    /// Makes the passes before a terminal, if they are cached as a shortcut. Returns the state that was on top before,
+    /// and the next action.
+    #[inline(always)] // like `settle`
     fn pass(&mut self, terminal: Sym) -> Option<(StateNo, TableAction)>
         requires { terminal.0 < self.old.machine.terminals }
         ensures first { IfSome result (λ r. r.0.0 ≡ top_of self.old.stack) }
@@ -199,9 +199,9 @@ impl<A: Rows<TableAction> + Drop, G: Rows<StateNo> + Drop> Running<'_, A, G> {
         None
     }
 
-    /// Makes the passes before a terminal by the tables, keeps what they come to as a shortcut, and answers what is
-    /// done then.
-    #[inline(never)] // so that a shortcut that is kept has the registers
+    /// Makes the passes before a terminal by the tables, caches their outcome as a shortcut, and returns the next
+    /// action.
+    #[inline(never)] // so that a cached shortcut gets the registers
     fn pass_by_tables(&mut self, terminal: Sym) -> Result<TableAction, ParseFault>
         requires { terminal.0 < self.old.machine.terminals }
         ensures leads { OnOk result (LeadsByReductions self.old.machine terminal.0 self.old.stack self.new.stack) }
@@ -215,7 +215,7 @@ impl<A: Rows<TableAction> + Drop, G: Rows<StateNo> + Drop> Running<'_, A, G> {
         ensures count { self.new.count ≡ self.old.count }
         ensures over { self.new.over ≡ self.old.over }
     {
-        // the bottom alone has no term to pass on
+        // there is no term to pass on above the bottom
         let Some(place) = self.stack.len().checked_sub(1) else {
             return Ok(self.machine.action(StateNo(0), terminal));
         };
@@ -240,8 +240,8 @@ impl<A: Rows<TableAction> + Drop, G: Rows<StateNo> + Drop> Running<'_, A, G> {
         self.top_at(self.stack.len())
     }
 
-    /// Makes a reduction and the passes behind it before a terminal, and answers what is done then. What it pops is
-    /// noted unless the terminal is read then.
+    /// Makes a reduction and the passes after it before a terminal, and returns the next action. The popped states are
+    /// noted unless that action reads the terminal.
     fn reduce(
         &mut self,
         number: RuleNo,
@@ -278,7 +278,7 @@ impl<A: Rows<TableAction> + Drop, G: Rows<StateNo> + Drop> Running<'_, A, G> {
             terminal,
         };
         let shortcut = self.landings.land(&self.machine, from)?;
-        // where the terminal is read next, nobody asks what the stack was
+        // if the terminal is read next, the old stack isn't needed
         if !matches!(shortcut.action, TableAction::Shift(_)) {
             before.note(&self.stack, below)?;
         }
@@ -291,7 +291,7 @@ impl<A: Rows<TableAction> + Drop, G: Rows<StateNo> + Drop> Running<'_, A, G> {
         Ok(shortcut.action)
     }
 
-    /// The state on top of so many levels, from the bottom on.
+    /// The top state of this many levels, from the bottom on.
     fn top_at(&self, height: usize) -> StateNo
         requires { height ≤ length self.now.stack }
         ensures top { result.0 ≡ top_of (drop (length self.now.stack - height) self.now.stack) }
@@ -303,7 +303,7 @@ impl<A: Rows<TableAction> + Drop, G: Rows<StateNo> + Drop> Running<'_, A, G> {
         }
     }
 
-    /// What a rule makes of the terms on the stack above so many levels.
+    /// The term that a rule builds from the terms on the stack above this many levels.
     fn make(
         &mut self,
         number: RuleNo,

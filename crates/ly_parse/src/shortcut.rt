@@ -9,15 +9,15 @@ use crate::origin::{Numbers, Origin};
 use ly_base::{RuleTree, StateNo, Sym};
 use ly_pack::{MachineView, Rows, TableAction};
 
-/// All that a run of passes depends on. A pass is a reduction by a rule of one symbol that passes its term on: it
-/// changes the state on top of the stack, and nothing else.
+/// Everything that a run of passes depends on. A pass is a reduction by a rule of one symbol that passes its term on:
+/// it changes the state on top of the stack, and nothing else.
 #[derive(Clone, Copy)]
 pub(crate) struct Situation {
     /// The state below the one on top of the stack.
     pub(crate) below: StateNo,
     /// The state on top.
     pub(crate) top: StateNo,
-    /// The terminal that is next.
+    /// The next terminal.
     pub(crate) terminal: Sym,
 }
 
@@ -35,19 +35,19 @@ impl Origin for Situation {
     }
 }
 
-/// What the tables lead to from somewhere.
+/// Where the tables lead from an origin.
 #[derive(Clone, Copy)]
 pub(crate) struct Shortcut<O> {
-    /// From where.
+    /// The origin.
     pub(crate) from: O,
-    /// The state that is on top then.
+    /// The state that is on top after it.
     pub(crate) state: StateNo,
-    /// What is done there before the terminal.
+    /// The action there before the terminal.
     pub(crate) action: TableAction,
 }
 
 impl Shortcut<Situation> {
-    /// The shortcut from a situation, found pass by pass. There is none where a goto is missing on the way.
+    /// The shortcut from a situation, computed pass by pass. None if a goto is missing on the way.
     pub(crate) fn find<A: Rows<TableAction> + Drop, G: Rows<StateNo> + Drop>(
         machine: &MachineView<'_, A, G>,
         from: Situation,
@@ -76,7 +76,7 @@ impl Shortcut<Situation> {
     }
 }
 
-/// The left side that an action passes the term on top to, if it is a reduction that does no more.
+/// The left side to which an action passes the term on top, if it is a reduction that does only that.
 fn passed_to<A: Rows<TableAction> + Drop, G: Rows<StateNo> + Drop>(
     machine: &MachineView<'_, A, G>,
     action: TableAction,

@@ -10,24 +10,25 @@ use ly_base::OutOfMemory;
 use std::alloc::Global;
 use std::marker::PhantomData;
 
-/// How many places there are for shortcuts: as many as `Numbers::place` names.
+/// The number of places for shortcuts: the range of `Numbers::place`.
 const PLACES: usize = 32_768;
-/// How many of the first shortcuts aren't kept: a short text has hardly more, and then takes no room for them.
+/// The number of shortcuts that aren't cached at first. A short text has hardly more, and then needs no memory for
+/// them.
 const FIRST: usize = 256;
 
-/// The shortcuts that were found, each at the place of its origin, where the next one of that place takes over.
+/// The cached shortcuts, each at the place of its origin. A new one replaces the old one there.
 #[derive(Drop)]
 pub(crate) struct Shortcuts<O> {
-    /// The places; none before the first shortcut is kept, which takes all of them.
+    /// The places. Empty until the first shortcut is cached, which allocates all of them.
     places: Vec<Kept>,
-    /// How many of the first ones have come.
+    /// The number of uncached shortcuts so far.
     count: usize,
-    /// What all of them set out from: situations, or landings.
+    /// The kind of their origins: situations, or landings.
     origins: PhantomData<O>,
 }
 
 impl<O: Origin> Shortcuts<O> {
-    /// No shortcuts.
+    /// An empty cache.
     pub(crate) fn new(alloc: Global) -> Self
         ensures { (m : Tables) → AreShortcuts O.origin_of (O.leads m) result }
     {
@@ -38,7 +39,7 @@ impl<O: Origin> Shortcuts<O> {
         }
     }
 
-    /// The shortcut from somewhere, if it is kept.
+    /// The cached shortcut from an origin, if there is one.
     pub(crate) fn get(&self, from: O) -> Option<Shortcut<O>>
         ensures { (m : Tables) → AreShortcuts O.origin_of (O.leads m) self.now
             → IfSome result (λ s. IsFrom (O.leads m) from s) }
@@ -46,8 +47,8 @@ impl<O: Origin> Shortcuts<O> {
         self.places.get(from.numbers().place())?.shortcut(from)
     }
 
-    /// Keeps a shortcut at its place, unless it is one of the first, or one of its numbers is past `u16::MAX`: the
-    /// tables are then asked each time.
+    /// Caches a shortcut at its place, unless it is one of the first, or one of its numbers is above `u16::MAX`. Such a
+    /// one is computed from the tables each time.
     pub(crate) fn keep(&mut self, shortcut: Shortcut<O>) -> Result<(), OutOfMemory>
         ensures { (m : Tables) → AreShortcuts O.origin_of (O.leads m) self.old
             → O.leads m shortcut.from shortcut.state.0 (action_from shortcut.action)

@@ -1,20 +1,20 @@
 use ly_base::Sym;
 use ly_tree::TermRef;
 
-/// What a parser says of a token, or of the end of the text.
+/// The result of a parser for a token, or for the end of the text.
 #[derive(Debug, Drop)]
 pub enum Step {
-    /// The token was read, and the parse goes on.
+    /// The token was read, and the parse continues.
     More,
-    /// The text is accepted, and this is its term in the parser's forest.
+    /// The text is accepted. This is its term in the parser's forest.
     Done(TermRef),
-    /// The token, or the end, is refused.
+    /// The token, or the end, is rejected.
     Refused {
-        /// Its number: how many tokens there are up to it, it among them.
+        /// Its number: the number of tokens up to it, including it.
         token: u64,
-        /// The byte where it stands.
+        /// Its offset in the text.
         byte: u64,
-        /// The terminals that would have been read in its place, or accepted with, by rising number.
+        /// The terminals that would have been read in its place, or accepted if it is the end, in rising order.
         expected: Vec<Sym>,
     },
 }

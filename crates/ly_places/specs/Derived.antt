@@ -1,4 +1,4 @@
--- A derivation that a forest holds, and where its tokens stand.
+-- A derivation in a forest, and the spans of its tokens.
 use Rattle.std.specs.Prelude.{◌≡◌, ℕ, List, ◌++◌, map}
 use Rattle.ly_base.specs.Lexed.{Token}
 use Rattle.ly_base.specs.Trees.{Tree, yield_of}
@@ -10,14 +10,14 @@ use Rattle.ly_tree.specs.Forest.{Grown, StandsFor}
 use Rattle.ly_tree.specs.Term.{build}
 use Rattle.ly_tree.specs.declared.forest.TermRef.{TermRef}
 
--- The reference stands for what rules that keep all of their bodies build of a derivation. Its tokens are the last ones
--- of a text, behind others.
+-- The reference represents what rules that keep their whole bodies build from a derivation. Its tokens are the last
+-- ones of a text.
 pub record IsDerived (f : Grown) (root : TermRef) (tokens : List Extent) (rules : List TableRule)
     (before : List (Token ℕ)) (d : Tree) : Type 0 where
   pub stands : StandsFor f root (build (shape_of_rule (map keeping_rule rules)) d)
   pub fits : Fits rules d
   pub extents : map extent_of (before ++ yield_of d) ≡ tokens
 
--- the shape of a rule speaks of places of its body
+-- the shape of a rule uses places of its body
 abbrev pub IsShaped : TableRule → Type 0
 IsShaped r = IsShapeFor r.body_length r.shape

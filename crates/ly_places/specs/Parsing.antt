@@ -1,4 +1,4 @@
--- The parts of the tree that a text has, or what is wrong with it.
+-- The parts of a text's tree, or the error in the text.
 use Rattle.std.specs.Prelude.{◌≡◌, ℕ, List}
 use Rattle.ly_feed.specs.Flaw as flaw
 use Rattle.ly_feed.specs.declared.text_fault.TextFault.{TextFault}
@@ -9,12 +9,12 @@ use Rattle.ly_places.specs.PlacedAnswer.{accepted, verdict_of, PlacedVerdict}
 use Rattle.ly_places.specs.declared.parsing.Parsed.{Parsed}
 use Rattle.ly_places.specs.declared.parsing.Parsed.TheVariants.{Refused, Tree}
 
--- the parts are those of the text's term, or the flaw is what is said of it
+-- the parts are those of the text's term, or the error is that of the verdict
 abbrev pub IsParsedAs : List ℕ → PlacedVerdict → Parsed → Type 0
 IsParsedAs text v (Tree parts) = (t : Placed) × (v ≡ accepted t) × (parts.items ≡ parts_of t)
 IsParsedAs text v (Refused f) = verdict_of text v ≡ flaw.verdict_of f
 
--- the tables are at fault on the text, or memory ran out
+-- the tables are faulty for the text, or memory ran out
 abbrev pub IsOfParsing : TextFault → Type 0
 IsOfParsing FaultyTables = Unit {0}
 IsOfParsing OutOfMemory = Unit {0}

@@ -1,4 +1,4 @@
--- Terms with where their parts stand in a text, made of derivations whose leaves are tokens.
+-- Terms with the spans of their parts in a text, built from derivations whose leaves are tokens.
 use Rattle.std.specs.Prelude.{ℕ, zero, suc, ◌+◌, List, [], ◌∷◌, Option, Some, None, length}
 use Rattle.ly_base.specs.Lexed.{Token}
 use Rattle.ly_base.specs.Shape.{Shape, nil, node, place}
@@ -10,8 +10,7 @@ use Rattle.ly_tree.specs.Term as term
 use Rattle.ly_tree.specs.Term.{Term, Terms}
 
 mutual
-  -- Nothing; a leaf, by its terminal; or a rule's constructor over terms. Each stands from a byte of the text on, up to
-  -- another one.
+  -- Nothing; a leaf, by its terminal; or a rule's constructor over terms. Each has a span of the text.
   pub data Placed : Type 0 where
     nothing : Extent → Placed
     leaf : ℕ → Extent → Placed
@@ -22,13 +21,13 @@ mutual
     none : PlacedTerms
     more : Placed → PlacedTerms → PlacedTerms
 
--- where the last of some tokens ends, or the start of the text
+-- the end of the last of some tokens, or the start of the text
 abbrev pub end_behind : List (Token ℕ) → ℕ
 end_behind [] = 0
 end_behind (t ∷ []) = t.at + length t.bytes
 end_behind (t ∷ u ∷ ts) = end_behind (u ∷ ts)
 
--- from where the first of both begins to where the last of them ends
+-- from the start of the first span to the end of the last
 abbrev pub joined : Option Extent → Option Extent → Option Extent
 joined None b = b
 joined (Some a) None = Some a
@@ -45,17 +44,17 @@ abbrev mutual
   tokens_extents derivation.none = None
   tokens_extents (derivation.more t ts) = joined (tokens_extent t) (tokens_extents ts)
 
--- where the last of some tokens ends, or else those before them
+-- the end of the last of some tokens, or else of those before them
 abbrev pub end_or : ℕ → Option Extent → ℕ
 end_or last None = last
 end_or last (Some e) = e.end
 
--- where tokens stand, or else no bytes where those before them end
+-- the span of tokens, or else an empty one at the end of those before them
 abbrev pub extent_or : ℕ → Option Extent → Extent
 extent_or last None = empty_at last
 extent_or last (Some e) = e
 
--- Where the parts of a tree begin at the earliest: where its first token does, or else where those before it end.
+-- The earliest position for the parts of a tree: the start of its first token, or else the end of those before it.
 abbrev pub start_or : ℕ → Option Extent → ℕ
 start_or last None = last
 start_or last (Some e) = e.start
@@ -67,19 +66,19 @@ at_place (more t ts) zero other = other
 at_place (more t ts) (suc zero) other = t
 at_place (more t ts) (suc (suc i)) other = at_place ts (suc i) other
 
--- those at these places
+-- the terms at these places
 abbrev pub at_places : PlacedTerms → List ℕ → Placed → PlacedTerms
 at_places ts [] other = none
 at_places ts (i ∷ is) other = more (at_place ts i other) (at_places ts is other)
 
--- what a rule makes of the terms of its body, whose tokens stand there
+-- the term that a rule builds from the terms of its body, whose tokens have this span
 abbrev pub made : ℕ → Shape → Extent → PlacedTerms → Placed
 made p nil e ts = nothing e
 made p (place i) e ts = at_place ts i (nothing e)
 made p (node name is) e ts = built p e (at_places ts is (nothing e))
 
--- The term of a derivation tree by these shapes, with its places. The byte is where the last token before it ends, or
--- where the innermost tree around it that has tokens begins, if that is later: a tree without tokens stands there.
+-- The term of a derivation tree by these shapes, with its spans. The offset is the end of the last token before it, or
+-- the start of the innermost tree around it that has tokens, if that is later: a tree without tokens is there.
 abbrev mutual
   pub placed : (ℕ → Shape) → ℕ → Tree → Placed
   placed shape last (derivation.leaf t) = leaf t.terminal (extent_of t)
@@ -92,7 +91,7 @@ abbrev mutual
       (placed_all shape (end_or last (tokens_extent t)) ts)
 
 abbrev mutual
-  -- the term without its places
+  -- the term without its spans
   pub forgotten : List ℕ → Placed → Term
   forgotten text (nothing e) = term.nothing
   forgotten text (leaf t e) = term.leaf t (bytes_at text e)
@@ -102,7 +101,7 @@ abbrev mutual
   all_forgotten text none = term.none
   all_forgotten text (more t ts) = term.more (forgotten text t) (all_forgotten text ts)
 
--- where a term stands
+-- the span of a term
 abbrev pub where_of : Placed → Extent
 where_of (nothing e) = e
 where_of (leaf t e) = e

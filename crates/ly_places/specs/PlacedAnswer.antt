@@ -1,4 +1,4 @@
--- What a table set says of a text, with where the parts of its tree stand, and how that is written.
+-- The verdict of a table set on a text, with the spans of the parts of its tree, and its written form.
 use Rattle.std.specs.Prelude.{◌≡◌, ℕ, List, [], ◌∷◌, ◌++◌, codes}
 use Rattle.std.specs.Fmt.{decimal}
 use Rattle.ly_base.specs.Bytes.{newline}
@@ -20,15 +20,15 @@ use Rattle.ly_tables.specs.TableSet.{TableSet}
 use Rattle.ly_tree.specs.Shown.{Vocabulary}
 use Rattle.ly_tree.specs.Term.{build}
 
--- The text has a term, whose parts stand there; or what else is said of it.
+-- The text has a term, with the spans of its parts; or it has another verdict.
 pub data PlacedVerdict : Type 0 where
   accepted : Placed → PlacedVerdict
   refused : ℕ → Token ℕ → List ℕ → PlacedVerdict
   unmatched : ℕ → PlacedVerdict
   faulty : PlacedVerdict
 
--- A derivation tree has the tokens of a text behind some others (behind none, where the tables accept with one level on
--- their stack), the text's term is what its rules build of it, and the places are those of the tree.
+-- A derivation tree has the tokens of a text after some others (after none, if the tables accept with one level on
+-- their stack), the text's term is what its rules build from it, and the spans are those of the tree.
 pub record IsPlacedBy (s : TableSet) (text : List ℕ) (t : Placed) : Type 0 where
   pub tokens : List (Token ℕ)
   pub are_tokens : AreTokens (scan_part_of s) (start_of text) tokens Clean
@@ -44,14 +44,14 @@ IsPlacedVerdict s text (refused k t ts) = IsVerdict s text (plain.refused k t ts
 IsPlacedVerdict s text (unmatched byte) = IsVerdict s text (plain.unmatched byte)
 IsPlacedVerdict s text faulty = IsVerdict s text plain.faulty
 
--- The verdict without places; a tree's leaves have the bytes of the text that stand there.
+-- The verdict without spans. A tree's leaves have the bytes of the text in their spans.
 abbrev pub verdict_of : List ℕ → PlacedVerdict → Verdict
 verdict_of text (accepted t) = plain.accepted (forgotten text t)
 verdict_of text (refused k t ts) = plain.refused k t ts
 verdict_of text (unmatched byte) = plain.unmatched byte
 verdict_of text faulty = plain.faulty
 
--- the line of JSON; nothing where the tables are at fault
+-- the line of JSON; empty if the tables are faulty
 abbrev pub placed_line : Vocabulary → List ℕ → PlacedVerdict → List ℕ
 placed_line v text (accepted t) = placed_json v text t ++ newline ∷ []
 placed_line v text (refused k t ts) = json_refusal k t.at ++ (json_extent text (extent_of t) ++ (json_token v t
@@ -60,7 +60,7 @@ placed_line v text (unmatched byte) = codes "{\"error\":\"unmatched\",\"byte\":"
     ++ (json_extent text (empty_at byte) ++ (codes "}" ++ newline ∷ [])))
 placed_line v text faulty = []
 
--- the text is answered with this outcome and these bytes
+-- the text has this outcome and these bytes as its result
 abbrev pub PlacedAnswer : TableSet → List ℕ → Outcome → List ℕ → Type 0
 PlacedAnswer s text outcome answer = (v : PlacedVerdict) × IsPlacedVerdict s text v
     × IsOutcome (verdict_of text v) outcome × (answer ≡ placed_line (vocabulary_of s) text v)

@@ -15,7 +15,7 @@ abbrev mutual
   placed_json v text (built p e ts) = codes "{\"node\":" ++ (json_name (v.constructor p) ++ (json_extent text e
       ++ (codes ",\"children\":[" ++ (placed_jsons v text ts ++ codes "]}"))))
 
-  -- terms, commas between them
+  -- terms with commas between them
   pub placed_jsons : Vocabulary → List ℕ → PlacedTerms → List ℕ
   placed_jsons v text none = codes ""
   placed_jsons v text (more t none) = placed_json v text t

@@ -1,4 +1,4 @@
--- What a JSON text with places says of a tree.
+-- A JSON text with locations determines its tree.
 use Rattle.std.specs.Prelude.{◌≡◌, ◌<◌, ◌^◌, ℕ, List, [], ◌++◌, All, codes, take}
 use Rattle.ly_base.specs.Location.{column_behind, line_behind}
 use Rattle.ly_extents.specs.Extents.{bytes_at}
@@ -14,7 +14,7 @@ pub record Spot : Type 0 where
   pub line : ℕ
   pub column : ℕ
 
--- that of an offset in a text
+-- the location of an offset in a text
 abbrev pub spot_at : List ℕ → ℕ → Spot
 spot_at text offset = record {
   offset = offset;
@@ -23,7 +23,7 @@ spot_at text offset = record {
 }
 
 mutual
-  -- a placed term with names in place of numbers, and with the spots where it begins and ends
+  -- a placed term with names in place of numbers, and with the locations where it begins and ends
   pub data NamedPlaces : Type 0 where
     nothing : NamedPlaces
     leaf : List ℕ → Spot → Spot → List ℕ → NamedPlaces
@@ -34,7 +34,7 @@ mutual
     more : NamedPlaces → AllNamedPlaces → AllNamedPlaces
 
 abbrev mutual
-  -- a placed term by its names
+  -- a placed term with its names
   pub named : Vocabulary → List ℕ → Placed → NamedPlaces
   named v text (placed.nothing e) = nothing
   named v text (placed.leaf t e) =
@@ -46,7 +46,7 @@ abbrev mutual
   all_named v text placed.none = none
   all_named v text (placed.more t ts) = more (named v text t) (all_named v text ts)
 
--- a spot as it is printed, and where something begins and ends
+-- the printed form of a location, and of a start and an end
 abbrev pub json_spot : Spot → List ℕ
 json_spot s = json_located s.offset s.line s.column
 
@@ -62,7 +62,7 @@ abbrev mutual
   json_named (built name a b ts) = codes "{\"node\":" ++ (json_name name ++ (json_spots a b
       ++ (codes ",\"children\":[" ++ (jsons_named ts ++ codes "]}"))))
 
-  -- those of terms, commas between them
+  -- the text of terms, with commas between them
   pub jsons_named : AllNamedPlaces → List ℕ
   jsons_named none = []
   jsons_named (more t ts) = json_named t ++ others_named ts
@@ -78,7 +78,7 @@ pub record IsCounted (s : Spot) : Type 0 where
   pub column : s.column < 2 ^ 64
 
 abbrev mutual
-  -- what leaves consist of is bytes, and all numbers are below 2^64
+  -- the texts of leaves consist of bytes, and all numbers are below 2^64
   pub IsSpelled : NamedPlaces → Type 0
   IsSpelled nothing = Unit {0}
   IsSpelled (leaf name a b bytes) = IsCounted a × IsCounted b × All (λ byte. byte < 256) bytes
@@ -88,11 +88,11 @@ abbrev mutual
   AreSpelled none = Unit {0}
   AreSpelled (more t ts) = IsSpelled t × AreSpelled ts
 
--- a text that begins with a placed term says which one, and where it ends
+-- a text that begins with a placed term determines the term and where it ends
 abbrev pub SaysOnePlacedTree : Type 0
 SaysOnePlacedTree = (s t : NamedPlaces) (r q : List ℕ) → IsSpelled s → IsSpelled t
     → json_named s ++ r ≡ json_named t ++ q → (s ≡ t) × (r ≡ q)
 
--- the text of a placed term is that of its names and spots
+-- the text of a placed term is that of its names and locations
 abbrev pub IsOfNamedPlaces : Type 0
 IsOfNamedPlaces = (v : Vocabulary) (text : List ℕ) (t : Placed) → placed_json v text t ≡ json_named (named v text t)

@@ -1,4 +1,4 @@
--- What holds of placed terms.
+-- Laws of placed terms.
 use Rattle.std.specs.Prelude.{◌≡◌, ◌≤◌, ◌+◌, ℕ, List, [], ◌∷◌, All, length}
 use Rattle.ly_base.specs.Lexed.{Token}
 use Rattle.ly_base.specs.Shape.{Shape}
@@ -9,22 +9,23 @@ use Rattle.ly_places.specs.Placed.{nothing, placed, where_of}
 use Rattle.ly_extents.specs.declared.extent.Extent.{Extent}
 use Rattle.ly_tree.specs.Term.{build}
 
--- a token has the bytes of the text that stand where it does
+-- a token has the bytes of the text in its span
 abbrev pub IsOfText : List ℕ → Token ℕ → Type 0
 IsOfText text t = bytes_at text (extent_of t) ≡ t.bytes
 
--- tokens follow one another from a byte on: each begins behind the end of the one before, or there
+-- tokens follow one another from an offset on: each begins at or after the end of the one before, the first at or after
+-- this offset
 abbrev pub FollowFrom : ℕ → List (Token ℕ) → Type 0
 FollowFrom last [] = Unit {0}
 FollowFrom last (t ∷ ts) = (last ≤ t.at) × FollowFrom (t.at + length t.bytes) ts
 
--- it begins and ends within the other one, and isn't turned around
+-- it is within the other one, and its start isn't after its end
 pub record IsInside (inner outer : Extent) : Type 0 where
   pub start : outer.start ≤ inner.start
   pub turned : inner.start ≤ inner.end
   pub end : inner.end ≤ outer.end
 
--- each part stands within the node that it is a part of
+-- the span of each part is within that of its node
 abbrev mutual
   pub IsNested : Placed → Type 0
   IsNested (nothing e) = Unit {0}
@@ -35,12 +36,12 @@ abbrev mutual
   AreNestedIn e none = Unit {0}
   AreNestedIn e (more t ts) = IsInside (where_of t) e × IsNested t × AreNestedIn e ts
 
--- without its places a placed term is what the rules build
+-- without its spans a placed term is what the rules build
 abbrev pub PlacesAreForgotten : Type 0
 PlacesAreForgotten = (text : List ℕ) (shape : ℕ → Shape) (last : ℕ) (d : Tree) → All (IsOfText text) (yield_of d)
     → forgotten text (placed shape last d) ≡ build shape d
 
--- where tokens follow one another, parts stand within their nodes
+-- if tokens follow one another, the spans of parts are within those of their nodes
 abbrev pub PartsAreNested : Type 0
 PartsAreNested = (shape : ℕ → Shape) (last : ℕ) (d : Tree) → FollowFrom last (yield_of d)
     → IsNested (placed shape last d)

@@ -1,22 +1,22 @@
--- What the rules of a table set make, and what rules make that keep all of their bodies.
+-- The trees of a table set's rules, and those of rules that keep their whole bodies.
 use Rattle.std.specs.Prelude.{◌≡◌, ℕ, zero, suc, List, [], ◌∷◌, Some, codes, slice_get, option_map, unwrap_or, map}
 use Rattle.ly_base.specs.Shape as shape
 use Rattle.ly_base.specs.Shape.{Shape, nil, place}
 use Rattle.ly_base.specs.Trees.{Tree, Trees, leaf, more, node, none}
 use Rattle.ly_pack.specs.Machine.{Machine, TableRule}
 
--- the shape of a rule, which stands one place before its number; that of nothing for rule 0 and where there is none
+-- the shape of a rule, whose index is its number - 1; that of nothing for rule 0 and if there is no such rule
 abbrev pub shape_of_rule : List TableRule → ℕ → Shape
 shape_of_rule rules zero = nil
 shape_of_rule rules (suc p) = unwrap_or (option_map (λ r. r.shape) (slice_get rules p)) nil
 
--- the places of a body of this length, which are to be preceded by so many
+-- the places of a body of this length, after this many others
 abbrev pub places_behind : ℕ → ℕ → List ℕ
 places_behind before zero = []
 places_behind before (suc n) = suc before ∷ places_behind (suc before) n
 
--- The shape of a node with the whole body: but the rule of nothing makes nothing, and one of a single symbol that hands
--- on its term does so still.
+-- The shape of a node with the whole body. A rule of nothing still makes nothing, and one of a single symbol that
+-- passes on its term still does.
 abbrev pub keeping : ℕ → Shape → Shape
 keeping n nil = nil
 keeping (suc zero) (place i) = place i
@@ -25,7 +25,7 @@ keeping n other = shape.node (codes "kept") (places_behind 0 n)
 abbrev pub keeping_rule : TableRule → TableRule
 keeping_rule r = record { left = r.left; body_length = r.body_length; shape = keeping r.body_length r.shape }
 
--- the parser that makes derivations
+-- the parser that builds derivations
 abbrev pub keeping_machine : Machine → Machine
 keeping_machine m = record {
   terminals = m.terminals;
@@ -36,17 +36,17 @@ keeping_machine m = record {
   rules = map keeping_rule m.rules;
 }
 
--- how many trees stand one after another
+-- the number of trees
 abbrev pub count_of : Trees → ℕ
 count_of none = 0
 count_of (more t ts) = suc (count_of ts)
 
--- the rule is there, and these trees are as many as the symbols of its body
+-- the rule exists, and there are as many trees as symbols of its body
 abbrev pub FitsRule : List TableRule → ℕ → Trees → Type 0
 FitsRule rules zero ts = ⊥
 FitsRule rules (suc p) ts = (r : TableRule) × (slice_get rules p ≡ Some r) × (count_of ts ≡ r.body_length)
 
--- Each node is by a rule that is there, and has a tree for each symbol of its body.
+-- The rule of each node exists, and the node has a tree for each symbol of its body.
 abbrev mutual
   pub Fits : List TableRule → Tree → Type 0
   Fits rules (leaf t) = Unit {0}

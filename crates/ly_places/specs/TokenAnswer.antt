@@ -1,4 +1,4 @@
--- What a parser's tables say of tokens over a text that were found otherwise than by the set's scanner.
+-- The verdict of a parser's tables on tokens of a text that weren't found by the set's scanner.
 use Rattle.std.specs.Prelude.{◌≡◌, ◌↔◌, ◌<◌, ◌≤◌, ℕ, ◌+◌, List, [], ◌∷◌, ◌++◌, length, map}
 use Rattle.ly_base.specs.Lexed.{Token, start_of}
 use Rattle.ly_base.specs.Trees.{Tree, yield_of}
@@ -21,17 +21,17 @@ use Rattle.ly_places.specs.declared.placed_token.PlacedToken.{PlacedToken}
 use Rattle.ly_tables.specs.TableSet.{TableSet, machine_of}
 use Rattle.ly_tree.specs.Term.{build}
 
--- a token over a text, with its bytes
+-- a token of a text, with its bytes
 abbrev pub token_over : List ℕ → PlacedToken → Token ℕ
 token_over text t = record { terminal = t.terminal.0; at = t.extent.start; bytes = bytes_at text t.extent }
 
--- It has one of so many terminals, and not that of the end; and it stands among so many bytes.
+-- Its terminal is less than this number and isn't the end, and its span is within this many bytes.
 pub record IsTokenOver (terminals count : ℕ) (t : PlacedToken) : Type 0 where
   pub some : 1 ≤ t.terminal.0
   pub known : t.terminal.0 < terminals
   pub within : IsWithin count t.extent
 
--- Of what a parser is fed with it reads the tokens before one, and this becomes of that.
+-- Of its input a parser reads the tokens before this one, which has this outcome.
 pub record ComesOf (m : Machine) (all before : List (Token ℕ)) (t : Token ℕ) (out : Fed) : Type 0 where
   pub behind : List (Token ℕ)
   pub split : all ≡ before ++ t ∷ behind
@@ -39,7 +39,8 @@ pub record ComesOf (m : Machine) (all before : List (Token ℕ)) (t : Token ℕ)
   pub reads : ReadsTokens m [] before last
   pub feeds : Feeds m t last out
 
--- What a parser's tables say of tokens with the end behind them: what IsSaidFrom says where a scanner found them.
+-- The verdict of a parser's tables on tokens followed by the end: the one that IsSaidFrom defines for tokens found by a
+-- scanner.
 abbrev pub IsSaidOf : Machine → List (Token ℕ) → Token ℕ → Verdict → Type 0
 IsSaidOf m tokens end (accepted d) = (last : List Level) × ReadsTokens m [] tokens last × Feeds m end last (fed.done d)
 IsSaidOf m tokens end (refused k t ts) = (before : List (Token ℕ)) × (c : ComesOf m (tokens ++ end ∷ []) before t
@@ -48,12 +49,12 @@ IsSaidOf m tokens end (unmatched byte) = ⊥
 IsSaidOf m tokens end faulty = (before : List (Token ℕ)) × (t : Token ℕ) × ComesOf m (tokens ++ end ∷ []) before t
     fed.faulty
 
--- what a table set says of tokens over a text
+-- the verdict of a table set on tokens of a text
 abbrev pub IsTokenVerdict : TableSet → List ℕ → List (Token ℕ) → Verdict → Type 0
 IsTokenVerdict s text tokens v = IsSaidOf (machine_of s) tokens (end_of text) v
 
--- A derivation tree has just these tokens behind some others (behind none, where the tables accept with one level on
--- their stack), their term is what the set's rules build of it, and the places are those of the tree.
+-- A derivation tree has exactly these tokens after some others (after none, if the tables accept with one level on
+-- their stack), their term is what the set's rules build from it, and the spans are those of the tree.
 pub record IsPlacedOver (s : TableSet) (text : List ℕ) (tokens : List (Token ℕ)) (t : Placed) : Type 0 where
   pub before : List (Token ℕ)
   pub tree : Tree
@@ -67,7 +68,7 @@ IsPlacedTokenVerdict s text tokens (with_places.refused k t ts) = IsTokenVerdict
 IsPlacedTokenVerdict s text tokens (with_places.unmatched byte) = ⊥
 IsPlacedTokenVerdict s text tokens with_places.faulty = IsTokenVerdict s text tokens faulty
 
--- Of the tokens that a set's scanner finds in a text the same is said as of the text.
+-- The verdict on the tokens that a set's scanner finds in a text is the verdict on the text.
 abbrev pub SaysTheSameOfItsTokens : Type 0
 SaysTheSameOfItsTokens = (s : TableSet) (text : List ℕ) (tokens : List (Token ℕ)) (v : Verdict)
     → AreTokens (scan_part_of s) (start_of text) tokens Clean → IsTokenVerdict s text tokens v ↔ IsVerdict s text v

@@ -1,10 +1,10 @@
--- Placed terms whose parts stand within a text.
+-- Placed terms whose parts are within a text.
 use Rattle.std.specs.Prelude.{ℕ}
 use Rattle.ly_extents.specs.Extents.{IsWithin}
 use Rattle.ly_places.specs.Placed.{Placed, PlacedTerms, built, leaf, more, none, nothing}
 
 abbrev mutual
-  -- a term does, with all that it consists of
+  -- a term is, with all its parts
   pub StandsWithin : ℕ → Placed → Type 0
   StandsWithin count (nothing e) = IsWithin count e
   StandsWithin count (leaf t e) = IsWithin count e

@@ -15,31 +15,31 @@ use ly_tables::TableSet;
 use ly_tree::{Forest, TermRef};
 use std::alloc::Global;
 
-/// The derivation of a text: its tree in a forest, whose leaves are tokens, and where all tokens of the text stand.
+/// The derivation of a text: its tree in a forest, whose leaves are tokens, and the spans of all tokens of the text.
 #[derive(Drop)]
 pub(crate) struct Derivation {
-    /// The terms that rules make which keep all of their bodies.
+    /// The terms built by rules that keep their whole bodies.
     pub(crate) forest: Forest,
-    /// The term of the text among these.
+    /// The term of the text in this forest.
     pub(crate) root: TermRef,
-    /// Where the tokens stand, one behind another.
+    /// The spans of the tokens, in their order.
     pub(crate) tokens: Vec<Extent>,
 }
 
-/// What is found of a text.
+/// The result of deriving a text.
 #[derive(Drop)]
 pub(crate) enum Derived<'t> {
-    /// It has this derivation.
+    /// The text has this derivation.
     Accepted(Derivation),
-    /// This is wrong with it.
+    /// The text has this error.
     Refused(Flaw<'t>),
 }
 
-/// The derivation of a text by a table set, or what is wrong with the text. Its tokens are listed by a run of the lexer
-/// of their own, so that the run with the parser is that of every other answer.
+/// The derivation of a text by a table set, or the error in the text. Its tokens are listed by a second run of the
+/// lexer, so that the run with the parser is the same as for other results.
 ///
-/// The lexer and the rules are those of the set; these keep all of their bodies. It fails with `FaultyTables`, and with
-/// `OutOfMemory`.
+/// The lexer and the rules must be those of the set; the rules keep their whole bodies. The errors are `FaultyTables`
+/// and `OutOfMemory`.
 pub(crate) fn derive<'t>(
     alloc: Global,
     set: &TableSet,
@@ -65,7 +65,7 @@ pub(crate) fn derive<'t>(
     }
 }
 
-/// Where the tokens of a text stand, up to where the lexer's run over it ends. It fails where memory runs out.
+/// The spans of the tokens of a text, up to the end of the lexer's run. It fails if an allocation fails.
 fn token_extents(
     alloc: Global,
     set: &TableSet,
@@ -82,7 +82,7 @@ fn token_extents(
         let lexeme = match lexer.next(&mut place, &mut known, true) {
             Ok(Some(lexeme)) => lexeme,
             Err(_) => return Ok(extents),
-            // each match of a text that is whole is decided
+            // each match of a complete text is decided
             Ok(None) => unreachable!(),
         };
         let ScanAction { begin, emits } = meaning::action(set, lexeme.rule);

@@ -1,9 +1,10 @@
-//! From a derivation to the parts of its tree, in two passes that take time by its length, whatever its depth.
+//! Computes the parts of a tree from its derivation, in two passes whose time is linear in its size, whatever its
+//! depth.
 //!
-//! The first one measures the children of all nodes, in the order in which they stand in the forest: how many tokens
-//! each has, and how many parts the rules make of it. The second one lists the parts, with a stack in place of
-//! recursion. A term that waits on the stack knows where its tokens begin, whatever the order in which an action names
-//! them; and since a node's parts are counted before, none is changed once it is listed.
+//! The first pass measures the children of all nodes, in the order in which they are in the forest: their number of
+//! tokens, and the number of parts that the rules make of them. The second pass lists the parts, with a stack in place
+//! of recursion. A term waiting on the stack knows where its tokens begin, whatever the order in which an action names
+//! them. A node's parts are counted beforehand, so no part is changed after it is listed.
 
 ghost use Rattle.std.specs.Prelude.{◌≡◌, ◌≤◌, ◌+◌, ℕ, List, ◌++◌, All, IfOk, OnOk, drop, length, map, reverse, take};
 ghost use Rattle.ly_base.specs.Lexed.{Token};
@@ -29,7 +30,7 @@ use std::alloc::Global;
 
 /// The parts of the tree that rules make of a derivation, whose tokens are the last ones of a text.
 ///
-/// The derivation stands in a forest, as a term whose nodes have all of their bodies.
+/// The derivation is a term of a forest, whose nodes have their whole bodies.
 pub(crate) fn parts_of(
     alloc: Global,
     forest: &Forest,
@@ -70,7 +71,7 @@ pub(crate) fn parts_of(
     Ok(listing.parts)
 }
 
-/// A derivation that a forest holds, as a term whose nodes have all of their bodies.
+/// A derivation in a forest, as a term whose nodes have their whole bodies.
 #[derive(Clone, Copy)]
 struct Flattening<'d> {
     /// The forest.
@@ -79,35 +80,35 @@ struct Flattening<'d> {
     children: &'d [TermRef],
     /// Their measures.
     measures: &'d [Measure],
-    /// The rules, with what they make of their bodies.
+    /// The rules, with the trees that they build.
     rules: &'d [TableRule],
-    /// Where the tokens of the text stand.
+    /// The spans of the text's tokens.
     tokens: &'d [Extent],
 }
 
-/// A term whose parts are to be listed.
+/// A term whose parts have not been listed yet.
 #[derive(Clone, Copy)]
 struct Waiting {
     /// The term.
     term: TermRef,
-    /// How many tokens stand before its own.
+    /// The number of tokens before its own.
     first: usize,
-    /// Where the last of them ends, or where the innermost node around it that has tokens begins, if that is later.
+    /// The end of the last of these, or the start of the innermost node around it that has tokens, if that is later.
     last: usize,
 }
 
-/// The parts of a tree, as far as they are listed.
+/// The parts of a tree that have been listed so far.
 #[derive(Drop)]
 struct Listing {
-    /// The parts that are listed.
+    /// The listed parts.
     parts: Vec<Part>,
-    /// The terms whose parts are to follow them, the first one at the end.
+    /// The terms whose parts follow, the first one at the end.
     waiting: Vec<Waiting>,
     /// The body of the node that was listed last.
     body: Vec<Waiting>,
 }
 
-/// Where so many tokens stand, from one on; or else no bytes there.
+/// The span of this many tokens from one on. If there are none, an empty span at `last`.
 fn extent_at(tokens: &[Extent], first: usize, count: usize, last: usize) -> Extent
     requires { first + count ≤ length tokens.now }
     ensures { result ≡ first_extent last count (drop first tokens.now) }
@@ -124,7 +125,7 @@ fn extent_at(tokens: &[Extent], first: usize, count: usize, last: usize) -> Exte
     }
 }
 
-/// Appends those at these places, which count from 1, the last one first.
+/// Appends the terms at these places, counted from 1, the last one first.
 fn push_places(
     waiting: &mut Vec<Waiting>,
     body: &[Waiting],
@@ -142,7 +143,7 @@ fn push_places(
 }
 
 impl Flattening<'_> {
-    /// The body of a node, by where its first token stands and where it begins.
+    /// The body of a node, given its first token and its start.
     fn body_of(
         &self,
         span: Span,
@@ -176,7 +177,7 @@ impl Flattening<'_> {
         Ok(())
     }
 
-    /// Lists a node by its rule: its part, where it makes one of its own; and the terms that it consists of wait.
+    /// Lists a node by its rule: its part, if it makes one of its own. The terms that it consists of are queued.
     fn list_node(
         &self,
         span: Span,
@@ -211,7 +212,7 @@ impl Flattening<'_> {
         Ok(())
     }
 
-    /// Lists a term: its part, if it has one of its own; and what it consists of waits.
+    /// Lists a term: its part, if it has one of its own. What it consists of is queued.
     fn list(&self, next: Waiting, listing: &mut Listing) -> Result<(), OutOfMemory>
         requires measured { IsMeasured self.now }
         requires ready { IsReady (shapes_of self.now) self.now.tokens.now self.now.forest.now next }
@@ -235,7 +236,7 @@ impl Flattening<'_> {
     }
 }
 
-/// What the part of a term is.
+/// The kind of a term's part.
 fn kind_of(look: Look) -> PartKind
     ensures { result ≡ kind_of look }
 {
@@ -246,7 +247,7 @@ fn kind_of(look: Look) -> PartKind
     }
 }
 
-/// Where the last token ends, or the start of the text.
+/// The end of the last token, or the start of the text.
 fn last_end(tokens: &[Extent]) -> usize
     ensures { result ≡ last_end tokens.now }
 {

@@ -12,10 +12,10 @@ use ly_parse::Token;
 use ly_tables::TableSet;
 use std::alloc::Global;
 
-/// The line of JSON that says which token of a text is refused, or that its end is, with where that stands. The number
-/// of the token counts from 1.
+/// The line of JSON for an unexpected token of a text, or its end, with its location. The number of the token is
+/// counted from 1.
 ///
-/// It fails where memory runs out.
+/// It fails if an allocation fails.
 pub fn refused_line(
     alloc: Global,
     set: &TableSet,
@@ -34,9 +34,9 @@ pub fn refused_line(
     json_refused_line(alloc, set, number, token, &places, expected)
 }
 
-/// The line of JSON that says at which byte of a text no rule matches, with where that is.
+/// The line of JSON for the byte of a text at which no rule matches, with its location.
 ///
-/// It fails where memory runs out.
+/// It fails if an allocation fails.
 pub fn unmatched_line(alloc: Global, text: &[u8], byte: u64) -> Result<Vec<u8>, OutOfMemory>
     requires { byte ≤ length text.now }
     ensures { (v : Vocabulary) → IfOk result (λ line. line.items ≡ placed_line v text.now (unmatched byte)) }
@@ -46,7 +46,7 @@ pub fn unmatched_line(alloc: Global, text: &[u8], byte: u64) -> Result<Vec<u8>, 
     json_unmatched_line(alloc, byte, &places)
 }
 
-/// The members that tell where a part of a text stands. It fails where memory runs out.
+/// The members with the span of a part of a text. It fails if an allocation fails.
 fn places(alloc: Global, text: &[u8], extent: Extent) -> Result<Vec<u8>, OutOfMemory>
     requires { IsWithin (length text.now) extent }
     ensures { IfOk result (λ members. members.items ≡ json_extent text.now extent) }

@@ -1,4 +1,4 @@
-//! Rules that keep all of their bodies, so that a parser over them makes derivations.
+//! Rules that keep their whole bodies, so that a parser with them builds derivations.
 ghost use Rattle.std.specs.Prelude.{◌≡◌, ◌≤◌, codes, map, All, IfOk};
 ghost use Rattle.ly_base.specs.Shape.{node, shape_of};
 ghost use Rattle.ly_pack.specs.Values.{rule_from};
@@ -8,7 +8,7 @@ use ly_base::{OutOfMemory, RuleTree};
 use ly_pack::TableRule;
 use std::alloc::Global;
 
-/// Rules with the left sides and the bodies of these, which keep all of their bodies. It fails where memory runs out.
+/// Rules with the left sides and the bodies of these, which keep their whole bodies. It fails if an allocation fails.
 pub(crate) fn keeping_rules(
     alloc: Global,
     rules: &[TableRule],
@@ -23,7 +23,7 @@ pub(crate) fn keeping_rules(
     Ok(kept)
 }
 
-/// The rule that keeps the body of another one.
+/// The rule that keeps the body of this one.
 fn keeping_rule(alloc: Global, rule: &TableRule) -> Result<TableRule, OutOfMemory>
     requires { rule.now.body_length ≤ 255 }
     ensures { IfOk result (λ kept. rule_from kept ≡ keeping_rule (rule_from rule.now)) }
@@ -35,8 +35,8 @@ fn keeping_rule(alloc: Global, rule: &TableRule) -> Result<TableRule, OutOfMemor
     })
 }
 
-/// What the tree of a rule is, whose body has this length, where it keeps that. Nothing stays nothing, and a single
-/// tree that is handed on is so still, so that chains of such rules make no nodes.
+/// The tree of a rule with a body of this length that keeps its whole body. Nothing stays nothing, and a single tree
+/// that is passed on still is, so that chains of such rules make no nodes.
 fn keeping(alloc: Global, length: usize, tree: &RuleTree) -> Result<RuleTree, OutOfMemory>
     requires { length ≤ 255 }
     ensures { IfOk result (λ kept. shape_of kept ≡ keeping length (shape_of tree.now)) }

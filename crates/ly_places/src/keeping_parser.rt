@@ -16,14 +16,14 @@ use ly_parse::Parser;
 use ly_tables::TableSet;
 use std::alloc::Global;
 
-/// The rules of a table set, which keep all of their bodies. It fails where memory runs out.
+/// The rules of a table set, changed to keep their whole bodies. It fails if an allocation fails.
 pub(crate) fn rules_of(alloc: Global, set: &TableSet) -> Result<Vec<TableRule>, OutOfMemory>
     ensures { IfOk result (λ kept. map rule_from kept.items ≡ map keeping_rule set.now.rules) }
 {
     keeping_rules(alloc, set.machine().rules())
 }
 
-/// A parser over the tables of a set, but with these rules, which keep all of their bodies. It has read nothing.
+/// A parser with the tables of a set, but with these rules, which keep their whole bodies. It has read nothing.
 pub(crate) fn keeping_parser<'a>(
     alloc: Global,
     set: &'a TableSet,

@@ -2,24 +2,25 @@ ghost use Rattle.ly_places.specs.PlacedJsonLaws.{IsOfNamedPlaces, SaysOnePlacedT
 ghost use Rattle.ly_places.specs.PlacedLaws.{PartsAreNested, PlacesAreForgotten};
 ghost use Rattle.ly_places.specs.TokenAnswer.{SaysTheSameOfItsTokens};
 
-/// Without its places a placed term is what the rules build of the derivation.
+/// Theorem: without its spans, a placed term is what the rules build from the derivation.
 pub fn places_are_forgotten()
     ensures { PlacesAreForgotten }
 {}
 
-/// Where tokens follow one another, the parts of a placed term stand within their nodes.
+/// Theorem: if tokens follow one another, the spans of a placed term's parts are within those of their nodes.
 pub fn parts_are_nested()
     ensures { PartsAreNested }
 {}
 
-/// The JSON text of a placed term is that of its names and of the spots where its parts begin and end, and whatever
-/// stands behind it, it is that of no others.
+/// Theorem: the JSON text of a placed term is that of its names and of the locations where its parts begin and end.
+/// Whatever follows it, it is the text of no others.
 pub fn a_placed_json_text_says_one_tree()
     ensures of_names { IsOfNamedPlaces }
     ensures one { SaysOnePlacedTree }
 {}
 
-/// Of the tokens that a set's scanner finds in a text the set's parser says what the set says of the text.
+/// Theorem: the verdict of a set's parser on the tokens that the set's scanner finds in a text is the set's verdict on
+/// the text.
 pub fn tokens_say_what_their_text_says()
     ensures { SaysTheSameOfItsTokens }
 {}

@@ -1,10 +1,19 @@
-//! From a table set and a text to its tree with where each part stands, as a list of parts and as a line of JSON.
+//! Computes the tree of a text with the span of each part, as a list of parts and as a line of JSON.
 //!
-//! The parser runs over rules that keep all of their bodies (`keeping`), so that its term is the derivation of the
-//! text; its leaves are the tokens in their order. From both the parts of the tree are made (`parts_of`, `placed`).
+//! The parser runs with rules that keep their whole bodies (`keeping`), so its term is the derivation of the text,
+//! whose leaves are the tokens in their order. The parts of the tree are computed from both (`parts_of`, `placed`).
 //!
-//! `parse` gives the parts, or what is wrong with a text, and a `TextParser` does so for many; `parse_tokens` says it
-//! of tokens that were found otherwise; `drive_placed` reads a text from a reader and writes its answer.
+//! `parse` returns the parts, or the error in a text, and a `TextParser` does so for many texts. `parse_tokens` takes
+//! tokens that were found otherwise. `drive_placed` reads a text from a reader and writes its result.
+//!
+//! - A text is parsed with the same tables as without spans, and the actions are applied to the derivation. So the
+//!   parser's loop knows nothing of spans, and texts without them have no cost.
+//! - An empty part is at the end of the last token before it, but within the rule around it. With bison's `@$` an empty
+//!   first part extends a node over the whitespace before it.
+//! - A `Part` has the number of its parts and not the index of its end, so a part can be copied out of the list
+//!   unchanged.
+//! - The line of a position is searched first on that of the part before it and on the next line, because most parts
+//!   are there.
 #![tactic(auto)]
 
 mod derivation;

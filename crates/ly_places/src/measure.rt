@@ -12,16 +12,16 @@ use ly_pack::TableRule;
 use ly_tree::{Forest, Look};
 use std::alloc::Global;
 
-/// How much a term of a derivation takes, whose nodes have all of their bodies.
+/// The size of a term of a derivation, whose nodes have their whole bodies.
 #[derive(Clone, Copy)]
 pub(crate) struct Measure {
-    /// How many tokens it has.
+    /// The number of its tokens.
     pub(crate) tokens: usize,
-    /// How many parts the rules make of it.
+    /// The number of parts that the rules make of it.
     pub(crate) parts: usize,
 }
 
-/// The measures of all children of a forest's nodes.
+/// The sizes of all children of a forest's nodes.
 pub(crate) fn measure_children(
     alloc: Global,
     forest: &Forest,
@@ -33,14 +33,14 @@ pub(crate) fn measure_children(
     let children = forest.children();
     let mut measures = Vec::with_capacity(alloc, children.len())?;
     for child in children {
-        // the children of a child stand before it
+        // the children of a child precede it
         let measure = measured(rules, &measures, forest.look(*child))?;
         measures.push_reserved(measure);
     }
     Ok(measures)
 }
 
-/// The measure of a term, by those of the children of nodes.
+/// The size of a term, from those of the children of nodes.
 pub(crate) fn measured(
     rules: &[TableRule],
     measures: &[Measure],
@@ -70,7 +70,7 @@ pub(crate) fn measured(
     }
 }
 
-/// What the tree of a rule is, if it is there.
+/// The tree of a rule, if the rule exists.
 pub(crate) fn tree_of(rules: &[TableRule], rule: RuleNo) -> Option<&RuleTree>
     ensures { unwrap_or (option_map (λ t. shape_of t.now) result) nil ≡ shape_of_rule (map rule_from rules.now) rule.0 }
 {
@@ -79,7 +79,7 @@ pub(crate) fn tree_of(rules: &[TableRule], rule: RuleNo) -> Option<&RuleTree>
     Some(&rule.tree)
 }
 
-/// How many tokens the terms of a body have.
+/// The number of tokens of the terms of a body.
 fn tokens_of(body: &[Measure]) -> Result<usize, OutOfMemory>
     ensures { IfOk result (λ n. n ≡ tokens_among body.now) }
 {
@@ -90,7 +90,7 @@ fn tokens_of(body: &[Measure]) -> Result<usize, OutOfMemory>
     Ok(tokens)
 }
 
-/// How many parts a rule makes of the terms of its body.
+/// The number of parts that a rule makes of the terms of its body.
 fn parts_by(tree: Option<&RuleTree>, body: &[Measure]) -> Result<usize, OutOfMemory>
     ensures { IfOk result (λ n. n ≡ parts_made (unwrap_or (option_map (λ t. shape_of t.now) tree.entry) nil) body.now) }
 {
@@ -105,7 +105,7 @@ fn parts_by(tree: Option<&RuleTree>, body: &[Measure]) -> Result<usize, OutOfMem
     }
 }
 
-/// How many parts the terms at these places of a body have.
+/// The number of parts of the terms at these places of a body.
 fn parts_of_places(body: &[Measure], places: &[u32]) -> Result<usize, OutOfMemory>
     ensures { IfOk result (λ n. n ≡ parts_among body.now places.now) }
 {
@@ -118,7 +118,7 @@ fn parts_of_places(body: &[Measure], places: &[u32]) -> Result<usize, OutOfMemor
     Ok(parts)
 }
 
-/// How many parts the term at a place of a body has, or else that of nothing.
+/// The number of parts of the term at a place of a body, or of nothing if there is no such place.
 fn parts_of_place(body: &[Measure], place: u32) -> usize
     ensures { result ≡ parts_at body.now place }
 {

@@ -24,18 +24,18 @@ use ly_scan::Lexer;
 use ly_tables::TableSet;
 use std::alloc::Global;
 
-/// What a table set says of a text.
+/// The result of parsing a text with a table set.
 #[derive(Drop)]
 pub enum Parsed<'t> {
-    /// It has a tree, of these parts.
+    /// The text has a tree with these parts.
     Tree(Vec<Part>),
-    /// This is wrong with it.
+    /// The text has this error.
     Refused(Flaw<'t>),
 }
 
-/// The parts of the tree that a text has by a table set, with where they stand, or what is wrong with the text.
+/// Parses a text with a table set. Returns the parts of its tree with their spans, or the error in the text.
 ///
-/// Its faults are `FaultyTables` and `OutOfMemory` of `TextFault`.
+/// The errors are `FaultyTables` and `OutOfMemory` of `TextFault`.
 pub fn parse<'t>(alloc: Global, set: &TableSet, text: &'t [u8]) -> Result<Parsed<'t>, TextFault>
     ensures parsed { IfOk result (λ p. (v : PlacedVerdict) × IsPlacedVerdict set.now text.now v
         × IsParsedAs text.now v p) }
@@ -47,7 +47,7 @@ pub fn parse<'t>(alloc: Global, set: &TableSet, text: &'t [u8]) -> Result<Parsed
     parse_by(alloc, set, &lexer, &rules, text)
 }
 
-/// The same by the lexer of the set, and by its rules, which keep all of their bodies.
+/// The same, with the lexer of the set and its rules, changed to keep their whole bodies.
 pub(crate) fn parse_by<'t>(
     alloc: Global,
     set: &TableSet,

@@ -1,24 +1,24 @@
 use ly_base::{RuleNo, Sym};
 use ly_extents::Extent;
 
-/// What a part of a tree is.
+/// The kinds of parts of a tree.
 #[derive(Clone, Copy, Debug, PartialEq, Eq)]
 pub enum PartKind {
     /// Nothing.
     Nothing,
-    /// A token of this terminal.
+    /// A token with this terminal.
     Token(Sym),
-    /// A node of this rule.
+    /// A node with this rule.
     Node(RuleNo),
 }
 
-/// A part of a tree, in a list that has each part in front of what it consists of.
+/// A part of a tree. In a list of parts, each precedes the parts that it consists of.
 #[derive(Clone, Copy, Debug, PartialEq, Eq)]
 pub struct Part {
-    /// What it is.
+    /// Its kind.
     pub kind: PartKind,
-    /// Where it stands.
+    /// Its span.
     pub extent: Extent,
-    /// How many parts of the list it takes, itself among them.
+    /// The number of parts of the list that it consists of, including itself.
     pub parts: usize,
 }

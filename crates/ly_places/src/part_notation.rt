@@ -15,24 +15,24 @@ use ly_feed::NameLabels;
 use ly_print::{Front, Label, Sink, TextWriter, WriteFault, are_bytes};
 use std::alloc::Global;
 
-/// How many bytes a part takes at most beside its name and content: 146 its places with their keys, 13 the key of its
-/// children, two its end, and one a comma.
+/// The maximum number of bytes of a part without its name and content: 146 for its positions with their keys, 13 for
+/// the key of its children, two for its end, and one for a comma.
 const BESIDE: usize = 162;
 
-/// How parts are printed: by the labels of their names, and by the lines of the text where they stand.
+/// The notation of parts: the labels of their names, and the lines of the text for their locations.
 #[derive(Drop)]
 pub(crate) struct PartNotation<'a> {
-    /// What stands before the places of tokens and nodes.
+    /// The text before the positions of tokens and nodes.
     pub(crate) names: NameLabels<'a>,
-    /// The text, and where its lines begin.
+    /// The text, and the offsets at which its lines begin.
     pub(crate) lines: LineStarts<'a>,
-    /// What stands before the content of a token.
+    /// The text before the content of a token.
     comma: Label,
     ghost is_comma: { comma ≡ codes "," },
 }
 
 impl<'a> PartNotation<'a> {
-    /// The notation of parts of this text. It fails where memory runs out.
+    /// The notation for parts of this text. It fails if an allocation fails.
     pub(crate) fn new(
         alloc: Global,
         names: NameLabels<'a>,
@@ -48,7 +48,7 @@ impl<'a> PartNotation<'a> {
         })
     }
 
-    /// How many bytes a line of these parts has at most, with its newline; nothing, where no number says so.
+    /// The maximum length in bytes of a line of these parts, with its newline. None if it doesn't fit in a number.
     pub(crate) fn longest_line(&self, parts: &[Part]) -> Option<usize>
         requires { AreSound (length self.now.lines) parts.now }
         ensures { IfSome result (λ most. (length (parts_text (vocabulary_in self.now.names) self.now.lines []
@@ -58,10 +58,10 @@ impl<'a> PartNotation<'a> {
         most_bytes(parts, self.names.longest().checked_add(BESIDE)?)
     }
 
-    /// Prints what stands before the children of a part: of one that is no node, all of it. The line on which the part
-    /// begins is looked for from that of the one before it on.
+    /// Prints the opening of a part, before its children. That is all of it unless it is a node. The search for the
+    /// line on which the part begins starts at that of the part before it.
     ///
-    /// It fails where the writer does.
+    /// It fails if the writer does.
     pub(crate) fn push_opening<S: Sink>(
         &self,
         out: &mut TextWriter,
@@ -110,7 +110,7 @@ impl<'a> PartNotation<'a> {
         out.push_json_leaf(writer, &self.comma, &self.bytes_at(extent))
     }
 
-    /// The bytes of the text that stand there.
+    /// The bytes of the text in this span.
     fn bytes_at(&self, extent: Extent) -> Front<'a>
         requires { IsWithin (length self.now.lines) extent }
         ensures { result ≡ bytes_at self.now.lines extent }
@@ -119,7 +119,7 @@ impl<'a> PartNotation<'a> {
         Front::new(text, extent.end - extent.start)
     }
 
-    /// Prints what stands before the children of a node.
+    /// Prints the opening of a node, before its children.
     fn push_node<S: Sink>(
         &self,
         out: &mut TextWriter,
@@ -143,7 +143,7 @@ impl<'a> PartNotation<'a> {
         out.push_bytes(writer, b",\"children\":[")
     }
 
-    /// Prints where a part stands, and says on which line it begins.
+    /// Prints the span of a part, and returns the line on which it begins.
     fn push_extent<S: Sink>(
         &self,
         out: &mut TextWriter,
@@ -167,7 +167,7 @@ impl<'a> PartNotation<'a> {
         self.push_place(out, writer, b",\"end\":", extent.end, end)
     }
 
-    /// Prints a key, and an offset with its location behind it.
+    /// Prints a key, and an offset with its location.
     fn push_place<S: Sink>(
         &self,
         out: &mut TextWriter,
@@ -191,7 +191,8 @@ impl<'a> PartNotation<'a> {
     }
 }
 
-/// A number of bytes that a newline and these parts don't pass, of which each takes at most so many beside its content.
+/// An upper bound on the bytes of these parts and a newline, if each part takes at most this many bytes without its
+/// content.
 fn most_bytes(parts: &[Part], each: usize) -> Option<usize>
     ensures { IfSome result (λ most. (most ≡ 1 + sum_by (most_of each) parts.now) × (most < 2 ^ 64)) }
 {

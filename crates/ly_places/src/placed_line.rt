@@ -18,15 +18,15 @@ use ly_print::{Sink, TextWriter, WriteFault};
 use std::alloc::Global;
 use std::marker::Model;
 
-/// The line of JSON of a tree with its places, ready to be written: all room that this takes is made, so that nothing
-/// but a write can fail.
+/// The line of JSON of a tree with spans, ready to be written. All allocations have been made, so only a write can
+/// fail.
 #[derive(Drop)]
 pub struct PlacedLine<'a> {
     /// The parts of the tree.
     parts: &'a [Part],
-    /// How they are printed.
+    /// The notation.
     notation: PartNotation<'a>,
-    /// What is printed, and room for the nodes around a part.
+    /// The text, and capacity for the nodes around a part.
     printing: Printing,
 }
 
@@ -47,7 +47,7 @@ impl<'a> Model for PlacedLine<'a> {
 }
 
 impl<'a> PlacedLine<'a> {
-    /// The line of a tree by its parts, which stand within a text. It fails where memory runs out.
+    /// The line of a tree from its parts, whose spans are within a text. It fails if an allocation fails.
     pub fn new(
         alloc: Global,
         names: NameLabels<'a>,
@@ -59,7 +59,7 @@ impl<'a> PlacedLine<'a> {
             → line ≡ placed_json (vocabulary_in names.entry) text.now t ++ newline ∷ []) }
     {
         let notation = PartNotation::new(alloc, names, text)?;
-        // a line is no longer than that
+        // a line isn't longer than that
         notation.longest_line(parts).ok_or(OutOfMemory)?;
         Ok(PlacedLine {
             parts,
@@ -74,7 +74,7 @@ impl<'a> PlacedLine<'a> {
 
     /// Writes the line.
     ///
-    /// It fails where the writer does.
+    /// It fails if the writer does.
     pub fn write<S: Sink>(self, writer: &mut S) -> Result<(), WriteFault>
         ensures ok { OnOk result (Appends (S.contents writer.old) (S.contents writer.new) self.entry) }
         ensures cut_short { IfErr result (λ fault.

@@ -8,17 +8,17 @@ use ly_extents::Extent;
 use ly_parse::Token;
 use ly_print::Front;
 
-/// A token over a text, whoever found it.
+/// A token of a text, found by any means.
 #[derive(Clone, Copy, Debug, PartialEq, Eq)]
 pub struct PlacedToken {
     /// Its terminal.
     pub terminal: Sym,
-    /// Where it stands in the text.
+    /// Its span in the text.
     pub extent: Extent,
 }
 
 impl PlacedToken {
-    /// The token with its bytes, as a parser is fed with it.
+    /// The token with its bytes, as input of a parser.
     pub(crate) fn over<'t>(&self, text: &'t [u8]) -> Token<'t>
         requires { IsWithin (length text.now) self.now.extent }
         ensures { token_of result ≡ token_over text.now self.now }

@@ -32,11 +32,11 @@ use ly_print::{ReadFault, Sink, Source, read_whole, write_whole};
 use ly_tables::{TableSet, read_tables};
 use std::alloc::Global;
 
-/// Answers the text that a reader gives by the bytes of a table file, and writes the answer as a line of JSON in which
-/// each part has where it begins and ends. Nothing is read before the table file is; then the text is read whole, and
+/// Parses the text from a reader with the bytes of a table file, and writes the result as a line of JSON in which each
+/// part has its start and its end. The text is read after the table file has been checked. It is read completely, and
 /// nothing is written before the outcome is known.
 ///
-/// Its faults are those of `DriveFault` but `TooLong`.
+/// The errors are those of `DriveFault` except `TooLong`.
 pub fn drive_placed<R: Source, W: Sink>(
     alloc: Global,
     tables: &[u8],
@@ -69,9 +69,9 @@ pub fn drive_placed<R: Source, W: Sink>(
     Ok(answered?)
 }
 
-/// Answers the text that a reader gives by a table set, and writes the answer as `drive_placed` does.
+/// Parses the text from a reader with a table set, and writes the result like `drive_placed`.
 ///
-/// Its faults are those of `TextFault` but `TooLong`.
+/// The errors are those of `TextFault` except `TooLong`.
 pub fn run_placed<R: Source, W: Sink>(
     alloc: Global,
     set: &TableSet,
@@ -99,9 +99,9 @@ pub fn run_placed<R: Source, W: Sink>(
     place_text(alloc, set, &text, writer)
 }
 
-/// Answers a text by a table set, and writes the answer as `drive_placed` does.
+/// Parses a text with a table set, and writes the result like `drive_placed`.
 ///
-/// Its faults are `FaultyTables`, `Write` and `OutOfMemory` of `TextFault`.
+/// The errors are `FaultyTables`, `Write` and `OutOfMemory` of `TextFault`.
 pub fn place_text<W: Sink>(
     alloc: Global,
     set: &TableSet,
@@ -129,7 +129,7 @@ pub fn place_text<W: Sink>(
     }
 }
 
-/// Writes the line of the tree that a text has, by its parts.
+/// Writes the line of the tree of a text, from its parts.
 fn write_tree<W: Sink>(
     alloc: Global,
     set: &TableSet,
@@ -153,7 +153,7 @@ fn write_tree<W: Sink>(
     Ok(Outcome::Tree)
 }
 
-/// The line that says what is wrong with a text, of which a table set says so.
+/// The line for the error that a table set finds in a text.
 fn flaw_line(
     alloc: Global,
     set: &TableSet,

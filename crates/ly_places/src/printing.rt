@@ -13,14 +13,14 @@ use ly_print::{Sink, TextWriter, WriteFault};
 pub(crate) struct Printing {
     /// The text.
     pub(crate) out: TextWriter,
-    /// Of each node that is begun and isn't ended, the outermost first, how many parts stand behind it.
+    /// For each open node, the outermost first, the number of parts after it.
     pub(crate) nodes: Vec<usize>,
     /// The line on which the part before the next one begins.
     pub(crate) line: u64,
 }
 
 impl Printing {
-    /// Prints a part up to its first child, or without one up to the next part; so many are left behind it.
+    /// Prints a part up to its first child, or, if it has none, up to the next part. This many parts are left after it.
     pub(crate) fn print<S: Sink>(
         &mut self,
         writer: &mut S,
@@ -53,7 +53,7 @@ impl Printing {
         self.close(writer, left)
     }
 
-    /// Begins a node, if a part is one, behind which so many parts are left.
+    /// Opens a node with this many parts left after it, if the part is a node.
     fn begin(&mut self, part: &Part, left: usize)
         requires some { 1 ≤ part.now.parts }
         requires left { part.now.parts ≤ 1 + left }
@@ -70,7 +70,7 @@ impl Printing {
         }
     }
 
-    /// Ends the nodes behind which so many parts are left, and prints a comma if that doesn't end them all.
+    /// Closes the nodes that end where this many parts are left, and prints a comma unless that closes all of them.
     fn close<S: Sink>(&mut self, writer: &mut S, left: usize) -> Result<(), WriteFault>
         requires countable { bytes_of self.old.out + length (closing left (reverse self.old.nodes.items)) < 2 ^ 64 }
         ensures text { IsAppended self.old.out self.new.out (S.contents writer.old) (S.contents writer.new)

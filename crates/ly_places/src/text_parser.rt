@@ -14,16 +14,16 @@ use ly_tables::TableSet;
 use std::alloc::Global;
 use std::marker::Model;
 
-/// What parses texts by a table set: all that can be made of the set is made once, and not for each text.
+/// A parser for many texts with one table set: everything that depends only on the set is computed once.
 #[derive(Drop)]
 pub struct TextParser<'s> {
-    /// Where room is taken from.
+    /// The allocator.
     alloc: Global,
     /// The table set.
     set: &'s TableSet,
     /// Its lexer.
     lexer: Lexer,
-    /// Its rules, which keep all of their bodies.
+    /// Its rules, changed to keep their whole bodies.
     rules: Vec<TableRule>,
 }
 
@@ -44,7 +44,7 @@ impl<'s> Model for TextParser<'s> {
 }
 
 impl<'s> TextParser<'s> {
-    /// What parses by this set. It fails where memory runs out.
+    /// A parser with this set. It fails if an allocation fails.
     pub fn new(alloc: Global, set: &'s TableSet) -> Result<TextParser<'s>, OutOfMemory>
         ensures { IfOk result (λ parser. parser ≡ set.now) }
     {
@@ -56,9 +56,9 @@ impl<'s> TextParser<'s> {
         })
     }
 
-    /// The parts of the tree that a text has by the set, with where they stand, or what is wrong with the text.
+    /// Parses a text. Returns the parts of its tree with their spans, or the error in the text.
     ///
-    /// Its faults are `FaultyTables` and `OutOfMemory` of `TextFault`.
+    /// The errors are `FaultyTables` and `OutOfMemory` of `TextFault`.
     pub fn parse<'t>(&self, text: &'t [u8]) -> Result<Parsed<'t>, TextFault>
         ensures parsed { IfOk result (λ p. (v : PlacedVerdict) × IsPlacedVerdict self.now text.now v
             × IsParsedAs text.now v p) }

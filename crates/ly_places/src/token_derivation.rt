@@ -1,4 +1,4 @@
-//! The derivation of tokens over a text that are given.
+//! The derivation of given tokens of a text.
 ghost use Rattle.std.specs.Prelude.{◌≡◌, ◌<◌, [], false, length, map, All, IfOk};
 ghost use Rattle.ly_pack.specs.Machine.{IsMachine};
 ghost use Rattle.ly_pack.specs.Values.{rule_from};
@@ -18,10 +18,10 @@ use ly_print::Front;
 use ly_tables::TableSet;
 use std::alloc::Global;
 
-/// The derivation of tokens over a text by a table set, or what is wrong with them. The rules are those of the set, and
-/// keep all of their bodies.
+/// The derivation of tokens of a text by a table set, or the error in them. The rules must be those of the set, changed
+/// to keep their whole bodies.
 ///
-/// It fails with `FaultyTables`, and with `OutOfMemory`.
+/// The errors are `FaultyTables` and `OutOfMemory`.
 pub(crate) fn derive_tokens<'t>(
     alloc: Global,
     set: &TableSet,
@@ -50,15 +50,15 @@ pub(crate) fn derive_tokens<'t>(
     }
 }
 
-/// Where tokens stand.
+/// The spans of tokens.
 fn extents_of(alloc: Global, tokens: &[PlacedToken]) -> Result<Vec<Extent>, OutOfMemory>
     ensures { IfOk result (λ extents. extents.items ≡ map (λ t. t.extent) tokens.now) }
 {
     Ok(tokens.iter().map(|token| token.extent).collect(alloc)?)
 }
 
-/// Feeds a parser that has read nothing with tokens over a text, up to the first one that it refuses. It answers what
-/// is wrong with that.
+/// Feeds a parser that has read nothing with tokens of a text, up to the first one that it rejects. Returns the error
+/// for that one.
 fn read_tokens<'t>(
     parser: &mut TableParser<'_>,
     text: &'t [u8],
@@ -91,9 +91,9 @@ fn read_tokens<'t>(
             }
             Err(ParseFault::FaultyTables) => return Err(TextFault::FaultyTables),
             Err(ParseFault::OutOfMemory) => return Err(TextFault::OutOfMemory),
-            // the end alone is accepted
+            // only the end is accepted
             Ok(Step::Done(_)) => unreachable!(),
-            // and behind a token that is read the parse isn't over
+            // after a token that is read, the parse hasn't ended
             Err(ParseFault::Over) => unreachable!(),
         }
     }
@@ -129,7 +129,7 @@ fn read_end<'t>(parser: &mut TableParser<'_>, text: &'t [u8]) -> Result<Ended<'t
         }
         Err(ParseFault::FaultyTables) => Err(TextFault::FaultyTables),
         Err(ParseFault::OutOfMemory) => Err(TextFault::OutOfMemory),
-        // the end is never read, and the parse isn't over
+        // the end is never read, and the parse hasn't ended
         Ok(Step::More) | Err(ParseFault::Over) => unreachable!(),
     }
 }

@@ -13,10 +13,10 @@ use ly_feed::TextFault;
 use ly_tables::TableSet;
 use std::alloc::Global;
 
-/// The parts of the tree that tokens over a text have by a table set, with where they stand, or what is wrong with
-/// them: what the set's parser says of just these tokens. Its scanner doesn't run.
+/// Parses tokens of a text with a table set. Returns the parts of their tree with their spans, or the error in them:
+/// the verdict of the set's parser on exactly these tokens. Its scanner doesn't run.
 ///
-/// Its faults are `FaultyTables` and `OutOfMemory` of `TextFault`.
+/// The errors are `FaultyTables` and `OutOfMemory` of `TextFault`.
 pub fn parse_tokens<'t>(
     alloc: Global,
     set: &TableSet,

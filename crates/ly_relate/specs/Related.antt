@@ -11,13 +11,13 @@ pub record Goto : Type 0 where
   pub symbol : ℕ
   pub target : ℕ
 
--- A rule that is complete in a state looks back to the transitions that a node stands for.
+-- A rule that is complete in a state looks back to the transitions that a node represents.
 pub record Lookback : Type 0 where
   pub state : ℕ
   pub rule : ℕ
   pub node : ℕ
 
--- Nonterminal transitions by number, and the pairs of reads, includes and lookback.
+-- The nonterminal transitions by number, and the pairs of reads, includes and lookback.
 pub record Relations : Type 0 where
   pub gotos : List Goto
   pub reads : Digraph
@@ -31,7 +31,7 @@ pub record AreGotos (M : Lr0Automaton) (gotos : List Goto) : Type 0 where
       → (n : ℕ) × (slice_get gotos n ≡ Some (record { from = p; symbol = A; target = r }))
   pub once : (n m : ℕ) (x : Goto) → slice_get gotos n ≡ Some x → slice_get gotos m ≡ Some x → n ≡ m
 
--- transitions of these numbers stand in a relation
+-- the transitions with these numbers are related
 abbrev pub AreRelated : List Goto → (ℕ → ℕ → ℕ → ℕ → Type 0) → ℕ → ℕ → Type 0
 AreRelated gotos R i j = (x : Goto) × (y : Goto) × (slice_get gotos i ≡ Some x) × (slice_get gotos j ≡ Some y)
     × R x.from x.symbol y.from y.symbol
@@ -44,23 +44,23 @@ IsRead M gotos = AreRelated gotos (Reads M.grammar (goto_of M))
 abbrev pub IsIncluding : Lr0Automaton → List Goto → ℕ → ℕ → Type 0
 IsIncluding M gotos = AreRelated gotos (Includes M.grammar (goto_of M))
 
--- an edge from each transition to those, and to no others, to which it stands in the relation
+-- edges from each transition to those that it is related to, and to no others
 pub record AreEdges (gotos : List Goto) (R : ℕ → ℕ → Type 0) (g : Digraph) : Type 0 where
   pub nodes : g.nodes ≡ length gotos
   pub edges : (i j : ℕ) → IsEdge g i j ↔ R i j
 
--- A node stands for the transition of its number; and one past these gathers those to which its edges lead, and stands
--- for each of them.
+-- A node represents the transition with its number. A node past these represents each transition to which its edges
+-- lead.
 abbrev pub StandsFor : List Goto → Digraph → ℕ → ℕ → Type 0
 StandsFor gotos g k j = (k ≡ j) ⊎ ((length gotos ≤ k) × IsEdge g k j)
 
--- An edge from each transition to nodes that stand for those, and for no others, to which it stands in the relation.
+-- Edges from each transition to nodes that represent those that it is related to, and no others.
 pub record AreGathered (gotos : List Goto) (R : ℕ → ℕ → Type 0) (g : Digraph) : Type 0 where
   pub nodes : length gotos ≤ g.nodes
   pub gathered : (k j : ℕ) → length gotos ≤ k → IsEdge g k j → j < length gotos
   pub edges : (i j : ℕ) → i < length gotos → j < length gotos → ((k : ℕ) × IsEdge g i k × StandsFor gotos g k j) ↔ R i j
 
--- Complete rules look back to nodes that stand for the transitions, and for no others, to which they look back.
+-- Complete rules look back to nodes that represent the transitions to which they look back, and no others.
 pub record AreLookbacks (M : Lr0Automaton) (gotos : List Goto) (g : Digraph) (lookbacks : List Lookback) : Type 0 where
   pub stands : (l : Lookback) → Contains lookbacks l
       → (l.node < g.nodes) × (j : ℕ) × (j < length gotos) × StandsFor gotos g l.node j

@@ -11,11 +11,11 @@ module _ (G : Grammar) (goto : Gotos) where
   abbrev pub IsTransition : ℕ → ℕ → Type 0
   IsTransition p A = (r : ℕ) × (goto p (nonterminal A) ≡ Some r)
 
-  -- the terminal leaves the state: an item of its core has it behind the dot. So the end may leave a state too.
+  -- the terminal leaves the state: an item of its core has it after the dot. So the end may leave a state too.
   abbrev pub Leaves : ℕ → ℕ → Type 0
   Leaves s t = (g : List Symbol) × Reaches goto 0 g s × IsNextSymbol G g (terminal t)
 
-  -- DR: the terminal leaves the state to which the transition leads
+  -- DR: the terminal leaves the state that the transition leads to
   abbrev pub DirectlyReads : ℕ → ℕ → ℕ → Type 0
   DirectlyReads p A t = (r : ℕ) × (goto p (nonterminal A) ≡ Some r) × Leaves r t
 
@@ -23,7 +23,8 @@ module _ (G : Grammar) (goto : Gotos) where
   abbrev pub Reads : ℕ → ℕ → ℕ → ℕ → Type 0
   Reads p A r C = (goto p (nonterminal A) ≡ Some r) × IsTransition r C × IsNullable G (nonterminal C ∷ [])
 
-  -- (p, A) includes (q, B): in a rule of B, symbols that lead from q to p stand before A, and nullable ones behind it.
+  -- (p, A) includes (q, B): in a rule of B, A comes after symbols that lead from q to p, and only nullable symbols
+  -- follow A.
   pub record Includes (p A q B : ℕ) : Type 0 where
     pub number : ℕ
     pub rule : GrammarRule

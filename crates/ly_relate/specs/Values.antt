@@ -1,4 +1,4 @@
--- What contracts see of transitions and of pairs.
+-- Transitions and pairs, as contracts see them.
 use Rattle.ly_relate.specs.Related.{Goto, Lookback}
 use Rattle.ly_relate.specs.declared.gotos.Goto as goto
 use Rattle.ly_relate.specs.declared.walks.Lookback as lookback

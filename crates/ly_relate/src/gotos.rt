@@ -16,11 +16,11 @@ use std::ops::Range;
 /// A transition over a nonterminal.
 #[derive(Clone, Copy, Debug, PartialEq, Eq)]
 pub struct Goto {
-    /// The state that it leaves.
+    /// The state it leaves.
     pub from: StateNo,
     /// The nonterminal.
     pub symbol: Sym,
-    /// The state to which it leads.
+    /// The state it leads to.
     pub target: StateNo,
 }
 
@@ -31,7 +31,7 @@ pub(crate) struct Gotos<'a> {
     lr0: &'a Lr0<'a>,
     /// The transitions by number.
     gotos: Vec<Goto>,
-    /// For each state the number of its first transition, and at last how many transitions there are.
+    /// For each state, the number of its first transition; at the end, the number of all transitions.
     first: Vec<usize>,
 }
 
@@ -71,7 +71,7 @@ impl<'a> Gotos<'a> {
         self.lr0
     }
 
-    /// How many transitions there are.
+    /// The number of transitions.
     pub(crate) fn len(&self) -> usize
         ensures count { result ≡ length self.now.gotos }
         ensures lawful { IsNumbering self.now }
@@ -79,7 +79,7 @@ impl<'a> Gotos<'a> {
         self.gotos.len()
     }
 
-    /// The transition of a number.
+    /// The transition with this number.
     pub(crate) fn get(&self, number: usize) -> Goto
         requires { number < length self.now.gotos }
         ensures there { slice_get self.now.gotos number ≡ Some (goto_from result) }
@@ -100,7 +100,7 @@ impl<'a> Gotos<'a> {
         self.first[state.0 as usize]..self.first[state.0 as usize + 1]
     }
 
-    /// Where a symbol leads from a state.
+    /// The target of a symbol's transition from a state.
     pub(crate) fn goto(&self, state: StateNo, symbol: Symbol) -> Option<StateNo>
         requires { state.0 < length self.now.automaton.states }
         ensures leads { option_map (λ s. s.0) result ≡ goto_of self.now.automaton state.0 (symbol_of symbol) }
@@ -133,7 +133,7 @@ impl<'a> Gotos<'a> {
         }
     }
 
-    /// The first of the transitions of a state whose symbol isn't less than one, or the end where there is none.
+    /// The first transition in this range whose symbol isn't less than this one, or the end of the range.
     fn first_from(&self, range: Range<usize>, symbol: Sym) -> usize
         requires within { range.end ≤ length self.now.gotos }
         requires ordered { range.start ≤ range.end }

@@ -1,5 +1,5 @@
-//! Transitions over the same nonterminal from which rules lead alike: what such a rule says of one it says of each. So
-//! one node stands for all of them, and these rules are walked from the first one alone.
+//! Groups transitions over the same nonterminal from which its rules that begin with a terminal lead to the same
+//! states. One node represents a group, and these rules are walked from its first transition only.
 ghost use Rattle.std.specs.Prelude.{◌≡◌, ◌<◌, ◌+◌, ◌++◌, ◌↔◌, ℕ, [], ◌∷◌, Contains, IfOk, IfSome, IsTrue, OnOk, length};
 ghost use Rattle.std.specs.Prelude.{option_map};
 ghost use Rattle.ly_join.specs.Grammar.{IsRule, GrammarRule, terminal};
@@ -15,17 +15,17 @@ use ly_lr0::Lr0;
 use std::alloc::Global;
 use std::marker::Model;
 
-/// Where fewer rules lead alike, it takes as long to see this as to walk them.
+/// With fewer rules that begin with a terminal, comparing takes as long as walking.
 const FEWEST: usize = 8;
 
-/// The nodes that stand for transitions.
+/// The nodes that represent transitions.
 #[derive(Drop)]
 pub(crate) struct Groups {
-    /// The node of each transition: its own number, or one past all transitions.
+    /// The node of each transition: its own number, or one past all transitions for a group.
     nodes: Vec<usize>,
-    /// For each node past all transitions the first that it stands for.
+    /// For each group, its first transition.
     leaders: Vec<usize>,
-    /// How many nodes there are.
+    /// The number of nodes.
     end: usize,
 }
 
@@ -38,8 +38,8 @@ impl Model for Groups {
 }
 
 impl Groups {
-    /// The nodes of all transitions. Each is compared with the last one over the same nonterminal that wasn't joined to
-    /// another.
+    /// The nodes of all transitions. Each transition is compared with the last one over the same nonterminal that
+    /// wasn't added to a group.
     pub(crate) fn new(
         alloc: Global,
         gotos: &Gotos<'_>,
@@ -65,7 +65,7 @@ impl Groups {
         Ok(groups)
     }
 
-    /// The node of the next transition: that of an earlier one, if it leads alike, and else its own.
+    /// The node of the next transition: that of an earlier one with the same targets, or else its own.
     fn node_for(
         &mut self,
         gotos: &Gotos<'_>,
@@ -88,7 +88,7 @@ impl Groups {
         Ok(goto)
     }
 
-    /// The node of a transition, which is to stand for others too.
+    /// The node of a transition that becomes the first of a group, if it isn't already.
     fn node_beside(&mut self, goto: usize) -> Result<usize, OutOfMemory>
         requires { goto < length self.old.nodes }
         ensures { IfOk result (IsNodeBeside self.old self.new goto) }
@@ -109,7 +109,7 @@ impl Groups {
         Ok(())
     }
 
-    /// How many nodes there are.
+    /// The number of nodes.
     pub(crate) fn len(&self) -> usize
         ensures { result ≡ self.now.end }
     {
@@ -124,7 +124,7 @@ impl Groups {
         self.nodes[goto]
     }
 
-    /// Whether a transition is the first that its node stands for.
+    /// Whether a transition is the first that its node represents.
     pub(crate) fn leads(&self, goto: usize) -> bool
         requires here { goto < length self.now.nodes }
         requires within { node_of self.now goto < length self.now.nodes + length self.now.leaders }
@@ -136,7 +136,8 @@ impl Groups {
     }
 }
 
-/// Whether two transitions are over one nonterminal, and its rules that begin with terminals lead alike.
+/// Whether two transitions are over one nonterminal, and its rules that begin with terminals lead from both to the same
+/// states.
 fn lead_alike(gotos: &Gotos<'_>, rules: &PartedRules, one: usize, other: usize) -> bool
     requires rules { AreAllParted gotos.now.automaton rules.now }
     requires one { one < length gotos.now.gotos }
@@ -156,7 +157,7 @@ fn lead_alike(gotos: &Gotos<'_>, rules: &PartedRules, one: usize, other: usize) 
     shift_alike(lr0, one.from, other.from) || all_lead_alike(lr0, solid, one.from, other.from)
 }
 
-/// Whether the same terminals are shifted in two states, and lead to the same ones.
+/// Whether two states have the same transitions over terminals.
 fn shift_alike(lr0: &Lr0<'_>, one: StateNo, other: StateNo) -> bool
     requires one { one.0 < length lr0.now.states }
     requires other { other.0 < length lr0.now.states }
@@ -165,7 +166,7 @@ fn shift_alike(lr0: &Lr0<'_>, one: StateNo, other: StateNo) -> bool
     lr0.shifts(one) == lr0.shifts(other)
 }
 
-/// Whether the first symbols of rules lead from two states to the same ones.
+/// Whether the first symbols of rules lead from two states to the same states.
 fn all_lead_alike(lr0: &Lr0<'_>, rules: &[usize], one: StateNo, other: StateNo) -> bool
     requires one { one.0 < length lr0.now.states }
     requires other { other.0 < length lr0.now.states }
@@ -187,7 +188,7 @@ fn all_lead_alike(lr0: &Lr0<'_>, rules: &[usize], one: StateNo, other: StateNo) 
     true
 }
 
-/// Whether there are two states, and they are the same.
+/// Whether both states exist and are equal.
 fn are_same(one: Option<StateNo>, other: Option<StateNo>) -> bool
     ensures { IsTrue result → option_map (λ s. s.0) one ≡ option_map (λ s. s.0) other }
 {

@@ -1,5 +1,5 @@
-//! Which transitions include which, while it is found out: rules that have the same symbols at their ends find the same
-//! pairs again and again.
+//! The relation includes, while it is computed. Rules with the same symbols at their ends find the same pairs again and
+//! again.
 ghost use Rattle.std.specs.Prelude.{◌≡◌, [], IfOk, OnOk};
 ghost use Rattle.ly_digraph.specs.Digraph.{IsInside};
 ghost use Rattle.ly_relate.specs.Private.Walks.{AreEdgesTo};
@@ -9,12 +9,12 @@ use ly_digraph::Graph;
 use std::alloc::Global;
 use std::marker::Model;
 
-/// Which transitions include which.
+/// The relation includes, while it is computed.
 #[derive(Drop)]
 pub(crate) struct Includes {
-    /// An edge `i -> j` where transition `i` includes transition `j`.
+    /// An edge `i -> j` if transition `i` includes transition `j`.
     graph: Graph,
-    /// For each transition the one that it was last found to include, if any.
+    /// For each transition, the one that it was last found to include, if any.
     last: Vec<Option<usize>>,
 }
 
@@ -30,7 +30,7 @@ impl Model for Includes {
 }
 
 impl Includes {
-    /// No pairs of so many transitions.
+    /// No pairs, for this many transitions.
     pub(crate) fn new(alloc: Global, count: usize) -> Result<Includes, OutOfMemory>
         ensures { IfOk result (λ i. i ≡ record { nodes = count; edges = [] }) }
     {
@@ -40,7 +40,7 @@ impl Includes {
         })
     }
 
-    /// Adds that a transition includes another, unless that was the last that was said of it.
+    /// Adds that transition `inner` includes `outer`, unless that is the pair last added for `inner`.
     pub(crate) fn add(&mut self, inner: usize, outer: usize) -> Result<(), OutOfMemory>
         requires { IsInside self.old.nodes (inner, outer) }
         ensures nodes { OnOk result (self.new.nodes ≡ self.old.nodes) }

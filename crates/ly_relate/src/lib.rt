@@ -1,15 +1,21 @@
-//! From an automaton to the relations between its nonterminal transitions, from which lookaheads come.
+//! Computes the relations between the nonterminal transitions of an automaton, from which lookaheads are derived.
 //!
-//! `relations` finds reads, includes and lookback of DeRemer and Pennello, "Efficient Computation of LALR(1) Look-Ahead
-//! Sets", TOPLAS 1982: each pair, and no other (`AreRelations`). Each rule of a transition's nonterminal is walked once
-//! from where the transition begins; then its body is gone through from its end, as long as what was passed is
-//! nullable. So it takes time by what the relations hold and by the walks, with no search for paths.
+//! `relations` finds exactly the pairs of reads, includes and lookback (`AreRelations`) of DeRemer and Pennello,
+//! "Efficient Computation of LALR(1) Look-Ahead Sets", TOPLAS 1982. For each transition, each rule of its nonterminal
+//! is walked once from the state where the transition begins. Then its body is walked backwards from its end, as long
+//! as the symbols passed are nullable. That these walks never fail is proved, because the rule is valid where the
+//! transition begins. The time is linear in the size of the relations and the walks.
 //!
-//! Where thousands of states have the same rules in their closures, most pairs are alike. So transitions over one
-//! nonterminal from which its rules lead alike, those that begin with a terminal, have a node of their own, which
-//! gathers them: what these rules include or look back to is said once, of the node.
+//! - If thousands of states have the same rules in their closures, most pairs are alike. So transitions over one
+//!   nonterminal from which its rules that begin with a terminal lead to the same states share a node, and these rules
+//!   are walked once, from the first of the transitions. Each transition is only compared with the last one over the
+//!   same nonterminal that wasn't grouped.
+//! - Rules that begin with a nonterminal are walked from each transition. If fewer than eight rules begin with a
+//!   terminal, all are.
+//! - Lookbacks are stored in blocks of 4,096 (`Pieces`), not in one list: a large grammar has millions of them, and
+//!   blocks reuse the memory of the short lists that were just freed.
 //!
-//! Left out: the terminals that transitions directly read, and the sets that come from these and the relations.
+//! Not done here: the terminals that transitions directly read, and the sets computed from these and the relations.
 #![tactic(auto)]
 
 mod gotos;

@@ -12,11 +12,11 @@ use std::marker::Model;
 pub struct Relations {
     /// The transitions, by number.
     pub(crate) gotos: Vec<Goto>,
-    /// An edge `i -> j` where transition `i` reads transition `j`.
+    /// An edge `i -> j` if transition `i` reads transition `j`.
     pub(crate) reads: Graph,
-    /// An edge from transition `i` to a node that stands for each transition that it includes.
+    /// An edge from transition `i` to nodes that represent each transition that it includes.
     pub(crate) includes: Graph,
-    /// The nodes that stand for the transitions to which complete rules look back.
+    /// The nodes that represent the transitions to which complete rules look back.
     pub(crate) lookbacks: Pieces<Lookback>,
 }
 
@@ -43,22 +43,22 @@ impl Relations {
         &self.gotos
     }
 
-    /// Which transitions read which.
+    /// The relation reads.
     pub fn reads(&self) -> &Graph
         ensures { result.now ≡ self.now.reads }
     {
         &self.reads
     }
 
-    /// Which transitions include which. A node stands for the transition of its number; one past all transitions
-    /// stands for each of those to which its edges lead.
+    /// The relation includes. A node represents the transition with its number. A node past all transitions represents
+    /// each transition to which its edges lead.
     pub fn includes(&self) -> &Graph
         ensures { result.now ≡ self.now.includes }
     {
         &self.includes
     }
 
-    /// To which transitions complete rules look back, by the nodes of `includes` that stand for them.
+    /// The relation lookback: the transitions are given by the nodes of `includes` that represent them.
     pub fn lookbacks(&self) -> &Pieces<Lookback>
         ensures { map lookback_from result.now ≡ self.now.lookbacks }
     {

@@ -1,4 +1,4 @@
-//! The rules of nonterminals, of which some begin with a terminal.
+//! The rules of nonterminals, split by whether they begin with a terminal.
 ghost use Rattle.std.specs.Prelude.{◌≡◌, ◌<◌, ◌≤◌, [], length, slice_index_or, IfOk, IsTrue};
 ghost use Rattle.ly_join.specs.Grammar.{IsRule, GrammarRule};
 ghost use Rattle.ly_relate.specs.Private.Groups.{AreAllParted, AreParted, BeginsSolid};
@@ -9,12 +9,12 @@ use ly_lr0::Lr0;
 use std::alloc::Global;
 use std::marker::Model;
 
-/// The rules of nonterminals in two lists each.
+/// The rules of nonterminals, in two lists each.
 #[derive(Drop)]
 pub(crate) struct PartedRules {
-    /// For each nonterminal the rules that begin with a terminal.
+    /// For each nonterminal, the rules that begin with a terminal.
     solid: Vec<Vec<usize>>,
-    /// For each nonterminal the others.
+    /// For each nonterminal, its other rules.
     others: Vec<Vec<usize>>,
 }
 
@@ -46,7 +46,7 @@ impl PartedRules {
         Ok(PartedRules { solid, others })
     }
 
-    /// How many nonterminals there are.
+    /// The number of nonterminals.
     pub(crate) fn len(&self) -> usize
         ensures { result ≡ length self.now.solid }
     {
@@ -70,7 +70,7 @@ impl PartedRules {
     }
 }
 
-/// The rules of a nonterminal that begin with a terminal, and the others.
+/// The rules of a nonterminal in two lists: those that begin with a terminal, and the others.
 fn parted(
     alloc: Global,
     lr0: &Lr0<'_>,

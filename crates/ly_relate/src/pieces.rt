@@ -5,20 +5,20 @@ use std::alloc::{AllocError, Global};
 use std::marker::Model;
 use std::mem::swap;
 
-/// How many elements a full piece has.
+/// The number of elements in a full block.
 const PIECE: usize = 4096;
 
-/// A list that only grows, in pieces of so many elements. So room that shorter lists have given up is used again, and
-/// no element is moved.
+/// An append-only list, stored in blocks of 4,096 elements. So memory of shorter lists that were freed is used again,
+/// and no element is moved.
 #[derive(Drop)]
 pub struct Pieces<T> {
-    /// Where room comes from.
+    /// The allocator.
     alloc: Global,
-    /// The pieces that are full.
+    /// The full blocks.
     full: Vec<Vec<T>>,
-    /// The piece behind them.
+    /// The block after them.
     last: Vec<T>,
-    /// How many elements there are.
+    /// The number of elements.
     len: usize,
 }
 
@@ -34,7 +34,7 @@ impl<T> Model for Pieces<T> {
 }
 
 impl<T: Copy> Pieces<T> {
-    /// No elements.
+    /// An empty list.
     pub(crate) fn new(alloc: Global) -> Pieces<T>
         ensures { result ≡ [] }
     {
@@ -57,14 +57,14 @@ impl<T: Copy> Pieces<T> {
         Ok(())
     }
 
-    /// How many elements there are.
+    /// The number of elements.
     pub fn len(&self) -> usize
         ensures { result ≡ length self.now }
     {
         self.len
     }
 
-    /// The element of an index.
+    /// The element at an index.
     pub fn get(&self, index: usize) -> T
         requires { index < length self.now }
         ensures { slice_get self.now index ≡ Some result }
@@ -78,7 +78,7 @@ impl<T: Copy> Pieces<T> {
     }
 }
 
-/// Puts the last piece behind the full ones where it is full, and begins another.
+/// Moves the last block to the full ones if it is full, and starts another.
 fn make_room<T: Copy>(
     alloc: Global,
     full: &mut Vec<Vec<T>>,

@@ -7,7 +7,7 @@ use ly_base::OutOfMemory;
 use ly_digraph::Graph;
 use std::alloc::Global;
 
-/// The relation reads: from each transition to those over nullable symbols that leave the state to which it leads.
+/// The relation reads: from each transition to those over nullable symbols that leave its target.
 pub(crate) fn reads(alloc: Global, gotos: &Gotos<'_>) -> Result<Graph, OutOfMemory>
     ensures { IfOk result (AreEdges gotos.now.gotos (IsRead gotos.now.automaton gotos.now.gotos)) }
 {

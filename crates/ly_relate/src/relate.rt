@@ -9,10 +9,10 @@ use ly_base::OutOfMemory;
 use ly_lr0::Lr0;
 use std::alloc::Global;
 
-/// Finds the relations of an automaton. It takes time linear in what they hold and in the bodies that are walked, but
-/// for the search of a symbol among those that leave a state.
+/// Computes the relations of an automaton. The time is linear in the size of the relations and of the bodies that are
+/// walked, except for searches of a symbol among the transitions of a state.
 ///
-/// `OutOfMemory` comes where a growth was refused.
+/// `OutOfMemory` if an allocation fails.
 pub fn relations(alloc: Global, lr0: &Lr0<'_>) -> Result<Relations, OutOfMemory>
     ensures { IfOk result (AreRelations lr0.now) }
 {

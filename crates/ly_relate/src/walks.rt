@@ -1,5 +1,5 @@
-//! Includes and lookback in one walk for each transition and each rule of its nonterminal: forth over the body, from
-//! state to state, and back from its end, as long as what was passed is nullable.
+//! Computes includes and lookback in one walk for each transition and each rule of its nonterminal: forwards over the
+//! body, from state to state, and backwards from its end, as long as the symbols passed are nullable.
 ghost use Rattle.std.specs.Prelude.{◌≡◌, ◌<◌, ◌≤◌, ℕ, [], length, map, slice_get, slice_index_or, All, IfOk};
 ghost use Rattle.std.specs.Prelude.{MatchOption};
 ghost use Rattle.std.specs.Prelude.{Contains, OnOk, Some};
@@ -22,20 +22,20 @@ use ly_base::{OutOfMemory, StateNo};
 use ly_join::Symbol;
 use std::alloc::Global;
 
-/// A rule that is complete in a state looks back to transitions.
+/// The transitions to which a rule that is complete in a state looks back.
 #[derive(Clone, Copy, Debug, PartialEq, Eq)]
 pub struct Lookback {
     /// The state.
     pub state: StateNo,
-    /// The rule's number.
+    /// The number of the rule.
     pub rule: u32,
-    /// The node that stands for them: a transition's number, or past these one from which edges lead to each.
+    /// The node that represents them: the number of a transition, or past these a node with edges to each of them.
     pub node: u32,
 }
 
 impl Lookback {
-    /// A rule that is complete in a state looks back to the transitions for which a node stands. It is out of memory
-    /// where a number has no `u32`: no graph has so many nodes, and no grammar so many rules.
+    /// The lookback of a rule that is complete in a state, to the transitions that a node represents. The error is out
+    /// of memory, for a number that doesn't fit in a `u32`; no graph has so many nodes, and no grammar so many rules.
     fn new(state: StateNo, rule: usize, node: usize) -> Result<Lookback, OutOfMemory>
         ensures { IfOk result (λ l. lookback_from l ≡ record { state = state.0; rule = rule; node = node }) }
     {
@@ -46,14 +46,14 @@ impl Lookback {
     }
 }
 
-/// What walks found.
+/// The results of the walks.
 #[derive(Drop)]
 pub(crate) struct Walks {
-    /// Which transitions include which.
+    /// The relation includes.
     pub(crate) includes: Includes,
     /// The transitions to which complete rules look back.
     pub(crate) lookbacks: Pieces<Lookback>,
-    /// The states before the symbols of the body that is walked.
+    /// The states before each symbol of the body being walked.
     path: Vec<StateNo>,
 }
 
@@ -98,8 +98,8 @@ impl Walks {
         Ok(())
     }
 
-    /// Walks the rules of a transition's nonterminal. Those that begin with a terminal are walked from the first
-    /// transition for which a node stands, for all of them.
+    /// Walks the rules of a transition's nonterminal. Those that begin with a terminal are walked only for the first
+    /// transition that a node represents, on behalf of all of them.
     fn walk_from(
         &mut self,
         gotos: &Gotos<'_>,
@@ -129,7 +129,7 @@ impl Walks {
         Ok(())
     }
 
-    /// Walks rules of a transition's nonterminal. What they say of it is said of a node.
+    /// Walks rules of a transition's nonterminal. The pairs found are recorded for this node.
     fn walk_rules(
         &mut self,
         gotos: &Gotos<'_>,
@@ -153,7 +153,7 @@ impl Walks {
         Ok(())
     }
 
-    /// Walks a rule from where a transition begins.
+    /// Walks a rule from the state where a transition begins.
     fn walk(
         &mut self,
         gotos: &Gotos<'_>,
@@ -181,7 +181,7 @@ impl Walks {
         Ok(())
     }
 
-    /// Goes over a body from a state, and answers to which state it leads.
+    /// Walks over a body from a state, and returns the state it leads to.
     fn pass(
         &mut self,
         gotos: &Gotos<'_>,
@@ -209,8 +209,8 @@ impl Walks {
         Ok(Some(state))
     }
 
-    /// Goes back over a body, as long as what was passed is nullable: a transition over a nonterminal there includes
-    /// the one from which the walk began, for which a node stands.
+    /// Walks backwards over a body, as long as the symbols passed are nullable. Each transition over a nonterminal
+    /// found there includes the transitions that the node represents.
     fn include(
         &mut self,
         gotos: &Gotos<'_>,

@@ -1,4 +1,4 @@
--- How many conflicts a specification has of each kind.
+-- The number of conflicts of each kind in a specification.
 use Rattle.std.specs.Prelude.{◌≡◌, List, map}
 use Rattle.ly_grammar.specs.Reduction.{KeepsUseful}
 use Rattle.ly_join.specs.Grammar.{Grammar}

@@ -1,4 +1,4 @@
--- What a report says: which rules are removed, and which conflicts there are (POSIX, XCU yacc, "Conflicts").
+-- The content of a report: the removed rules, and the conflicts (POSIX, XCU yacc, "Conflicts").
 use Rattle.std.specs.Prelude.{◌≡◌, ◌↔◌, ℕ, ◌≤◌, ◌<◌, List, [], ◌∷◌, ◌++◌, Bool, true, false, Option, Some, length}
 use Rattle.std.specs.Prelude.{codes}
 use Rattle.std.specs.Prelude.{map, reverse, slice_get, option_map, unwrap_or, AllPairs, Contains, flat_map}
@@ -47,15 +47,15 @@ abbrev pub removed_line : Spec → ℕ → List ℕ
 removed_line s p = codes "removed rule " ++ (decimal p ++ (codes ": " ++ (rule_text s (slice_get s.grammar.rules p)
     ++ newline ∷ [])))
 
--- the line that says how many rules are removed
+-- the line with the number of removed rules
 abbrev pub removed_count : ℕ → List ℕ
 removed_count n = codes "removed rules: " ++ (decimal n ++ newline ∷ [])
 
--- how many rules are removed, and a line for each
+-- the number of removed rules, and a line for each
 abbrev pub removed_text : Spec → List ℕ → List ℕ
 removed_text s removed = removed_count (length removed) ++ flat_map (removed_line s) removed
 
--- what a conflict is between, as it is printed
+-- the printed name of a kind of conflict
 abbrev pub kind_name : Kind → List ℕ
 kind_name shift_reduce = codes "shift/reduce"
 kind_name reduce_reduce = codes "reduce/reduce"
@@ -66,21 +66,21 @@ same_kind shift_reduce shift_reduce = true
 same_kind reduce_reduce reduce_reduce = true
 same_kind _ _ = false
 
--- how many are of a kind
+-- the number of kinds in the list that are this one
 abbrev pub count_of : Kind → List Kind → ℕ
 count_of kind kinds = count_by (same_kind kind) kinds
 
--- what is done, as it is printed
+-- the printed form of an action
 abbrev pub action_text : Action → List ℕ
 action_text shift = codes "shift"
 action_text (reduce p) = codes "rule " ++ decimal p
 action_text error = codes "error"
 
--- what is chosen, and which rule isn't
+-- the chosen action, and the rule that isn't chosen
 abbrev pub choice_text : Action → ℕ → List ℕ
 choice_text choice p = codes ": " ++ action_text choice ++ codes ", not rule " ++ decimal p ++ newline ∷ []
 
--- what a conflict is between, and where it is: behind these symbols, before the terminal
+-- the kind of a conflict and where it is: after these symbols, before the terminal
 abbrev pub place_text : Spec → Kind → List Symbol → ℕ → List ℕ
 place_text s kind w t = kind_name kind ++ codes " after [" ++ spaced (map (symbol_name s) w) ++ codes "] before "
     ++ symbol_name s (terminal t)
@@ -89,16 +89,16 @@ place_text s kind w t = kind_name kind ++ codes " after [" ++ spaced (map (symbo
 abbrev pub conflict_line : Spec → Conflict → List ℕ
 conflict_line s c = place_text s c.kind (reverse c.prefix) c.terminal ++ choice_text c.choice c.rule
 
--- the line that says that there are so many of each kind
+-- the line with these numbers of conflicts of each kind
 abbrev pub counts_line : ℕ → ℕ → List ℕ
 counts_line shifts reductions = codes "conflicts: " ++ (decimal shifts ++ (codes " shift/reduce, "
     ++ (decimal reductions ++ (codes " reduce/reduce" ++ newline ∷ []))))
 
--- how many there are of each kind
+-- the number of each kind
 abbrev pub counts_text : List Kind → List ℕ
 counts_text kinds = counts_line (count_of shift_reduce kinds) (count_of reduce_reduce kinds)
 
--- how many conflicts there are, and a line for each
+-- the number of conflicts, and a line for each
 abbrev pub conflicts_text : Spec → List Conflict → List ℕ
 conflicts_text s conflicts = counts_text (map (λ c. c.kind) conflicts) ++ flat_map (conflict_line s) conflicts
 
@@ -106,13 +106,12 @@ conflicts_text s conflicts = counts_text (map (λ c. c.kind) conflicts) ++ flat_
 abbrev pub IsRemoved : Grammar → ℕ → Type 0
 IsRemoved G p = (r : GrammarRule) × IsRule G p r × (1 ≤ p) × (IsUseful G p → ⊥)
 
--- All rules that are removed, rising.
+-- All removed rules, in rising order.
 pub record AreRemoved (G : Grammar) (removed : List ℕ) : Type 0 where
   pub are : (p : ℕ) → Contains removed p ↔ IsRemoved G p
   pub rising : AllPairs (λ p q. p < q) removed
 
--- The bytes are the report of the specification: the rules that are removed, and the conflicts of the grammar of the
--- others.
+-- The bytes are the report of the specification: the removed rules, and the conflicts of the grammar of the others.
 pub record IsReport (s : Spec) (bytes : List ℕ) : Type 0 where
   pub removed : List ℕ
   pub are_removed : AreRemoved s.grammar removed

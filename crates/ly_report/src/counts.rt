@@ -1,4 +1,4 @@
-//! How many conflicts there are of each kind.
+//! The number of conflicts of each kind.
 ghost use Rattle.std.specs.Prelude.{◌≡◌, ◌++◌, map, OnOk};
 ghost use Rattle.ly_resolve.specs.Conflicts.{reduce_reduce, shift_reduce};
 ghost use Rattle.ly_resolve.specs.Values.{kind_from};
@@ -9,12 +9,12 @@ use crate::line::push_decimal;
 use ly_resolve::{ConflictKind, Conflicts, Resolved};
 use std::alloc::AllocError;
 
-/// How many conflicts a specification has of each kind.
+/// The number of conflicts of each kind in a specification.
 #[derive(Clone, Copy, Debug, PartialEq, Eq)]
 pub struct ConflictCounts {
-    /// How many are between a shift and a reduction.
+    /// The number of conflicts between a shift and a reduction.
     pub shift_reduce: usize,
-    /// How many are between two reductions.
+    /// The number of conflicts between two reductions.
     pub reduce_reduce: usize,
 }
 
@@ -23,7 +23,7 @@ impl ConflictCounts {
     pub fn of(resolved: &Resolved<'_>) -> ConflictCounts
         ensures { AreCounts resolved.now.spec result }
     {
-        // by the contracts of both the conflicts are those of the specification's useful rules
+        // by the contracts of both, these are the conflicts of the specification's useful rules
         let _spec = resolved.spec();
         let _lr0 = resolved.lr0();
         ConflictCounts::among(resolved.conflicts())
@@ -43,9 +43,9 @@ impl ConflictCounts {
     }
 }
 
-/// Appends the line of a report that says how many conflicts there are of each kind.
+/// Appends the line of a report with the number of conflicts of each kind.
 ///
-/// It fails where memory runs out. How much was appended by then is left open.
+/// It fails if an allocation fails. How much has been appended by then is unspecified.
 pub fn push_counts(out: &mut Vec<u8>, counts: &ConflictCounts) -> Result<(), AllocError>
     ensures { OnOk result
         (out.new.items ≡ out.old.items ++ counts_line counts.now.shift_reduce counts.now.reduce_reduce) }

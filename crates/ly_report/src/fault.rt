@@ -5,16 +5,16 @@ use ly_base::OutOfMemory as NoMemory;
 use ly_print::WriteFault;
 use thiserror::Error;
 
-/// Why a report wasn't written whole.
+/// Why a report wasn't written completely.
 #[derive(Clone, Copy, Debug, PartialEq, Eq, Error)]
 pub enum ReportFault {
-    /// The writer failed in this call, and just the first `written` bytes of the report went out.
+    /// The writer failed in this call. Exactly the first `written` bytes of the report were written.
     #[error("the report could not be written after {written} bytes")]
     Write {
-        /// How many bytes went out.
+        /// The number of bytes written.
         written: usize,
     },
-    /// A growth was refused. Nothing was written.
+    /// Out of memory. Nothing was written.
     #[error("out of memory")]
     OutOfMemory,
 }

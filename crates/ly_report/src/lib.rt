@@ -1,11 +1,11 @@
-//! From the conflicts of a specification to the bytes of its report (POSIX, XCU yacc, "Conflicts").
+//! Prints the report of a specification: removed rules and conflicts (POSIX, XCU yacc, "Conflicts").
 //!
-//! `report` tells which rules are removed, since they occur in no tree of the start symbol, how many conflicts there
-//! are, and of each behind which prefix and before which terminal it is, what is done there, and which rule isn't.
-//! `report_text` is its bytes, and `push_terminal` prints the name of a terminal. How many conflicts there are is known
-//! without a report: `ConflictCounts::of` counts them, and `push_counts` prints the report's line of them.
+//! `report` writes which rules are removed because they occur in no tree of the start symbol, the number of conflicts,
+//! and for each conflict its prefix, its terminal, the chosen action, and the rule that isn't chosen. `report_text`
+//! returns the same bytes, and `push_terminal` prints the name of a terminal. Without a report, `ConflictCounts::of`
+//! counts the conflicts, and `push_counts` prints the line with these counts.
 //!
-//! Left out: which conflicts there are, and faults of specifications.
+//! Not done here: finding conflicts, and errors of specifications.
 #![tactic(auto)]
 
 mod counts;

@@ -63,7 +63,7 @@ pub(crate) fn push_conflict(
     Ok(())
 }
 
-/// Appends what a conflict is between, and where it is: behind these symbols, before a terminal.
+/// Appends the kind of a conflict and where it is: after these symbols, before a terminal.
 fn push_place(
     out: &mut Vec<u8>,
     spec: &Spec,
@@ -84,7 +84,7 @@ fn push_place(
     Ok(())
 }
 
-/// What a conflict is between, as it is printed.
+/// The printed name of a kind of conflict.
 fn kind_name(kind: ConflictKind) -> &'static [u8]
     ensures { result.now ≡ kind_name (kind_from kind) }
 {
@@ -94,7 +94,7 @@ fn kind_name(kind: ConflictKind) -> &'static [u8]
     }
 }
 
-/// Appends what is chosen, and which rule isn't.
+/// Appends the chosen action, and the rule that isn't chosen.
 fn push_choice(out: &mut Vec<u8>, choice: Action, rule: RuleNo) -> Result<(), AllocError>
     ensures { OnOk result (out.new.items ≡ out.old.items ++ choice_text (action_from choice) rule.0) }
 {
@@ -106,7 +106,7 @@ fn push_choice(out: &mut Vec<u8>, choice: Action, rule: RuleNo) -> Result<(), Al
     Ok(())
 }
 
-/// Appends what is done.
+/// Appends an action.
 fn push_action(out: &mut Vec<u8>, action: Action) -> Result<(), AllocError>
     ensures { OnOk result (out.new.items ≡ out.old.items ++ action_text (action_from action)) }
 {

@@ -20,9 +20,9 @@ pub(crate) fn push_symbol(out: &mut Vec<u8>, spec: &Spec, symbol: Symbol) -> Res
     }
 }
 
-/// Appends the name of a terminal: `$end`, `$undef`, a token's as it is, and a literal's byte in single quotes.
+/// Appends the name of a terminal: `$end`, `$undef`, the name of a token, or the byte of a literal in single quotes.
 ///
-/// It fails where memory runs out. How much was appended by then is left open.
+/// It fails if an allocation fails. How much has been appended by then is unspecified.
 pub fn push_terminal(out: &mut Vec<u8>, terminal: &TerminalName) -> Result<(), AllocError>
     ensures { OnOk result (out.new.items ≡ out.old.items ++ terminal_name (terminal_from terminal.now)) }
 {

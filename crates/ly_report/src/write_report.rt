@@ -18,10 +18,10 @@ use ly_print::{Sink, write_whole};
 use ly_resolve::{Conflicts, Resolved};
 use std::alloc::{AllocError, Global};
 
-/// Writes the report of a specification: the rules that are removed, the counts of conflicts, and the conflicts by
-/// state, terminal, kind and rule. Nothing is written before the whole report is known.
+/// Writes the report of a specification: the removed rules, the counts of conflicts, and the conflicts by state,
+/// terminal, kind and rule. Nothing is written before the whole report has been made.
 ///
-/// Its faults are those of `ReportFault`.
+/// The errors are those of `ReportFault`.
 pub fn report<W: Sink>(
     alloc: Global,
     resolved: &Resolved<'_>,
@@ -42,7 +42,7 @@ pub fn report<W: Sink>(
     Ok(())
 }
 
-/// The bytes of the report that `report` writes. It fails where memory runs out.
+/// The bytes of the report that `report` writes. It fails if an allocation fails.
 pub fn report_text(alloc: Global, resolved: &Resolved<'_>) -> Result<Vec<u8>, OutOfMemory>
     ensures { IfOk result (λ text. IsReport resolved.now.spec text.items) }
 {
@@ -55,7 +55,7 @@ pub fn report_text(alloc: Global, resolved: &Resolved<'_>) -> Result<Vec<u8>, Ou
     Ok(text)
 }
 
-/// The numbers of the rules that are removed, rising.
+/// The numbers of the removed rules, in rising order.
 fn removed_rules(
     alloc: Global,
     grammar: &Grammar,
@@ -74,7 +74,7 @@ fn removed_rules(
     Ok(removed)
 }
 
-/// Appends how many rules are removed, and a line for each.
+/// Appends the number of removed rules, and a line for each.
 fn push_removed_rules(out: &mut Vec<u8>, spec: &Spec, removed: &[usize]) -> Result<(), AllocError>
     requires { AreRemoved spec.now.grammar removed.now }
     ensures { OnOk result (out.new.items ≡ out.old.items ++ removed_text spec.now removed.now) }
@@ -86,7 +86,7 @@ fn push_removed_rules(out: &mut Vec<u8>, spec: &Spec, removed: &[usize]) -> Resu
     Ok(())
 }
 
-/// Appends the line that says how many rules are removed.
+/// Appends the line with the number of removed rules.
 fn push_removed_count(out: &mut Vec<u8>, count: usize) -> Result<(), AllocError>
     ensures { OnOk result (out.new.items ≡ out.old.items ++ removed_count count) }
 {
@@ -96,7 +96,7 @@ fn push_removed_count(out: &mut Vec<u8>, count: usize) -> Result<(), AllocError>
     Ok(())
 }
 
-/// Appends how many conflicts there are, and a line for each.
+/// Appends the number of conflicts, and a line for each.
 fn push_conflicts(
     alloc: Global,
     out: &mut Vec<u8>,

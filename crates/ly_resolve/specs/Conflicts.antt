@@ -6,12 +6,12 @@ use Rattle.ly_lr0.specs.Automaton.{ComesBefore}
 use Rattle.ly_resolve.specs.Actions.{Action, Judge, Stays, Verdict, IsAction, IsRaw, reduce, shift}
 use Rattle.ly_resolve.specs.Actions.{unsettled}
 
--- between a shift and a reduction, or between two reductions
+-- a shift against a reduction, or two reductions
 pub data Kind : Type 0 where
   shift_reduce : Kind
   reduce_reduce : Kind
 
--- A conflict: at the strings with the core of a prefix, before a terminal, a rule isn't what is chosen.
+-- A conflict: a rule that isn't chosen at the strings with the core of a prefix, before a terminal.
 pub record Conflict : Type 0 where
   pub prefix : List Symbol
   pub terminal : ℕ
@@ -19,10 +19,10 @@ pub record Conflict : Type 0 where
   pub rule : ℕ
   pub choice : Action
 
--- Which rules are counted where these actions are asked for, by what precedence says of each rule.
+-- The rules that are counted, given the possible actions and the verdict of precedence on each rule.
 module _ (IsAsked : Action → Type 0) (verdict : ℕ → Verdict) where
-  -- A shift against a reduction is counted where precedence says nothing of them. Of the reductions that stay, each but
-  -- the earliest is counted.
+  -- A shift against a reduction is counted if precedence has no verdict. Of the reductions that stay, each but the
+  -- earliest is counted.
   abbrev pub CountsAs : Kind → ℕ → Type 0
   CountsAs shift_reduce p = IsAsked shift × IsAsked (reduce p) × (verdict p ≡ unsettled)
   CountsAs reduce_reduce p = Stays IsAsked verdict p × (q : ℕ) × (q < p) × Stays IsAsked verdict q
@@ -31,22 +31,22 @@ module _ (IsAsked : Action → Type 0) (verdict : ℕ → Verdict) where
 abbrev pub IsCounted : Grammar → Judge → List Symbol → ℕ → Kind → ℕ → Type 0
 IsCounted G judge g t = CountsAs (IsRaw G g t) (λ p. judge p t)
 
--- the least of the strings with its core (the access prefix of a state)
+-- the least of the strings with the same core (the access prefix of a state)
 abbrev pub IsLeast : Grammar → List Symbol → Type 0
 IsLeast G g = IsViable G g × ((h : List Symbol) → Merges G g h → (h ≡ g) ⊎ ComesBefore g h)
 
--- The conflict is one of the grammar, and its choice is what is done.
+-- The conflict is one of the grammar, and its choice is the chosen action.
 pub record IsConflict (G : Grammar) (judge : Judge) (c : Conflict) : Type 0 where
   pub least : IsLeast G c.prefix
   pub counted : IsCounted G judge c.prefix c.terminal c.kind c.rule
   pub choice : IsAction G judge c.prefix c.terminal c.choice
 
--- a shift against a reduction comes first
+-- a shift against a reduction comes before two reductions
 abbrev pub IsKindBefore : Kind → Kind → Type 0
 IsKindBefore shift_reduce reduce_reduce = Unit {0}
 IsKindBefore _ _ = ⊥
 
--- conflicts in the order of prefixes, then of terminals, then of kinds, then of rules
+-- conflicts ordered by prefix, then terminal, then kind, then rule
 abbrev pub IsBefore : Conflict → Conflict → Type 0
 IsBefore c d = ComesBefore c.prefix d.prefix ⊎ ((c.prefix ≡ d.prefix)
     × ((c.terminal < d.terminal) ⊎ ((c.terminal ≡ d.terminal)

@@ -1,4 +1,4 @@
--- What a parser does in each state of an automaton.
+-- The actions of a parser in each state of an automaton.
 use Rattle.std.specs.Prelude.{◌≡◌, ◌↔◌, ℕ, ◌<◌, List, Bool, Some, slice_get, length, AllPairs, Contains, IsTrue}
 use Rattle.ly_join.specs.Grammar.{Grammar, Symbol}
 use Rattle.ly_join.specs.Joined.{Spec}
@@ -7,13 +7,13 @@ use Rattle.ly_resolve.specs.Actions.{Action, Judge, IsAction, IsConflictFree, Is
 use Rattle.ly_resolve.specs.Conflicts.{Conflict, AreConflicts}
 use Rattle.ly_resolve.specs.Precedence.{judge_of}
 
--- What is done before a terminal.
+-- The action before a terminal.
 pub record TerminalAction : Type 0 where
   pub terminal : ℕ
   pub action : Action
 
--- A specification with its automaton: for each state what is done in it, the conflicts, and whether no two actions are
--- asked for anywhere.
+-- A specification with its automaton: the actions in each state, the conflicts, and whether at most one action is
+-- possible everywhere.
 pub record Resolved : Type 0 where
   pub spec : Spec
   pub automaton : Lr0Automaton
@@ -21,15 +21,15 @@ pub record Resolved : Type 0 where
   pub conflicts : List Conflict
   pub conflict_free : Bool
 
--- The entries are what is done at a string, in the order of the terminals: one where an action is asked for, and none
--- elsewhere.
+-- The entries are the actions at a string, in the order of the terminals: one for each terminal with a possible action,
+-- and no others.
 pub record IsRow (G : Grammar) (judge : Judge) (g : List Symbol) (row : List TerminalAction) : Type 0 where
   pub ordered : AllPairs (λ x y. x.terminal < y.terminal) row
   pub are : (x : TerminalAction) → Contains row x ↔ IsAction G judge g x.terminal x.action
   pub whole : (t : ℕ) (a : Action) → IsRaw G g t a → (b : Action) × IsAction G judge g t b
 
--- The rows are what is done in each state, the conflicts are those of the grammar, and it is said whether there is no
--- conflict even before precedence is asked.
+-- The rows are the actions in each state, the conflicts are those of the grammar, and the flag is whether at most one
+-- action is possible everywhere, before precedence is consulted.
 pub record AreResolved (s : Spec) (M : Lr0Automaton) (r : Resolved) : Type 0 where
   pub spec : r.spec ≡ s
   pub automaton : r.automaton ≡ M

@@ -1,4 +1,4 @@
--- What contracts see of actions, entries and conflicts.
+-- Actions, entries and conflicts, as contracts see them.
 use Rattle.std.specs.Prelude.{◌<◌, List, Bool, true, false, length, map}
 use Rattle.ly_join.specs.Joined.{Spec}
 use Rattle.ly_lr0.specs.Automaton.{Lr0Automaton, prefix_of}
@@ -30,7 +30,7 @@ same_kind ShiftReduce ShiftReduce = true
 same_kind ReduceReduce ReduceReduce = true
 same_kind _ _ = false
 
--- a conflict in a state is one at its prefix
+-- a conflict in a state, as a conflict at its prefix
 abbrev pub conflict_from : Lr0Automaton → conflict.Conflict → Conflict
 conflict_from M c = record {
   prefix = prefix_of M c.state.0;

@@ -3,19 +3,19 @@ use ly_base::{RuleNo, Sym};
 /// What a parser does before a terminal.
 #[derive(Clone, Copy, Debug, PartialEq, Eq)]
 pub enum Action {
-    /// It shifts the terminal. Before the end it accepts.
+    /// Shift the terminal. For the end: accept.
     Shift,
-    /// It reduces by the rule of this number.
+    /// Reduce by the rule with this number.
     Reduce(RuleNo),
-    /// It refuses the terminal, which doesn't associate.
+    /// Reject the terminal, because it is nonassociative.
     Error,
 }
 
-/// What is done in a state before a terminal.
+/// The action in a state before a terminal.
 #[derive(Clone, Copy, Debug, PartialEq, Eq)]
 pub struct TerminalAction {
     /// The terminal.
     pub terminal: Sym,
-    /// What is done.
+    /// The action.
     pub action: Action,
 }

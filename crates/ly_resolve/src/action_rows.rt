@@ -6,29 +6,28 @@ ghost use Rattle.ly_resolve.specs.Values.{terminal_action_from};
 use crate::action::TerminalAction;
 use std::alloc::{AllocError, Global};
 
-/// Where a row stands in the list of entries.
+/// The range of a row in the list of entries.
 #[derive(Clone, Copy)]
 pub(crate) struct RowPlace {
-    /// Where its first entry does.
+    /// The index of its first entry.
     pub(crate) start: usize,
-    /// How many entries there are up to its end.
+    /// The index after its last entry.
     pub(crate) end: usize,
 }
 
-/// What is done in each of the first states. States often do what the one before does, so a row that is equal to the
-/// one before is kept once. All stand in one list: what it takes goes back to the system when it isn't needed any more,
-/// which isn't so of as many lists.
+/// The rows of the first states. A row that equals the row before is stored once. All rows are in one list, because a
+/// large block is returned to the system when it is freed, and many small ones aren't.
 #[derive(Drop)]
 pub(crate) struct ActionRows {
-    /// For each state the place of its row.
+    /// For each state, the range of its row.
     pub(crate) places: Vec<RowPlace>,
-    /// The rows that are kept, one behind the other.
+    /// The stored rows, one after another.
     pub(crate) kept: Vec<TerminalAction>,
     ghost within: { All (IsWithin (length kept.items)) places.items },
 }
 
 impl ActionRows {
-    /// No rows, with room for the places of so many states.
+    /// No rows, with capacity for this many states.
     pub(crate) fn with_capacity(alloc: Global, states: usize) -> Result<ActionRows, AllocError>
         ensures { IfOk result (λ r. rows_from r.places.items r.kept.items ≡ []) }
     {
@@ -61,7 +60,7 @@ impl ActionRows {
         Ok(())
     }
 
-    /// Where the last row stands, if it is this one.
+    /// The range of the last row, if it is equal to this one.
     fn last_place(&self, row: &[TerminalAction]) -> Option<RowPlace>
         ensures within { IfSome result (IsWithin (length self.now.kept.items)) }
         ensures same { IfSome result (λ p. row_at self.now.kept.items p ≡ map terminal_action_from row.now) }
@@ -74,7 +73,7 @@ impl ActionRows {
         }
     }
 
-    /// Keeps a row behind the others, and tells where.
+    /// Stores a row after the others, and returns its range.
     fn keep(&mut self, row: &[TerminalAction]) -> Result<RowPlace, AllocError>
         ensures kept { OnOk result (self.new.kept.items ≡ self.old.kept.items ++ row.now) }
         ensures places { self.new.places ≡ self.old.places }

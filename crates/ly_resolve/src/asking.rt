@@ -1,4 +1,4 @@
-//! What is asked for in the states of an automaton.
+//! The possible actions in an automaton's states.
 ghost use Rattle.std.specs.Prelude.{◌<◌, ◌↔◌, ℕ, length, AllPairs, Contains, IsTrue, OnOk};
 ghost use Rattle.ly_lookahead.specs.Lookaheads.{AreLookaheads};
 ghost use Rattle.ly_lr0.specs.Automaton.{prefix_of, IsLr0Automaton};
@@ -9,8 +9,8 @@ use ly_join::Symbol;
 use ly_lookahead::Lookaheads;
 use ly_lr0::Lr0;
 
-/// Whether a shift is asked for in a state before a terminal. Behind the start symbol that of the end is. A terminal's
-/// transition is looked for at a place first, which gets to be the one behind it.
+/// Whether a shift is possible in a state before a terminal. After the start symbol, that of the end is. `place` is a
+/// hint: the transition at this index is tried first, and `place` becomes the index after it.
 pub(crate) fn asks_shift(lr0: &Lr0<'_>, state: StateNo, terminal: Sym, place: &mut usize) -> bool
     requires lawful { IsLr0Automaton lr0.now }
     requires state { state.0 < length lr0.now.states }
@@ -28,8 +28,8 @@ pub(crate) fn asks_shift(lr0: &Lr0<'_>, state: StateNo, terminal: Sym, place: &m
     }
 }
 
-/// Puts the rules into a list by which a reduction is asked for in a state before a terminal, rising. It
-/// fails where memory runs out, or where the number of a rule is past 32 bits.
+/// Puts the rules by which a reduction is possible in a state before a terminal into a list, in rising order. It fails
+/// if an allocation fails, or if the number of a rule doesn't fit in 32 bits.
 pub(crate) fn find_reductions(
     lr0: &Lr0<'_>,
     lookaheads: &Lookaheads,

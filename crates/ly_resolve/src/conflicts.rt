@@ -7,8 +7,8 @@ use ly_base::Sym;
 use std::alloc::{AllocError, Global};
 use std::marker::Model;
 
-/// Conflicts in their order. Those of one state, kind, rule and choice, before terminals in a row, are kept once, as a
-/// run.
+/// Conflicts in their order. Consecutive ones that differ only in their terminals, which are consecutive too, are
+/// stored as one run.
 #[derive(Drop)]
 pub struct Conflicts {
     /// The runs.
@@ -20,7 +20,7 @@ pub struct Conflicts {
 pub(crate) struct Run {
     /// The last of them.
     pub(crate) last: Conflict,
-    /// How many conflicts there are up to the end of the run, from the first run on.
+    /// The number of conflicts in this run and all before it.
     pub(crate) end: usize,
 }
 
@@ -66,29 +66,29 @@ impl Conflicts {
         Ok(())
     }
 
-    /// How many conflicts there are.
+    /// The number of conflicts.
     pub fn len(&self) -> usize
         ensures { result ≡ length self.now }
     {
         end_of(&self.runs)
     }
 
-    /// Whether there are none.
+    /// Whether there are no conflicts.
     pub fn is_empty(&self) -> bool
         ensures { IsTrue result ↔ (self.now ≡ []) }
     {
         self.len() == 0
     }
 
-    /// The conflict at an index. Its run is searched for.
+    /// The conflict at an index. Its run is found by a binary search.
     pub fn get(&self, index: usize) -> Option<Conflict>
         ensures { result ≡ slice_get self.now index }
     {
         conflict_at(&self.runs, place_of(&self.runs, index), index)
     }
 
-    /// The conflict at an index. It is looked for in the run of a number first, then in the next, and by a search if it
-    /// isn't there; then the number is that of its run. So a walk over all conflicts takes no search.
+    /// The conflict at an index. `run` is a hint: the run with this number is tried first, then the next, and then a
+    /// search. `run` becomes the number of the run found. So iterating over all conflicts takes no search.
     pub fn get_near(&self, index: usize, run: &mut usize) -> Option<Conflict>
         ensures { result ≡ slice_get self.now index }
     {
@@ -98,7 +98,7 @@ impl Conflicts {
         conflict_at(&self.runs, *run, index)
     }
 
-    /// How many conflicts are of a kind.
+    /// The number of conflicts of a kind.
     pub fn count(&self, kind: ConflictKind) -> usize
         ensures { result ≡ count_by (λ c. same_kind kind c.kind) self.now }
     {
@@ -114,7 +114,7 @@ impl Conflicts {
     }
 }
 
-/// How many conflicts are in runs.
+/// The number of conflicts in some runs.
 fn end_of(runs: &[Run]) -> usize
     ensures { result ≡ end_from 0 runs.now }
 {
@@ -124,8 +124,8 @@ fn end_of(runs: &[Run]) -> usize
     }
 }
 
-/// Whether a conflict goes on with the last of the runs: it differs from its last one in the terminal alone, which is
-/// the next.
+/// Whether a conflict continues the last run: it differs from the run's last conflict only in the terminal, which is
+/// the next one.
 fn goes_on(runs: &[Run], conflict: Conflict) -> bool
     ensures { IsTrue result → GoesOn runs.now conflict }
 {
@@ -144,7 +144,7 @@ fn goes_on(runs: &[Run], conflict: Conflict) -> bool
     }
 }
 
-/// The number of the run in which the conflict of an index is, or how many runs there are.
+/// The number of the run that contains the conflict at an index, or the number of runs if none does.
 fn place_of(runs: &[Run], index: usize) -> usize
     ensures { IsPlace runs.now index result }
 {
@@ -161,7 +161,7 @@ fn place_of(runs: &[Run], index: usize) -> usize
     low
 }
 
-/// The number of the run in which the conflict of an index is, which may be the one behind a place.
+/// The number of the run that contains the conflict at an index. The run after `place` is tried first.
 fn next_place(runs: &[Run], place: usize, index: usize) -> usize
     ensures { IsPlace runs.now index result }
 {
@@ -173,7 +173,7 @@ fn next_place(runs: &[Run], place: usize, index: usize) -> usize
     }
 }
 
-/// Whether the conflict of an index is in the run at a place.
+/// Whether the run at this place contains the conflict at an index.
 fn is_within(runs: &[Run], place: usize, index: usize) -> bool
     ensures { IsTrue result → IsPlace runs.now index place }
 {
@@ -183,7 +183,7 @@ fn is_within(runs: &[Run], place: usize, index: usize) -> bool
     }
 }
 
-/// The conflict of an index, by the place of its run.
+/// The conflict at an index, given the number of its run.
 fn conflict_at(runs: &[Run], place: usize, index: usize) -> Option<Conflict>
     requires runs { AreRuns 0 runs.now }
     requires place { IsPlace runs.now index place }
@@ -193,7 +193,7 @@ fn conflict_at(runs: &[Run], place: usize, index: usize) -> Option<Conflict>
     Some(earlier(run.last, run.end - 1 - index))
 }
 
-/// The conflict that differs from another in the terminal alone, which is so many before.
+/// The same conflict before the terminal whose number is less by `count`.
 fn earlier(conflict: Conflict, count: usize) -> Conflict
     requires { count ≤ conflict.terminal.0 }
     ensures { result ≡ before count conflict }

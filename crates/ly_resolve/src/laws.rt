@@ -2,46 +2,46 @@ ghost use Rattle.ly_resolve.specs.Laws.{AcceptsSentences, AcceptsTreesOnly, Defa
 ghost use Rattle.ly_resolve.specs.Laws.{NextContinues, OneTokenTells, ReadsPrefixes, ReadsToOne, RefusesExactly};
 ghost use Rattle.ly_resolve.specs.Laws.{RefusesFirst};
 
-/// Without conflicts the reference machine accepts each sentence with each of its trees.
+/// Theorem: without conflicts, the reference machine accepts each sentence with each of its trees.
 pub fn accepts_sentences()
     ensures { AcceptsSentences }
 {}
 
-/// Without conflicts no sentence has two trees.
+/// Theorem: without conflicts, no sentence has two trees.
 pub fn is_unambiguous()
     ensures { IsUnambiguous }
 {}
 
-/// What the reference machine accepts, also with conflicts, is a tree of the tokens before the end.
+/// Theorem: what the reference machine accepts, even with conflicts, is a tree of the tokens before the end.
 pub fn accepts_trees_only()
     ensures { AcceptsTreesOnly }
 {}
 
-/// What the reference machine has read, also with conflicts, begins a sentence.
+/// Theorem: the tokens that the reference machine has read, even with conflicts, begin a sentence.
 pub fn reads_prefixes()
     ensures { ReadsPrefixes }
 {}
 
-/// Without conflicts the token that the reference machine refuses is the first that continues no sentence.
+/// Theorem: without conflicts, the token that the reference machine refuses is the first that continues no sentence.
 pub fn refuses_first()
     ensures { RefusesFirst }
 {}
 
-/// Without conflicts, where its run ends, it refuses exactly the first token that continues no sentence.
+/// Theorem: without conflicts, if its run ends, the machine refuses exactly the first token that continues no sentence.
 pub fn refuses_exactly()
     ensures { RefusesExactly }
 {}
 
-/// The terminals that the reference machine would read behind tokens: without conflicts they are those that continue a
-/// sentence; what becomes of one token of a terminal tells whether it is among them; and the stack that they are asked
-/// of is one.
+/// Theorem: without conflicts, the terminals that the reference machine would read after some tokens are those that
+/// continue a sentence. The outcome for one token of a terminal decides whether the terminal is among them. The stack
+/// after the tokens, on which this depends, is unique.
 pub fn next_terminals()
     ensures continues { NextContinues }
     ensures told { OneTokenTells }
     ensures one { ReadsToOne }
 {}
 
-/// Where reductions end in a shift of a terminal, it is in the first one's lookahead.
+/// Theorem: if reductions lead to a shift of a terminal, it is in the lookahead of the first one.
 pub fn defaults_never_mislead()
     ensures { DefaultsNeverMislead }
 {}

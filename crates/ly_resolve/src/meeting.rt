@@ -16,21 +16,21 @@ use ly_base::{RuleNo, StateNo, Sym};
 use ly_join::Spec;
 use std::alloc::AllocError;
 
-/// The actions that are asked for in a state before a terminal.
+/// The possible actions in a state before a terminal.
 #[derive(Clone, Copy)]
 pub(crate) struct Meeting<'a> {
-    /// Where precedences stand.
+    /// The specification with the precedences.
     pub(crate) spec: &'a Spec,
     /// The terminal.
     pub(crate) terminal: Sym,
-    /// Whether a shift is asked for.
+    /// Whether a shift is possible.
     pub(crate) shift: bool,
-    /// The rules by which a reduction is asked for, rising.
+    /// The rules by which a reduction is possible, in rising order.
     pub(crate) reductions: &'a [u32],
 }
 
 impl<'a> Meeting<'a> {
-    /// Whether two actions are asked for.
+    /// Whether two actions are possible.
     pub(crate) fn is_many(&self) -> bool
         ensures { IsTrue result ↔ AreMany self.now.shift self.now.reductions.now }
     {
@@ -38,7 +38,7 @@ impl<'a> Meeting<'a> {
         self.reductions.len() >= least
     }
 
-    /// What is done, if anything is asked for.
+    /// The chosen action, if any action is possible.
     pub(crate) fn action(&self) -> Option<Action>
         requires { AllPairs (λ p q. p < q) self.now.reductions.now }
         ensures { MatchOption result ((a : spec.Action) → IsAskedBy self.now.shift self.now.reductions.now a → ⊥)
@@ -75,7 +75,7 @@ impl<'a> Meeting<'a> {
         None
     }
 
-    /// Whether precedence is against the shift and a reduction.
+    /// Whether precedence rejects both the shift and some reduction.
     fn is_refused(&self) -> bool
         ensures { IsTrue result ↔ ((p : ℕ) × Contains self.now.reductions.now p
             × (judge_of self.now.spec.now p self.now.terminal.0 ≡ to_error)) }
@@ -88,7 +88,7 @@ impl<'a> Meeting<'a> {
         false
     }
 
-    /// Whether a reduction stays: precedence is for it, or there is no shift.
+    /// Whether a reduction stays: precedence prefers it, or no shift is possible.
     fn stays(&self, rule: u32) -> bool
         ensures { IsTrue result
             ↔ (IsTrue self.now.shift → judge_of self.now.spec.now rule self.now.terminal.0 ≡ to_reduce) }
@@ -96,14 +96,14 @@ impl<'a> Meeting<'a> {
         !self.shift || self.verdict(rule) == Verdict::Reduce
     }
 
-    /// What precedence says of a reduction against the shift.
+    /// The verdict of precedence on a reduction against the shift.
     fn verdict(&self, rule: u32) -> Verdict
         ensures { verdict_from result ≡ judge_of self.now.spec.now rule self.now.terminal.0 }
     {
         judge(self.spec, rule as usize, self.terminal)
     }
 
-    /// Adds the conflicts, by kinds and then by rules.
+    /// Adds the conflicts, by kind and then by rule.
     pub(crate) fn push_conflicts(
         &self,
         state: StateNo,
@@ -152,7 +152,7 @@ impl<'a> Meeting<'a> {
         Ok(())
     }
 
-    /// Whether a reduction is counted against what is done.
+    /// Whether a reduction is counted as a conflict with the chosen action.
     fn is_counted(&self, kind: ConflictKind, choice: Action, rule: u32) -> bool
         ensures { result ≡ is_counted self.now.shift (λ p. judge_of self.now.spec.now p self.now.terminal.0)
             (action_from choice) (kind_from kind) rule }

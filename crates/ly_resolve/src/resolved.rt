@@ -11,18 +11,18 @@ use ly_join::Spec;
 use ly_lr0::Lr0;
 use std::marker::Model;
 
-/// What a parser does in each state of an automaton, and the conflicts.
+/// The actions of a parser in each state of an automaton, and the conflicts.
 #[derive(Drop)]
 pub struct Resolved<'a> {
     /// The specification.
     pub(crate) spec: &'a Spec,
     /// Its automaton.
     pub(crate) lr0: &'a Lr0<'a>,
-    /// For each state what is done in it, in the order of the terminals.
+    /// For each state its actions, in the order of the terminals.
     pub(crate) rows: ActionRows,
     /// The conflicts, in their order.
     pub(crate) conflicts: Conflicts,
-    /// Whether no two actions are asked for anywhere.
+    /// Whether at most one action is possible everywhere.
     pub(crate) conflict_free: bool,
 }
 
@@ -63,7 +63,7 @@ impl<'a> Resolved<'a> {
         self.lr0
     }
 
-    /// What is done in a state, in the order of the terminals. Before any other terminal nothing is.
+    /// The actions in a state, in the order of the terminals. A terminal without an entry is an error.
     pub fn row(&self, state: StateNo) -> &[TerminalAction]
         requires { state.0 < length self.now.rows }
         ensures { slice_get self.now.rows state.0 ≡ Some (map terminal_action_from result.now) }
@@ -71,7 +71,7 @@ impl<'a> Resolved<'a> {
         self.rows.row(state.0 as usize)
     }
 
-    /// The conflicts, by state, terminal, kind and rule.
+    /// The conflicts, ordered by state, terminal, kind and rule.
     pub fn conflicts(&self) -> &Conflicts
         ensures these { map (conflict_from self.now.automaton) result.now ≡ self.now.conflicts }
         ensures inside { All (IsInside self.now.automaton) result.now }
@@ -79,7 +79,7 @@ impl<'a> Resolved<'a> {
         &self.conflicts
     }
 
-    /// Whether no two actions are asked for in any state before any terminal.
+    /// Whether at most one action is possible in each state before each terminal.
     pub fn conflict_free(&self) -> bool
         ensures { result ≡ self.now.conflict_free }
     {

@@ -22,10 +22,10 @@ use ly_lookahead::Lookaheads;
 use ly_lr0::Lr0;
 use std::alloc::{AllocError, Global};
 
-/// Settles what a parser does in each state before each terminal, and finds the conflicts. Each state is gone through
+/// Resolves the action of a parser in each state before each terminal, and finds the conflicts. Each state is visited
 /// once, terminal by terminal.
 ///
-/// `OutOfMemory` comes where a growth was refused, or where the number of a rule is past 32 bits.
+/// `OutOfMemory` if an allocation fails, or if the number of a rule doesn't fit in 32 bits.
 pub fn resolve<'a>(
     alloc: Global,
     spec: &'a Spec,
@@ -60,10 +60,10 @@ pub fn resolve<'a>(
     })
 }
 
-/// From what actions are settled.
+/// The inputs of the resolution.
 #[derive(Clone, Copy)]
 struct Sources<'a, 'b> {
-    /// Where precedences stand.
+    /// The specification with the precedences.
     spec: &'a Spec,
     /// The automaton.
     lr0: &'a Lr0<'a>,
@@ -71,16 +71,16 @@ struct Sources<'a, 'b> {
     lookaheads: &'b Lookaheads,
 }
 
-/// What is told of entries that are settled.
+/// What is collected about the entries resolved so far.
 #[derive(Drop)]
 struct Told {
     /// Their conflicts.
     conflicts: Conflicts,
-    /// Whether none of them asks for two actions.
+    /// Whether at most one action was possible for each of them.
     conflict_free: bool,
 }
 
-/// Fills a row with what is done in a state, in the order of the terminals.
+/// Fills a row with the actions in a state, in the order of the terminals.
 fn resolve_state(
     alloc: Global,
     sources: &Sources<'_, '_>,
@@ -130,7 +130,7 @@ fn resolve_state(
 }
 
 impl Told {
-    /// Adds the conflicts of one more entry, where more than one action is asked for.
+    /// Adds the conflicts of one more entry, if more than one action is possible.
     fn tell(
         &mut self,
         meeting: &Meeting<'_>,

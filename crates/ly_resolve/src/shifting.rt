@@ -1,4 +1,4 @@
-//! What is done in a state in which no rule is complete: it shifts.
+//! The actions in a state in which no rule is complete: shifts.
 ghost use Rattle.std.specs.Prelude.{◌≡◌, ◌<◌, ◌≤◌, [], length, map, OnOk};
 ghost use Rattle.ly_lr0.specs.Automaton.{prefix_of, state_at, IsLr0Automaton};
 ghost use Rattle.ly_resolve.specs.Actions.{Judge};
@@ -13,8 +13,8 @@ use ly_join::Symbol;
 use ly_lr0::Lr0;
 use std::alloc::AllocError;
 
-/// Fills a row with the shifts of a state in which no rule is complete: of the end behind the start symbol, and of the
-/// terminals over which transitions leave the state. So it takes no look at each terminal.
+/// Fills a row with the shifts of a state in which no rule is complete: that of the end after the start symbol, and
+/// those of the state's transitions over terminals. So it needs no look at each terminal.
 pub(crate) fn list_shifts(
     lr0: &Lr0<'_>,
     state: StateNo,

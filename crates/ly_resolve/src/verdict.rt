@@ -6,20 +6,20 @@ use ly_base::Sym;
 use ly_join::{Associativity, Precedence, Spec};
 use std::cmp::Ordering;
 
-/// What precedence says of a shift against a reduction.
+/// The verdict of precedence on a shift against a reduction.
 #[derive(Clone, Copy, Debug, PartialEq, Eq)]
 pub(crate) enum Verdict {
-    /// That the shift is taken.
+    /// The shift is chosen.
     Shift,
-    /// That the reduction is taken.
+    /// The reduction is chosen.
     Reduce,
-    /// That neither is.
+    /// Neither is chosen.
     Error,
-    /// Nothing, since the rule or the terminal has no precedence.
+    /// No verdict, because the rule or the terminal has no precedence.
     Unsettled,
 }
 
-/// What the precedences of a specification say of a rule against a shift of a terminal.
+/// The verdict of a specification's precedences on a rule against a shift of a terminal.
 pub(crate) fn judge(spec: &Spec, rule: usize, terminal: Sym) -> Verdict
     ensures { verdict_from result ≡ judge_of spec.now rule terminal.0 }
 {
@@ -52,7 +52,7 @@ fn precedence_of_token(spec: &Spec, terminal: Sym) -> Option<Precedence>
     }
 }
 
-/// The higher precedence wins; between equals associativity decides.
+/// The higher precedence wins. If they are equal, associativity decides.
 fn between(rule: Precedence, token: Precedence) -> Verdict
     ensures { verdict_from result ≡ by_levels rule token }
 {
@@ -63,7 +63,7 @@ fn between(rule: Precedence, token: Precedence) -> Verdict
     }
 }
 
-/// Between equals left is for the reduction, right for the shift.
+/// For equal precedences, left prefers the reduction, right the shift, and nonassociative neither.
 fn for_associativity(associativity: Associativity) -> Verdict
     ensures { verdict_from result ≡ between_equals associativity }
 {

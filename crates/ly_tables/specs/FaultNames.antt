@@ -1,4 +1,4 @@
--- The numbers and the names of the faults of table files, and of writing them.
+-- The numbers and the names of the errors of reading and of writing table files.
 use Rattle.std.specs.Prelude.{ℕ, List, Option, Some, None, codes}
 use Rattle.ly_tables.specs.declared.fault.TableFault.{TableFault}
 use Rattle.ly_tables.specs.declared.format_fault.FormatFault.{FormatFault}
@@ -6,7 +6,7 @@ use Rattle.ly_tables.specs.declared.format_fault.FormatFault.TheVariants as form
 use Rattle.ly_tables.specs.declared.fault.TableFault.TheVariants.{BadMagic, BadVersion, Endless, OutOfMemory}
 use Rattle.ly_tables.specs.declared.fault.TableFault.TheVariants.{OutOfRange, Trailing, Truncated}
 
--- a fault's number; want of memory has none
+-- an error's number; out of memory has none
 abbrev pub table_number : TableFault → Option ℕ
 table_number BadMagic = Some 80
 table_number BadVersion = Some 81
@@ -16,7 +16,7 @@ table_number (OutOfRange section) = Some 84
 table_number Endless = Some 85
 table_number OutOfMemory = None
 
--- a fault's name
+-- an error's name
 abbrev pub table_name : TableFault → List ℕ
 table_name BadMagic = codes "BadMagic"
 table_name BadVersion = codes "BadVersion"
@@ -26,12 +26,12 @@ table_name (OutOfRange section) = codes "OutOfRange"
 table_name Endless = codes "Endless"
 table_name OutOfMemory = codes "OutOfMemory"
 
--- a fault's number; want of memory has none
+-- an error's number; out of memory has none
 abbrev pub format_number : FormatFault → Option ℕ
 format_number format.TooLargeForVersion = Some 86
 format_number format.OutOfMemory = None
 
--- a fault's name
+-- an error's name
 abbrev pub format_name : FormatFault → List ℕ
 format_name format.TooLargeForVersion = codes "TooLargeForVersion"
 format_name format.OutOfMemory = codes "OutOfMemory"

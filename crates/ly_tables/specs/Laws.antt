@@ -19,7 +19,7 @@ use Rattle.ly_tables.specs.declared.fault.TableFault.TheVariants.{OutOfMemory}
 abbrev pub HasOneSpelling : Type 0
 HasOneSpelling = (a b : List ℕ) (v : Version) (s : TableSet) → TableText a v s → TableText b v s → a ≡ b
 
--- a set is spelled as its numbers are
+-- a set is spelled like its numbers
 abbrev pub IsSpelledByNumbers : Type 0
 IsSpelledByNumbers = (w : Width) (version : ℕ) (s : TableSet)
     → spelling w version s ≡ raw_spelling w version (raw_of w s)
@@ -39,12 +39,13 @@ abbrev pub HasOneSet : Type 0
 HasOneSet = (bytes : List ℕ) (v w : Version) (a b : TableSet) → TableText bytes v a → TableText bytes w b
     → (v ≡ w) × (a ≡ b)
 
--- bytes that are refused, but for want of memory, are the file of no set whose tables are steady, in no version
+-- rejected bytes, unless memory ran out, are the file of no set whose tables are steady, in no version
 abbrev pub IsRefusalExact : Type 0
 IsRefusalExact = (bytes : List ℕ) (v : Version) (s : TableSet) (fault : TableFault) → IsRefusedAs bytes fault
     → (fault ≡ OutOfMemory → ⊥) → TableText bytes v s → IsSteady (machine_of s) → ⊥
 
--- what stands behind a file's numbers tells neither apart: a file of some numbers is no beginning of one of others
+-- whatever bytes follow, they don't make files of different numbers equal: a file of some numbers is no prefix of one
+-- of others
 abbrev pub RawIsOne : Width → Type 0
 RawIsOne w = (version : ℕ) (a b : RawSet) (x y : List ℕ) → IsRawSet w a → IsRawSet w b
     → raw_spelling w version a ++ x ≡ raw_spelling w version b ++ y → (a ≡ b) × (x ≡ y)

@@ -1,4 +1,4 @@
--- What a table set of a version may hold: every number fits, and what it names is there.
+-- The ranges of a table set in a version: every number fits, and what it refers to exists.
 use Rattle.std.specs.Prelude.{◌≡◌, ℕ, ◌+◌, ◌*◌, ◌^◌, ◌<◌, ◌≤◌, List, All, Some, length, slice_get, codes}
 use Rattle.std.specs.Int.{Width, w16, w32, byte_len}
 use Rattle.ly_base.specs.Shape.{Shape, node}
@@ -20,12 +20,12 @@ pub record Counts : Type 0 where
   pub conditions : ℕ
   pub states : ℕ
 
--- how wide the numbers of a version are
+-- the width of a version's numbers
 abbrev pub width_of : Version → Width
 width_of V1 = w16
 width_of V2 = w32
 
--- the number that a file has of its version
+-- the number of a version in a file
 abbrev pub number_of : Version → ℕ
 number_of V1 = 1
 number_of V2 = 2
@@ -35,7 +35,7 @@ abbrev pub counts_of : Version → Counts
 counts_of V1 = record { symbols = 4095; rules = 8191; conditions = 255; states = 16383 }
 counts_of V2 = record { symbols = 16383; rules = 131071; conditions = 255; states = 262143 }
 
--- a name has one byte or more
+-- a name has at least one byte, and not too many
 abbrev pub IsNameLong : List ℕ → Type 0
 IsNameLong name = (1 ≤ length name) × (length name ≤ 255)
 
@@ -43,12 +43,12 @@ IsNameLong name = (1 ≤ length name) × (length name ≤ 255)
 abbrev pub IsName : List ℕ → Type 0
 IsName name = IsNameLong name × All (λ byte. byte < 256) name
 
--- a returned terminal is one of these, and not the end
+-- a returned terminal exists, and isn't the end
 abbrev pub IsEmittedWithin : ℕ → Emitted → Type 0
 IsEmittedWithin terminals (Terminal t) = (1 ≤ t.0) × (t.0 < terminals)
 IsEmittedWithin terminals _ = Unit {0}
 
--- a cut's length fits
+-- the length of a trailing context fits
 abbrev pub IsCutWithin : Width → Cut → Type 0
 IsCutWithin w Whole = Unit {0}
 IsCutWithin w (Head n) = (1 ≤ n) × (n < 2 ^ (8 * byte_len w))
@@ -59,12 +59,12 @@ pub record IsScanRule (w : Width) (terminals conditions : ℕ) (r : ScanRule) : 
   pub begin : (c : ℕ) → r.action.begin ≡ Some c → c < conditions
   pub cut : IsCutWithin w r.cut
 
--- the states where a condition begins are there
+-- the initial states of a condition exist
 pub record AreStartsWithin (states : ℕ) (c : Starts) : Type 0 where
   pub elsewhere : (s : ℕ) → c.elsewhere ≡ Some s → s < states
   pub at_line : (s : ℕ) → c.at_line ≡ Some s → s < states
 
--- rows laid over one another: one for each state, of this width, with 32 bits for each base and the count of slots
+-- a comb: one row for each state, of this width, with 32-bit bases and a 32-bit number of slots
 pub record AreRows {E : Type 0} (states columns : ℕ) (c : Comb E) : Type 0 where
   pub is_comb : IsComb c
   pub rows : length c.bases ≡ states
@@ -80,8 +80,8 @@ pub record IsRuleShort (r : TableRule) : Type 0 where
   pub body : r.body_length ≤ 255
   pub shape : IsShapeShort r.shape
 
--- Each count and each number is in its range, the first two terminals are the end and the one of no token, and the
--- parser's tables name only what is there.
+-- Each count and each number is in its range, the first two terminals are `$end` and `$undef`, and what the parser's
+-- tables refer to exists.
 pub record IsWithinRanges (w : Width) (counts : Counts) (s : TableSet) : Type 0 where
   pub terminals : 2 ≤ length s.terminals
   pub nonterminals : 1 ≤ s.nonterminals

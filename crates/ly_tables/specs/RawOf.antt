@@ -1,4 +1,4 @@
--- The numbers that a table set's file has.
+-- The numbers in the file of a table set.
 use Rattle.std.specs.Prelude.{ℕ, ◌+◌, List, [], ◌∷◌, map, Option, Some, None}
 use Rattle.std.specs.Int.{Width}
 use Rattle.ly_base.specs.Shape.{Shape, nil, place, node}
@@ -33,7 +33,7 @@ cut_length Whole = 0
 cut_length (Head n) = n
 cut_length (Tail n) = n
 
--- a number, or that which stands for none
+-- a number, or the one that represents none
 abbrev pub number_or_none : Width → Option ℕ → ℕ
 number_or_none w None = none_of w
 number_or_none w (Some n) = n
@@ -43,7 +43,7 @@ abbrev pub from_one : Option ℕ → ℕ
 from_one None = 0
 from_one (Some n) = n + 1
 
--- as it is, with 0 for none
+-- unchanged, with 0 for none
 abbrev pub number_or_zero : Option ℕ → ℕ
 number_or_zero None = 0
 number_or_zero (Some n) = n

@@ -1,4 +1,4 @@
--- The ranges of a table file, section by section: what its numbers may be.
+-- The ranges of a table file, section by section.
 use Rattle.std.specs.Prelude.{◌≡◌, ◌≢◌, ◌⊎◌, ℕ, ◌+◌, ◌<◌, ◌≤◌, [], length, All, AllPairs}
 use Rattle.std.specs.Prelude.{Some, slice_get, codes}
 use Rattle.std.specs.Int.{Width}
@@ -6,7 +6,7 @@ use Rattle.ly_tables.specs.Ranges.{Counts, IsNameLong}
 use Rattle.ly_tables.specs.RawSet.{RawComb, RawRule, RawScanRule, RawSet}
 use Rattle.ly_tables.specs.Spelling.{least_reduction, least_shift, none_of}
 
--- two or more terminals, the first two the end and that of no token; a nonterminal; and no more symbols than may be
+-- two or more terminals, the first two `$end` and `$undef`; a nonterminal; and no more symbols than allowed
 pub record AreSymbolsWithin (counts : Counts) (r : RawSet) : Type 0 where
   pub terminals : 2 ≤ length r.terminals
   pub nonterminals : 1 ≤ r.nonterminals
@@ -23,8 +23,8 @@ IsToken r t = (1 ≤ t) × (t < length r.terminals)
 abbrev pub IsNoneOr : Width → ℕ → ℕ → Type 0
 IsNoneOr w bound n = (n ≡ none_of w) ⊎ (n < bound)
 
--- A rule of the scanner returns nothing, a terminal, or that of the first byte; and leaves a whole match, its head or
--- what stands before its tail.
+-- A rule of the scanner returns nothing, a terminal, or that of the first byte. It has no trailing context, or one
+-- whose head or tail has a fixed length.
 pub record IsScanRuleWithin (w : Width) (r : RawSet) (x : RawScanRule) : Type 0 where
   pub kind : x.kind ≤ 2
   pub terminal : x.kind ≡ 1 → IsToken r x.terminal
@@ -34,11 +34,11 @@ pub record IsScanRuleWithin (w : Width) (r : RawSet) (x : RawScanRule) : Type 0 
   pub whole : x.cut ≡ 0 → x.len ≡ 0
   pub head : x.cut ≡ 1 → 1 ≤ x.len
 
--- not too many, each of them within
+-- not too many, each of them within its ranges
 abbrev pub AreScanRulesWithin : Width → Counts → RawSet → Type 0
 AreScanRulesWithin w counts r = (length r.scan_rules ≤ counts.rules) × All (IsScanRuleWithin w r) r.scan_rules
 
--- one condition or more, whose states are there
+-- one condition or more, whose states exist
 pub record AreConditionsWithin (w : Width) (counts : Counts) (r : RawSet) : Type 0 where
   pub some : 1 ≤ length r.conditions
   pub count : length r.conditions ≤ counts.conditions
@@ -50,23 +50,23 @@ pub record AreClassesWithin (r : RawSet) : Type 0 where
   pub count : r.class_count ≤ 256
   pub classes : All (λ c. c < r.class_count) r.classes
 
--- the rules of scanner states, counted from 1, are there
+-- the rules of scanner states, counted from 1, exist
 abbrev pub AreAcceptedWithin : Counts → RawSet → Type 0
 AreAcceptedWithin counts r = (length r.accepted ≤ counts.states) × All (λ p. p ≤ length r.scan_rules) r.accepted
 
--- a slot lies in its row, in some column, and its entry may stand in that column; or it is free, and 0
+-- a slot is within its row, in some column, with an entry that is allowed there; or it is free, and 0
 abbrev pub IsSlotWithin : Width → ℕ → (ℕ → ℕ → Type 0) → RawComb → ℕ → ℕ → ℕ → Type 0
 IsSlotWithin w columns legal c slot entry row = ((row ≡ none_of w) × (entry ≡ 0))
     ⊎ ((base column : ℕ) × (slice_get c.bases row ≡ Some base) × (column < columns) × (slot ≡ base + column)
     × legal column entry)
 
--- rows laid over one another, so wide, whose entries are legal for their columns
+-- a comb of this width, whose entries are legal for their columns
 pub record AreRowsWithin (w : Width) (columns : ℕ) (legal : ℕ → ℕ → Type 0) (c : RawComb) : Type 0 where
   pub bases : All (λ base. base ≤ length c.entries) c.bases
   pub slots : (slot entry row : ℕ) → slice_get c.entries slot ≡ Some entry → slice_get c.rows slot ≡ Some row
       → IsSlotWithin w columns legal c slot entry row
 
--- what a rule makes speaks of places of its body, of each once, and only a constructor has a name
+-- the tree of a rule uses places of its body, each at most once, and only a constructor has a name
 abbrev pub IsShapeWithin : RawRule → Type 0
 IsShapeWithin x = ((x.kind ≡ 0) × (x.body_length ≡ 0) × (x.name ≡ []) × (x.places ≡ []))
     ⊎ ((x.kind ≡ 1) × (x.name ≡ []) × (length x.places ≡ 1)) ⊎ ((x.kind ≡ 2) × IsNameLong x.name)
@@ -83,19 +83,19 @@ pub record AreRulesWithin (counts : Counts) (r : RawSet) : Type 0 where
   pub count : length r.rules ≤ counts.rules
   pub rules : All (IsRuleWithin r) r.rules
 
--- one state or more; default rules, with 0 for none, are there
+-- one state or more; default rules, with 0 for none, exist
 pub record AreDefaultsWithin (counts : Counts) (r : RawSet) : Type 0 where
   pub some : 1 ≤ length r.defaults
   pub count : length r.defaults ≤ counts.states
   pub defaults : All (λ p. p ≤ length r.rules) r.defaults
 
--- An action: an error; accepting, before the end alone; a shift, never there; or a reduction.
+-- An action: an error; accepting, only before the end; a shift, never of the end; or a reduction.
 abbrev pub IsActionWithin : Width → RawSet → ℕ → ℕ → Type 0
 IsActionWithin w r column n = (n ≡ 0) ⊎ ((n ≡ 1) × (column ≡ 0))
     ⊎ ((s : ℕ) × (n ≡ least_shift w + s) × (s < length r.defaults) × (1 ≤ column))
     ⊎ ((p : ℕ) × (n ≡ least_reduction w + p) × (1 ≤ p) × (p ≤ length r.rules))
 
--- the sections behind the header, in their order
+-- the sections after the header, in their order
 pub data Section : Type 0 where
   symbol_section : Section
   literal_section : Section

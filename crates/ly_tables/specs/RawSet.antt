@@ -1,12 +1,12 @@
--- A table file as numbers, before it is known whether they mean anything: what stands in the fields of its sections,
--- and the bytes of these. Counts and the lengths of texts alone say where a field stands.
+-- A table file as numbers, before it is known whether they are valid: the fields of its sections, and their bytes.
+-- Counts and the lengths of strings alone determine the position of a field.
 use Rattle.std.specs.Prelude.{◌≡◌, ℕ, ◌<◌, ◌*◌, ◌^◌, List, ◌∷◌, ◌++◌, All, length, codes}
 use Rattle.std.specs.List.{flat_map}
 use Rattle.std.specs.Int.{Width, w16, w32, byte_len, to_be_bytes}
 use Rattle.ly_tables.specs.Spelling.{number, string}
 
--- A rule of the scanner: the kind of what it returns and its terminal, its condition, the kind of its cut and its
--- length.
+-- A rule of the scanner: the kind of its return value and its terminal, its condition, the kind and the length of its
+-- trailing context.
 pub record RawScanRule : Type 0 where
   pub kind : ℕ
   pub terminal : ℕ
@@ -14,18 +14,18 @@ pub record RawScanRule : Type 0 where
   pub cut : ℕ
   pub len : ℕ
 
--- The states where a condition begins.
+-- The initial states of a condition.
 pub record RawStarts : Type 0 where
   pub elsewhere : ℕ
   pub at_line : ℕ
 
--- Rows laid over one another: their bases, and the entries and the rows of the slots.
+-- A comb: the bases of its rows, and the entries and the rows of its slots.
 pub record RawComb : Type 0 where
   pub bases : List ℕ
   pub entries : List ℕ
   pub rows : List ℕ
 
--- A rule of the parser: its left side, how long its body is, the kind of what it makes, a name, and places.
+-- A rule of the parser: its left side, the length of its body, the kind of its tree, a name, and places.
 pub record RawRule : Type 0 where
   pub left : ℕ
   pub body_length : ℕ
@@ -33,7 +33,7 @@ pub record RawRule : Type 0 where
   pub name : List ℕ
   pub places : List ℕ
 
--- What stands in the sections, from the second on.
+-- The content of the sections, from the second on.
 pub record RawSet : Type 0 where
   pub nonterminals : ℕ
   pub terminals : List (List ℕ)
@@ -79,7 +79,7 @@ raw_parser_sections w r = number w (length r.rules) ++ flat_map (raw_rule w) r.r
     ++ raw_comb w r.actions
     ++ raw_comb w r.gotos
 
--- the file of these numbers
+-- the file with these numbers
 abbrev pub raw_spelling : Width → ℕ → RawSet → List ℕ
 raw_spelling w version r = codes "LYTB" ++ to_be_bytes w16 version
     ++ raw_symbol_sections w r ++ raw_scanner_sections w r ++ raw_parser_sections w r
@@ -91,7 +91,7 @@ Fits w n = n < 2 ^ (8 * byte_len w)
 abbrev pub IsByte : ℕ → Type 0
 IsByte n = n < 256
 
--- a text: its bytes, and a length of two bytes
+-- a string: its bytes, and a length of two bytes
 abbrev pub IsString : List ℕ → Type 0
 IsString bytes = (length bytes < 65536) × All IsByte bytes
 
@@ -106,7 +106,7 @@ pub record StartsFit (w : Width) (c : RawStarts) : Type 0 where
   pub elsewhere : Fits w c.elsewhere
   pub at_line : Fits w c.at_line
 
--- so many bases, and a row for each entry
+-- this many bases, and a row for each entry
 pub record CombFits (w : Width) (states : ℕ) (c : RawComb) : Type 0 where
   pub count : length c.bases ≡ states
   pub bases : All (Fits w32) c.bases
@@ -123,7 +123,7 @@ pub record RuleFits (w : Width) (r : RawRule) : Type 0 where
   pub place_count : IsByte (length r.places)
   pub places : All IsByte r.places
 
--- Each number fits its field, and lists are as long as the file says: so the file is read back as these numbers.
+-- Each number fits its field, and lists have the lengths in the file. So the file is read back as these numbers.
 pub record IsRawSet (w : Width) (r : RawSet) : Type 0 where
   pub terminal_count : Fits w (length r.terminals)
   pub nonterminals : Fits w r.nonterminals

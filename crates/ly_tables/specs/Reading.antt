@@ -1,4 +1,4 @@
--- What bytes are refused for that are no table file, in this order.
+-- The reasons to reject bytes as a table file, in their order.
 use Rattle.std.specs.Prelude.{◌≡◌, ◌≢◌, ◌⊎◌, ℕ, ◌<◌, List, [], ◌++◌, length, take, codes}
 use Rattle.std.specs.Int.{w16, to_be_bytes}
 use Rattle.ly_base.specs.declared.version.Version.{Version}
@@ -13,20 +13,20 @@ use Rattle.ly_tables.specs.TableText.{TableText}
 abbrev pub raw_file : Version → RawSet → List ℕ
 raw_file v r = raw_spelling (width_of v) (number_of v) r
 
--- the first four bytes, or the fewer that there are, don't begin `LYTB`
+-- the first four bytes, or all bytes of a shorter file, aren't a prefix of `LYTB`
 abbrev pub HasOtherMagic : List ℕ → Type 0
 HasOtherMagic bytes = take 4 bytes ≢ take (length bytes) (codes "LYTB")
 
--- behind them stands what is the number of no version
+-- the bytes after them are the number of no version
 abbrev pub HasOtherVersion : List ℕ → Type 0
 HasOtherVersion bytes = (other : ℕ) × (rest : List ℕ) × (other < 65536) × ((v : Version) → other ≢ number_of v)
     × (bytes ≡ codes "LYTB" ++ to_be_bytes w16 other ++ rest)
 
--- the version is missing: behind the first four bytes, or the fewer that there are, stands at most one
+-- the version is missing: at most one byte follows the first four bytes, or the file is shorter
 abbrev pub LacksVersion : List ℕ → Type 0
 LacksVersion bytes = (length bytes < 6) × (take 4 bytes ≡ take (length bytes) (codes "LYTB"))
 
--- the bytes are a proper beginning of a file of some numbers, in some version
+-- the bytes are a proper prefix of a file of some numbers, in some version
 abbrev pub IsBegun : List ℕ → Type 0
 IsBegun bytes = (v : Version) × (r : RawSet) × (missing : List ℕ) × IsRawSet (width_of v) r × (missing ≢ [])
     × (bytes ++ missing ≡ raw_file v r)
@@ -35,12 +35,12 @@ IsBegun bytes = (v : Version) × (r : RawSet) × (missing : List ℕ) × IsRawSe
 abbrev pub IsTruncated : List ℕ → Type 0
 IsTruncated bytes = LacksVersion bytes ⊎ IsBegun bytes
 
--- bytes are left behind a file of some numbers
+-- there are bytes after a file of some numbers
 abbrev pub HasTrailing : List ℕ → Type 0
 HasTrailing bytes = (v : Version) × (r : RawSet) × (left : List ℕ) × IsRawSet (width_of v) r × (left ≢ [])
     × (bytes ≡ raw_file v r ++ left)
 
--- the numbers of the section of this number, which is the first, are out of its ranges
+-- the section with this number is the first with numbers out of its ranges
 abbrev pub IsOutOfRange : ℕ → List ℕ → Type 0
 IsOutOfRange number bytes = (v : Version) × (r : RawSet) × (section : Section) × IsRawSet (width_of v) r
     × (bytes ≡ raw_file v r) × IsFirstOut (width_of v) (counts_of v) r section × (number ≡ section_number section)

@@ -1,4 +1,4 @@
--- What a driver needs to know of two files: a table set.
+-- Everything that a driver needs of two files: a table set.
 use Rattle.std.specs.Prelude.{ℕ, List, Option, length}
 use Rattle.ly_base.specs.declared.cut.Cut.{Cut}
 use Rattle.ly_base.specs.declared.scan_action.ScanAction.{ScanAction}
@@ -8,12 +8,12 @@ use Rattle.ly_pack.specs.Rows.{Comb, comb_entry, grid_of}
 use Rattle.ly_pack.specs.Values.{actions_from, gotos_from}
 use Rattle.ly_pack.specs.declared.action.TableAction as code
 
--- A rule of the scanner: what is done where it matches, and what is cut off its matches.
+-- A rule of the scanner: its effect when it matches, and its trailing context.
 pub record ScanRule : Type 0 where
   pub action : ScanAction
   pub cut : Cut
 
--- The states where a condition begins: at the start of a line, and elsewhere.
+-- The initial states of a condition: at the start of a line, and elsewhere.
 pub record Starts : Type 0 where
   pub elsewhere : Option ℕ
   pub at_line : Option ℕ

@@ -1,4 +1,4 @@
--- What contracts see of table sets.
+-- Table sets, as contracts see them.
 use Rattle.std.specs.Prelude.{map}
 use Rattle.std.specs.Option.{option_map}
 use Rattle.ly_base.specs.declared.version.Version.TheVariants.{V2}
@@ -16,7 +16,7 @@ scan_rule_from r = record { action = r.action; cut = r.cut }
 abbrev pub starts_from : start.Starts → Starts
 starts_from c = record { elsewhere = option_map (λ s. s.0) c.elsewhere; at_line = option_map (λ s. s.0) c.at_line }
 
--- the set of these parts
+-- the set with these parts
 abbrev pub set_of : parts.TableParts → TableSet
 set_of p = record {
   terminals = map (λ name. name.items) p.terminals.items;
@@ -34,6 +34,6 @@ set_of p = record {
   gotos = p.gotos;
 }
 
--- what a set's type keeps: it is within the ranges of version 2, and each run of its parser's tables ends
+-- the guarantee of a set's type: it is within the ranges of version 2, and each run of its parser's tables ends
 abbrev pub IsWithinAndSteady : TableSet → Type 0
 IsWithinAndSteady s = IsWithinVersion V2 s × IsSteady (machine_of s)

@@ -4,13 +4,13 @@ ghost use Rattle.ly_tables.specs.Ranges.{counts_of};
 
 use ly_base::Version;
 
-/// The greatest count of conditions.
+/// The maximum number of conditions.
 pub(crate) const MOST_CONDITIONS: usize = 255;
 
-/// The greatest count of classes.
+/// The maximum number of classes.
 pub(crate) const MOST_CLASSES: usize = 256;
 
-/// The greatest count of symbols of a version, `$accept` among them.
+/// The maximum number of symbols in a version, with `$accept`.
 pub(crate) fn most_symbols(version: Version) -> usize
     ensures { result ≡ (counts_of version).symbols }
 {
@@ -20,7 +20,7 @@ pub(crate) fn most_symbols(version: Version) -> usize
     }
 }
 
-/// The greatest count of rules of a version.
+/// The maximum number of rules in a version.
 pub(crate) fn most_rules(version: Version) -> usize
     ensures { result ≡ (counts_of version).rules }
 {
@@ -30,7 +30,7 @@ pub(crate) fn most_rules(version: Version) -> usize
     }
 }
 
-/// The greatest count of states of a version.
+/// The maximum number of states in a version.
 pub(crate) fn most_states(version: Version) -> usize
     ensures { result ≡ (counts_of version).states }
 {
@@ -40,14 +40,14 @@ pub(crate) fn most_states(version: Version) -> usize
     }
 }
 
-/// Whether a count is 1 or more, and not too great.
+/// Whether a count is at least 1 and at most `most`.
 pub(crate) fn is_count_within(count: usize, most: usize) -> bool
     ensures { IsTrue result ↔ (1 ≤ count) × (count ≤ most) }
 {
     1 <= count && count <= most
 }
 
-/// Whether each number is at most as great as a bound.
+/// Whether each number is at most a bound.
 pub(crate) fn are_at_most(numbers: &[u32], bound: usize) -> bool
     ensures { IsTrue result ↔ All (λ number. number ≤ bound) numbers.now }
 {

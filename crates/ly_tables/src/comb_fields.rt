@@ -1,4 +1,4 @@
-//! Rows laid over one another, in a table file.
+//! Combs in a table file.
 ghost use Rattle.std.specs.Prelude.{◌≡◌, ◌++◌, IfOk, IfErr};
 ghost use Rattle.ly_tables.specs.Private.Parts.{IsCombText, IsBeginning, Stops};
 ghost use Rattle.ly_tables.specs.Private.RawValues.{comb_raw};
@@ -13,7 +13,7 @@ use crate::raw_tables::RawComb;
 use ly_base::Version;
 use std::alloc::Global;
 
-/// The rows of so many states, laid over one another, and what is left behind them.
+/// The rows of this many states as a comb, and the bytes after it.
 pub(crate) fn read_comb(
     alloc: Global,
     version: Version,

@@ -1,4 +1,4 @@
-//! Rows laid over one another.
+//! Combs.
 ghost use Rattle.std.specs.Prelude.{◌≡◌, ◌++◌, ◌<◌, ◌^◌, ℕ, All, OnOk, length, map};
 ghost use Rattle.std.specs.List.{flat_map};
 ghost use Rattle.std.specs.Option.{option_map};
@@ -15,15 +15,15 @@ use ly_base::{RuleNo, StateNo, Version};
 use ly_pack::{Comb, CombSlot, TableAction};
 use std::alloc::AllocError;
 
-/// An entry of rows, which a number of each version stands for.
+/// An entry of rows, which a number of each version represents.
 pub(crate) trait CombEntry: Copy {
     /// Its number in a version.
     ghost code: { AnyVersion → Self → ℕ };
 
-    /// What a number of a version means that is one's.
+    /// The entry that a number of a version represents.
     ghost meant: { AnyVersion → ℕ → Self };
 
-    /// The entry of a number of a version.
+    /// The entry with this number in a version.
     fn of(version: Version, number: u32) -> Self
         ensures { result ≡ meant version number };
 
@@ -80,7 +80,7 @@ impl CombEntry for TableAction {
     }
 }
 
-/// Rows laid over one another: their bases, how many slots there are, the entries of these, and their rows.
+/// A comb: the bases of its rows, the number of slots, their entries, and their rows.
 pub(crate) fn push_comb<E: CombEntry>(
     out: &mut Vec<u8>,
     version: Version,
@@ -97,13 +97,13 @@ pub(crate) fn push_comb<E: CombEntry>(
     push_checks(out, version, slots)
 }
 
-/// The numbering of numbers themselves.
+/// Numbers as they are.
 struct Itself;
 
-/// That of slots by their entries.
+/// Slots, numbered by their entries.
 struct Entries;
 
-/// That of slots by their rows.
+/// Slots, numbered by their rows.
 struct Rows;
 
 impl Numbering<u32> for Itself {
@@ -149,7 +149,7 @@ fn push_bases(out: &mut Vec<u8>, bases: &[u32]) -> Result<(), AllocError>
     push_numbers::<u32, Itself>(out, Version::V2, bases)
 }
 
-/// The entries of slots, 0 where one is free.
+/// The entries of slots; 0 for a free one.
 fn push_entries<E: CombEntry>(
     out: &mut Vec<u8>,
     version: Version,

@@ -1,4 +1,4 @@
-//! From the numbers of a table file to the parts of a table set.
+//! Converts the numbers of a table file to the parts of a table set.
 ghost use Rattle.std.specs.Prelude.{◌≡◌, IfOk};
 ghost use Rattle.ly_tables.specs.Private.Meaning.{set_meant};
 ghost use Rattle.ly_tables.specs.Private.Lists.{AreListsMeant};
@@ -18,7 +18,7 @@ use ly_base::{OutOfMemory, RuleNo, Sym, Version};
 use ly_scan::Starts;
 use std::alloc::{AllocError, Global};
 
-/// The parts that numbers mean which are within their ranges. It fails where memory runs out.
+/// The parts that numbers within their ranges represent. It fails if an allocation fails.
 pub(crate) fn table_parts(
     alloc: Global,
     version: Version,
@@ -32,7 +32,7 @@ pub(crate) fn table_parts(
     Ok(parts_meant(alloc, version, raw)?)
 }
 
-/// The parts that numbers mean.
+/// The parts that numbers represent.
 fn parts_meant(alloc: Global, version: Version, raw: RawTables) -> Result<TableParts, AllocError>
     requires fits { AreFileNumbers version (raw_from raw) }
     requires within { AreAllWithin version (raw_from raw) }
@@ -59,14 +59,14 @@ fn parts_meant(alloc: Global, version: Version, raw: RawTables) -> Result<TableP
     })
 }
 
-/// The parts of a table set that are lists of numbers, or of records of numbers.
+/// The parts of a table set that are lists of numbers or of records of numbers.
 #[derive(Drop)]
 struct Lists {
     /// The terminal of each byte as a literal.
     literals: Vec<Sym>,
     /// The rules of the scanner.
     scan_rules: Vec<ScanRule>,
-    /// Where each condition begins.
+    /// The initial states of each condition.
     conditions: Vec<Starts>,
     /// The rules of scanner states.
     accepted: Vec<Option<RuleNo>>,
@@ -74,7 +74,7 @@ struct Lists {
     defaults: Vec<Option<RuleNo>>,
 }
 
-/// The lists that numbers mean.
+/// The lists that numbers represent.
 fn lists_meant(alloc: Global, version: Version, raw: &RawTables) -> Result<Lists, AllocError>
     ensures { IfOk result (AreListsMeant (width_of version) (raw_from raw.now)) }
 {

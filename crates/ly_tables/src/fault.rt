@@ -5,10 +5,10 @@ use ly_base::OutOfMemory;
 use std::alloc::{AllocError, AllocFailed};
 use thiserror::Error;
 
-/// Why bytes are no table file that can be driven. The faults are looked for in the order in which they stand here.
+/// Why bytes are no valid table file. Errors are checked in the order of the variants.
 #[derive(Clone, Copy, Debug, PartialEq, Eq, Error)]
 pub enum TableFault {
-    /// The first four bytes, or the fewer that there are, don't begin `LYTB`.
+    /// The first four bytes, or all bytes of a shorter file, aren't a prefix of `LYTB`.
     #[error("no table file")]
     BadMagic,
     /// The version is neither 1 nor 2.
@@ -17,19 +17,19 @@ pub enum TableFault {
     /// A field is missing.
     #[error("the table file is cut")]
     Truncated,
-    /// Bytes are left behind the last field.
+    /// There are bytes after the last field.
     #[error("bytes are left behind the tables")]
     Trailing,
-    /// A number is out of its range.
+    /// A number is out of range.
     #[error("section {section} is out of range")]
     OutOfRange {
-        /// The first section of which one is.
+        /// The number of the first section with one.
         section: u8,
     },
-    /// The parser's tables aren't steady: it could run forever.
+    /// The parser's tables aren't steady: the parser could run forever.
     #[error("the tables could run forever")]
     Endless,
-    /// A growth was refused.
+    /// Out of memory.
     #[error("out of memory")]
     OutOfMemory,
 }
@@ -37,7 +37,7 @@ pub enum TableFault {
 impl TableFault {
     ghost use Rattle.ly_tables.specs.FaultNames.{table_name, table_number};
 
-    /// The fault's number; want of memory has none.
+    /// The error's number; none for `OutOfMemory`.
     pub fn number(&self) -> Option<u8>
         ensures { result ≡ table_number self.now }
     {
@@ -52,7 +52,7 @@ impl TableFault {
         }
     }
 
-    /// The fault's name.
+    /// The error's name.
     pub fn name(&self) -> &'static str
         ensures { result.now ≡ table_name self.now }
     {

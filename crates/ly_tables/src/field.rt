@@ -1,4 +1,4 @@
-//! Fields of a table file, of which so many stand one behind another.
+//! Fields of a table file, and lists of them.
 ghost use Rattle.std.specs.Prelude.{◌≡◌, ◌++◌, ℕ, List, All, IfOk, IfErr, false, length};
 ghost use Rattle.std.specs.List.{flat_map};
 ghost use Rattle.std.specs.Int.{Width};
@@ -14,26 +14,26 @@ use std::alloc::Global;
 
 /// A kind of field.
 pub(crate) trait Field {
-    /// What stands in one, as it is kept.
+    /// The value of a field in memory.
     type Value: Drop;
 
-    /// The bytes of a value, with numbers of a width.
+    /// The bytes of a value, with numbers of this width.
     ghost spelled: { Width → Self.Value → List ℕ };
 
-    /// Which values fit.
+    /// Whether a value can be written.
     ghost fits: { Width → Self.Value → Type 0 };
 
-    /// Which bytes are those of a field.
+    /// Whether bytes are those of a field.
     ghost part: { Width → List ℕ → Type 0 };
 
-    /// Whether the bytes of so many fields may be there, as far as that is known before they are read.
+    /// Whether there may be enough bytes for this many fields, as far as this is known before they are read.
     fn may_be_there(version: Version, left: &[u8], count: usize) -> bool
         ensures { result ≡ false → IsBeginning (Repeated (part (width_of version)) count) left.now }
     {
         true
     }
 
-    /// The field that comes first, in a version, and what is left behind it.
+    /// Reads the field that comes first, in a version. Returns it and the bytes after it.
     fn read(
         alloc: Global,
         version: Version,
@@ -43,14 +43,14 @@ pub(crate) trait Field {
             × (left.now ≡ spelled (width_of version) r.0 ++ r.1.now)) }
         ensures truncated { IfErr result (Stops (IsBeginning (part (width_of version)) left.now)) };
 
-    /// What is spelled is a part.
+    /// A written value is a field.
     ghost is_part: { (w : Width) (v : Self.Value) → fits w v → part w (spelled w v) };
 
-    /// There is a part.
+    /// There is a field.
     ghost some_part: { (w : Width) → (bytes : List ℕ) × part w bytes };
 }
 
-/// So many fields, and what is left behind them.
+/// This many fields, and the bytes after them.
 pub(crate) fn list<F: Field>(
     alloc: Global,
     version: Version,
@@ -75,7 +75,7 @@ pub(crate) fn list<F: Field>(
     Ok((values, behind))
 }
 
-/// How many fields there are, in a number of the version, and these; and what is left behind them.
+/// Fields with their number before them, in a number of the version, and the bytes after them.
 pub(crate) fn counted<F: Field>(
     alloc: Global,
     version: Version,

@@ -4,13 +4,13 @@ ghost use Rattle.ly_tables.specs.declared.format_fault.FormatFault.TheVariants a
 use std::alloc::AllocError;
 use thiserror::Error;
 
-/// Why a table set is not written.
+/// Why a table set can't be written.
 #[derive(Clone, Copy, Debug, PartialEq, Eq, Error)]
 pub enum FormatFault {
-    /// A count or the length of a cut is beyond the version.
+    /// A count or the length of a trailing context exceeds the version.
     #[error("the tables are too large for this version of the table file")]
     TooLargeForVersion,
-    /// A growth was refused.
+    /// Out of memory.
     #[error("out of memory")]
     OutOfMemory,
 }
@@ -18,7 +18,7 @@ pub enum FormatFault {
 impl FormatFault {
     ghost use Rattle.ly_tables.specs.FaultNames.{format_name, format_number};
 
-    /// The fault's number; want of memory has none.
+    /// The error's number; none for `OutOfMemory`.
     pub fn number(&self) -> Option<u8>
         ensures { result ≡ format_number self.now }
     {
@@ -28,7 +28,7 @@ impl FormatFault {
         }
     }
 
-    /// The fault's name.
+    /// The error's name.
     pub fn name(&self) -> &'static str
         ensures { result.now ≡ format_name self.now }
     {

@@ -1,17 +1,26 @@
-//! Table sets, and the bytes of a table file.
+//! Table sets, and reading and writing table files.
 //!
-//! A `TableSet` is all that a driver needs to know of a lex file and a yacc file. Its type keeps its numbers within
-//! their ranges, and its parser's tables steady. It lends its parts, and gives them away. `write_tables` spells it in a
-//! version, and `read_tables` reads it back, and says the version (`TableText`); a set has one spelling in a version, a
-//! file has one set and one version, and only want of memory refuses a set's file.
+//! A `TableSet` is everything that a driver needs of a lex file and a yacc file. Its type guarantees that its numbers
+//! are within their ranges and its parser's tables steady. `write_tables` writes it in a version of the format.
+//! `read_tables` reads it back and returns the version (`TableText`). A set has one spelling in each version, a file
+//! has one set and one version, and only running out of memory makes reading a set's file fail.
 //!
-//! The two versions of the file differ in how wide its numbers are (`width_of`), and so in the greatest counts
-//! (`counts_of`). What either is stands in `numbers`, `front` and `bounds`; all that is built on these is passed the
-//! version.
+//! The two versions of the format differ in the width of their numbers (`width_of`), and so in the greatest counts
+//! (`counts_of`). The modules `numbers`, `front` and `bounds` implement both; everything else takes the version as a
+//! parameter.
 //!
-//! A file is read in four steps: its fields as numbers, by counts alone (`raw_reading`); whether these are within the
-//! ranges of their sections (`sections`); what they mean (`conversion`); and whether the tables are steady
-//! (`steadiness`).
+//! A file is read in four steps: its fields as numbers, by counts only (`raw_reading`); checking these against the
+//! ranges of their sections (`sections`); converting them (`conversion`); and checking that the tables are steady
+//! (`steadiness`). So a missing field is distinguished from a number out of range, and errors have the order of the
+//! definitions. A file that ends within its first six bytes lacks its version, whatever the bytes of the version that
+//! it has.
+//!
+//! - `RawTables` has the same thirteen parts as `TableParts`, but as numbers. They are two types, so that no lemma
+//!   needs a parameter for the kind of numbers.
+//! - The numbers of slots are written in blocks of 1,024, because reserving memory for each number takes longer than
+//!   writing it.
+//! - Whether a file's tables are steady is checked on borrowed rows, because a machine's value doesn't include the
+//!   bases of its rows.
 #![tactic(auto)]
 
 mod bounds;

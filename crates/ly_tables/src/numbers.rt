@@ -1,4 +1,4 @@
-//! The numbers of a version, and numbers at the end of bytes, their greatest byte first.
+//! Writes the numbers of a version, and other numbers, at the end of bytes, most significant byte first.
 ghost use Rattle.std.specs.Prelude.{◌≡◌, ◌++◌, ◌∷◌, [], ◌<◌, ◌≤◌, ◌*◌, ℕ, All, OnOk, drop, length};
 ghost use Rattle.std.specs.List.{flat_map};
 ghost use Rattle.std.specs.Int.{w16, w32, byte_len, to_be_bytes};
@@ -12,15 +12,15 @@ use byteorder::{BigEndian, ByteOrder};
 use ly_base::Version;
 use std::alloc::AllocError;
 
-/// How many items' numbers are put in one step: few enough that their bytes stay in the nearest cache.
+/// The number of items whose numbers are written in one step: few enough that their bytes fit in the L1 cache.
 const BLOCK: usize = 1024;
 
-/// Which number is put for an item.
+/// The number written for an item.
 pub(crate) trait Numbering<T> {
-    /// Which items have one in a version.
+    /// Which items have a number in a version.
     ghost has: { AnyVersion → T → Type 0 };
 
-    /// What it is.
+    /// The number.
     ghost code: { AnyVersion → T → ℕ };
 
     /// The number of an item in a version.
@@ -30,7 +30,7 @@ pub(crate) trait Numbering<T> {
         ensures fits { Fits (width_of version) result };
 }
 
-/// The number that a file has of its version.
+/// The number of a version in a file.
 pub(crate) fn version_number(version: Version) -> u16
     ensures { result ≡ number_of version }
 {
@@ -40,7 +40,7 @@ pub(crate) fn version_number(version: Version) -> u16
     }
 }
 
-/// How many bytes a number of a version has.
+/// The size of a number of a version in bytes.
 pub(crate) fn number_size(version: Version) -> usize
     ensures size { result ≡ byte_len (width_of version) }
     ensures some { 1 ≤ result }
@@ -51,7 +51,7 @@ pub(crate) fn number_size(version: Version) -> usize
     }
 }
 
-/// The greatest number of a version, which stands for none.
+/// The greatest number of a version, which represents none.
 pub(crate) fn none(version: Version) -> u32
     ensures { result ≡ none_of (width_of version) }
 {
@@ -61,7 +61,7 @@ pub(crate) fn none(version: Version) -> u32
     }
 }
 
-/// What a shift's number has besides that of its state.
+/// The number that is added to the state of a shift.
 pub(crate) fn shift(version: Version) -> u32
     ensures { result ≡ least_shift (width_of version) }
 {
@@ -71,7 +71,7 @@ pub(crate) fn shift(version: Version) -> u32
     }
 }
 
-/// What a reduction's number has besides that of its rule.
+/// The number that is added to the rule of a reduction.
 pub(crate) fn reduction(version: Version) -> u32
     ensures { result ≡ least_reduction (width_of version) }
 {
@@ -81,7 +81,7 @@ pub(crate) fn reduction(version: Version) -> u32
     }
 }
 
-/// Puts a number of a version at the end.
+/// Appends a number of a version.
 pub(crate) fn push_number(
     out: &mut Vec<u8>,
     version: Version,
@@ -96,7 +96,7 @@ pub(crate) fn push_number(
     }
 }
 
-/// Puts a count, in a number of a version, at the end.
+/// Appends a count, as a number of a version.
 pub(crate) fn push_count(
     out: &mut Vec<u8>,
     version: Version,
@@ -108,7 +108,7 @@ pub(crate) fn push_count(
     push_number(out, version, count as u32)
 }
 
-/// Puts a number of two bytes at the end.
+/// Appends a number of two bytes.
 pub(crate) fn push_short(out: &mut Vec<u8>, number: u16) -> Result<(), AllocError>
     ensures { OnOk result (out.new.items ≡ out.old.items ++ to_be_bytes w16 number) }
 {
@@ -117,7 +117,7 @@ pub(crate) fn push_short(out: &mut Vec<u8>, number: u16) -> Result<(), AllocErro
     out.extend_from_slice(&bytes)
 }
 
-/// Puts a number of four bytes at the end.
+/// Appends a number of four bytes.
 pub(crate) fn push_wide(out: &mut Vec<u8>, number: u32) -> Result<(), AllocError>
     ensures { OnOk result (out.new.items ≡ out.old.items ++ to_be_bytes w32 number) }
 {
@@ -126,8 +126,7 @@ pub(crate) fn push_wide(out: &mut Vec<u8>, number: u32) -> Result<(), AllocError
     out.extend_from_slice(&bytes)
 }
 
-/// Puts the number of each item at the end, a block of them at a time: room that is made for each alone costs more than
-/// its bytes.
+/// Appends the number of each item, in blocks, because reserving memory for each number takes longer than writing it.
 pub(crate) fn push_numbers<T, N: Numbering<T>>(
     out: &mut Vec<u8>,
     version: Version,
@@ -146,7 +145,7 @@ pub(crate) fn push_numbers<T, N: Numbering<T>>(
     Ok(())
 }
 
-/// Puts the numbers of a block at the end.
+/// Appends the numbers of a block.
 fn push_block<T, N: Numbering<T>>(
     out: &mut Vec<u8>,
     version: Version,
@@ -163,7 +162,7 @@ fn push_block<T, N: Numbering<T>>(
     Ok(())
 }
 
-/// Writes the numbers of a block over bytes, which have room for exactly these.
+/// Writes the numbers of a block into bytes of exactly their size.
 fn write_block<T, N: Numbering<T>>(bytes: &mut [u8], version: Version, items: &[T])
     requires room { length bytes.old ≡ byte_len (width_of version) * length items.now }
     requires each { All (N.has version) items.now }
@@ -175,7 +174,7 @@ fn write_block<T, N: Numbering<T>>(bytes: &mut [u8], version: Version, items: &[
     }
 }
 
-/// Writes a number of a version over the first bytes.
+/// Writes a number of a version into the first bytes.
 fn write_number(bytes: &mut [u8], version: Version, number: u32)
     requires room { byte_len (width_of version) ≤ length bytes.old }
     requires fits { Fits (width_of version) number }
@@ -187,7 +186,7 @@ fn write_number(bytes: &mut [u8], version: Version, number: u32)
     }
 }
 
-/// Puts a number of a version, or what stands for none, at the end.
+/// Appends a number of a version, or the one that represents none.
 pub(crate) fn push_or_none(
     out: &mut Vec<u8>,
     version: Version,
@@ -202,7 +201,7 @@ pub(crate) fn push_or_none(
     }
 }
 
-/// Puts a text at the end: its length, in two bytes, and its bytes.
+/// Appends a string: its length, in two bytes, and its bytes.
 pub(crate) fn push_string(out: &mut Vec<u8>, bytes: &[u8]) -> Result<(), AllocError>
     requires { length bytes.now < 65536 }
     ensures { OnOk result (out.new.items ≡ out.old.items ++ string bytes.now) }

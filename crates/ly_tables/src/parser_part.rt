@@ -31,7 +31,7 @@ pub(crate) fn push_parser(
     push_comb(out, version, &set.parts.gotos)
 }
 
-/// The rules of the parser, and before them how many they are.
+/// The number of parser rules, and the rules.
 fn push_rules(out: &mut Vec<u8>, version: Version, rules: &[TableRule]) -> Result<(), AllocError>
     requires count { Fits (width_of version) (length rules.now) }
     requires short { All (IsRuleWritten (width_of version)) (map rule_from rules.now) }
@@ -56,7 +56,7 @@ fn push_rule(out: &mut Vec<u8>, version: Version, table_rule: &TableRule) -> Res
     push_tree(out, &table_rule.tree)
 }
 
-/// What a rule makes: its kind, a constructor's name, and places.
+/// The tree that a rule builds: its kind, the name of its constructor, and places.
 fn push_tree(out: &mut Vec<u8>, tree: &RuleTree) -> Result<(), AllocError>
     requires { IsShapeWritten (shape_of tree.now) }
     ensures { OnOk result (out.new.items ≡ out.old.items ++ shape (shape_of tree.now)) }
@@ -72,7 +72,7 @@ fn push_tree(out: &mut Vec<u8>, tree: &RuleTree) -> Result<(), AllocError>
     }
 }
 
-/// The places of children, and before them how many they are.
+/// The number of children, and their places.
 fn push_places(out: &mut Vec<u8>, places: &[u32]) -> Result<(), AllocError>
     requires count { IsByte (length places.now) }
     requires short { All IsByte places.now }
@@ -85,7 +85,7 @@ fn push_places(out: &mut Vec<u8>, places: &[u32]) -> Result<(), AllocError>
     Ok(())
 }
 
-/// The default reduction of each state, with 0 for none, and before them how many states there are.
+/// The number of states, and their default reductions, with 0 for none.
 fn push_defaults(
     out: &mut Vec<u8>,
     version: Version,

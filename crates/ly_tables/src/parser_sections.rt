@@ -26,7 +26,7 @@ pub(crate) struct RawParser {
     pub(crate) gotos: RawComb,
 }
 
-/// The sections of the parser, and what is left behind them.
+/// The sections of the parser, and the bytes after them.
 pub(crate) fn read_parser(
     alloc: Global,
     version: Version,

@@ -1,4 +1,4 @@
-//! Numbers and texts as fields.
+//! Numbers and strings as fields.
 ghost use Rattle.std.specs.Prelude.{◌++◌, ◌≡◌, [], refl, length};
 ghost use Rattle.std.specs.Int.{w32};
 ghost use Rattle.ly_tables.specs.Private.Parts.{IsNumberText, IsStringText};
@@ -18,7 +18,7 @@ pub(crate) struct Number;
 /// A number of four bytes.
 pub(crate) struct Wide;
 
-/// A text: its length in two bytes, and its bytes.
+/// A string: its length in two bytes, and its bytes.
 pub(crate) struct Text;
 
 impl Field for Number {

@@ -1,9 +1,9 @@
-//! Takes a table file apart.
+//! Splits a table file into its fields.
 //!
-//! A file is a header and three parts, whose fields stand one behind another: counts alone say where each begins. Each
-//! reader takes what is left, and answers what stands at its front with what is left behind it. Where a part is only
-//! begun, its reader's contract says that the part can be completed; so the file can, and is a proper beginning of one.
-//! No count is trusted: room is asked for what has been read, and for a list of numbers not before all are there.
+//! A file is a header and three parts with consecutive fields. Counts alone determine where each begins. Each reader
+//! takes the remaining bytes, and returns the value at their front and the bytes after it. If a part is incomplete, its
+//! reader's contract guarantees that it can be completed; so the bytes are a proper prefix of a file. No count
+//! is trusted: memory is allocated for what has been read, and for a list of numbers only when all its bytes are there.
 ghost use Rattle.std.specs.Prelude.{◌≡◌, ◌≢◌, ◌++◌, IfOk, IfErr, IfSome, MatchBool, None, codes, length, take};
 ghost use Rattle.std.specs.Int.{w16, to_be_bytes};
 ghost use Rattle.ly_tables.specs.Private.Parts.{IsEarly};
@@ -23,10 +23,10 @@ use byteorder::{BigEndian, ByteOrder};
 use ly_base::Version;
 use std::alloc::Global;
 
-/// What a table file begins with.
+/// The first bytes of a table file.
 const MAGIC: [u8; 4] = *b"LYTB";
 
-/// Takes a table file apart: the numbers of its sections, and its version.
+/// Splits a table file into its fields: the numbers of its sections, and its version.
 pub(crate) fn read_raw(alloc: Global, bytes: &[u8]) -> Result<(RawTables, Version), TableFault>
     ensures fits { IfOk result (λ r. AreFileNumbers r.1 (raw_from r.0)) }
     ensures spelled { IfOk result (λ r. bytes.now ≡ raw_file r.1 (raw_from r.0)) }
@@ -58,7 +58,7 @@ pub(crate) fn read_raw(alloc: Global, bytes: &[u8]) -> Result<(RawTables, Versio
     Ok((raw, version))
 }
 
-/// The version, and what is left behind the header.
+/// The version, and the bytes after the header.
 fn header(bytes: &[u8]) -> Result<(Version, &[u8]), TableFault>
     ensures ok { IfOk result (λ r. bytes.now ≡ (codes "LYTB" ++ to_be_bytes w16 (number_of r.0)) ++ r.1.now) }
     ensures refused { IfErr result (IsRefusedAs bytes.now) }
@@ -76,7 +76,7 @@ fn header(bytes: &[u8]) -> Result<(Version, &[u8]), TableFault>
     }
 }
 
-/// The version of this number, if it is one's.
+/// The version with this number, if there is one.
 fn version_numbered(number: u16) -> Option<Version>
     ensures some { IfSome result (λ version. number ≡ number_of version) }
     ensures none { result ≡ None → (version : AnyVersion) → number ≢ number_of version }
@@ -88,7 +88,7 @@ fn version_numbered(number: u16) -> Option<Version>
     }
 }
 
-/// Whether the first four bytes, or the fewer that there are, begin `LYTB`.
+/// Whether the first four bytes, or all bytes of a shorter file, are a prefix of `LYTB`.
 fn has_magic(bytes: &[u8]) -> bool
     ensures { MatchBool result (take 4 bytes.now ≡ take (length bytes.now) (codes "LYTB"))
         (take 4 bytes.now ≢ take (length bytes.now) (codes "LYTB")) }

@@ -1,35 +1,35 @@
 /// A rule of the scanner, as numbers.
 #[derive(Clone, Copy)]
 pub(crate) struct RawScanRule {
-    /// The kind of what it returns.
+    /// The kind of its return value.
     pub(crate) kind: u8,
     /// Its terminal.
     pub(crate) terminal: u32,
     /// The condition that it sets.
     pub(crate) begin: u32,
-    /// The kind of its cut.
+    /// The kind of its trailing context.
     pub(crate) cut: u8,
-    /// The length of its cut.
+    /// The length of its trailing context.
     pub(crate) len: u32,
 }
 
-/// The states where a condition begins, as numbers.
+/// The initial states of a condition, as numbers.
 #[derive(Clone, Copy)]
 pub(crate) struct RawStarts {
-    /// That in the middle of a line.
+    /// The one in the middle of a line.
     pub(crate) elsewhere: u32,
-    /// That at the start of a line.
+    /// The one at the start of a line.
     pub(crate) at_line: u32,
 }
 
-/// Rows laid over one another, as numbers.
+/// A comb, as numbers.
 #[derive(Drop)]
 pub(crate) struct RawComb {
-    /// Where the rows begin.
+    /// The bases of the rows.
     pub(crate) bases: Vec<u32>,
     /// The entries of the slots.
     pub(crate) entries: Vec<u32>,
-    /// The rows of the slots, as many.
+    /// The rows of the slots, one for each entry.
     pub(crate) rows: Vec<u32>,
 }
 
@@ -38,9 +38,9 @@ pub(crate) struct RawComb {
 pub(crate) struct RawRule {
     /// Its left side.
     pub(crate) left: u32,
-    /// How long its body is.
+    /// The length of its body.
     pub(crate) body_length: u8,
-    /// The kind of what it makes.
+    /// The kind of its tree.
     pub(crate) kind: u8,
     /// Its constructor.
     pub(crate) name: Vec<u8>,
@@ -48,10 +48,10 @@ pub(crate) struct RawRule {
     pub(crate) places: Vec<u8>,
 }
 
-/// A table file as numbers, before it is known whether they mean anything.
+/// A table file as numbers, before it is known whether they are valid.
 #[derive(Drop)]
 pub(crate) struct RawTables {
-    /// How many nonterminals there are.
+    /// The number of nonterminals.
     pub(crate) nonterminals: u32,
     /// The names of terminals.
     pub(crate) terminals: Vec<Vec<u8>>,
@@ -59,9 +59,9 @@ pub(crate) struct RawTables {
     pub(crate) literals: Vec<u32>,
     /// The rules of the scanner.
     pub(crate) scan_rules: Vec<RawScanRule>,
-    /// Where the conditions begin.
+    /// The initial states of the conditions.
     pub(crate) conditions: Vec<RawStarts>,
-    /// How many classes of bytes there are.
+    /// The number of classes of bytes.
     pub(crate) class_count: u32,
     /// The class of each byte.
     pub(crate) classes: Vec<u8>,

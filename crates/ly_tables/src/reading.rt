@@ -13,9 +13,9 @@ use crate::table_set::TableSet;
 use ly_base::Version;
 use std::alloc::Global;
 
-/// Reads a table file, and says its version. The fault is the first that there is: of `LYTB`, of the version, of a
-/// field that is missing, of bytes that are left, of the first section out of its ranges, or of tables that could run
-/// forever. It is `OutOfMemory` where memory runs out before it is found.
+/// Reads a table file, and returns the set with its version. The first error in this order is returned: a wrong magic,
+/// a wrong version, a missing field, bytes after the last field, the first section out of its ranges, tables that could
+/// run forever. It is `OutOfMemory` if an allocation fails before that.
 pub fn read_tables(alloc: Global, bytes: &[u8]) -> Result<(TableSet, Version), TableFault>
     ensures spelled { IfOk result (λ r. TableText bytes.now r.1 r.0) }
     ensures steady { IfOk result (λ r. IsSteady (machine_of r.0)) }

@@ -1,4 +1,4 @@
-//! What the numbers of rows mean.
+//! Converts the numbers of rows.
 ghost use Rattle.std.specs.Prelude.{◌≡◌, IfOk, length, map};
 ghost use Rattle.std.specs.List.{zip};
 ghost use Rattle.std.specs.Option.{option_map};
@@ -15,7 +15,7 @@ use ly_base::{StateNo, Version};
 use ly_pack::{Comb, CombSlot, Slot};
 use std::alloc::{AllocError, Global};
 
-/// Rows of so many columns, laid over one another.
+/// A comb with this many columns.
 pub(crate) fn comb<E: CombEntry>(
     alloc: Global,
     version: Version,
@@ -30,7 +30,7 @@ pub(crate) fn comb<E: CombEntry>(
     Ok(Comb::new(columns, raw.bases, slots))
 }
 
-/// The slots of these entries and rows.
+/// The slots with these entries and rows.
 fn slots<E: CombEntry>(
     alloc: Global,
     version: Version,
@@ -48,7 +48,7 @@ fn slots<E: CombEntry>(
     Ok(out)
 }
 
-/// A slot, free where its row is none.
+/// A slot. It is free if its row is none.
 fn slot<E: CombEntry>(version: Version, entry: u32, row: u32) -> Result<CombSlot<E>, AllocError>
     ensures { IfOk result (λ s. option_map used_from s
         ≡ slot_meant (width_of version) (E.meant version) entry row) }

@@ -10,17 +10,17 @@ use crate::numbers::{none, reduction, shift};
 use crate::raw_tables::{RawComb, RawTables};
 use ly_base::Version;
 
-/// What the entries of rows may be.
+/// The allowed entries of rows.
 trait Legal {
-    /// The entry may stand in the column.
+    /// Whether the entry is allowed in the column.
     ghost IsLegal: { Self → ℕ → ℕ → Type 0 };
 
-    /// Whether the entry may stand in the column.
+    /// Whether the entry is allowed in the column.
     fn is_legal(&self, column: usize, entry: u32) -> bool
         ensures { IsTrue result ↔ IsLegal self.now column entry };
 }
 
-/// Entries are states, of which there are so many.
+/// Entries are states. This is their number.
 #[derive(Clone, Copy)]
 struct States(usize);
 
@@ -32,7 +32,7 @@ impl Legal for States {
     }
 }
 
-/// Entries are actions of these tables, as a version has them.
+/// Entries are actions of these tables, as numbers of a version.
 #[derive(Clone, Copy)]
 struct Actions<'a>(Version, &'a RawTables);
 
@@ -48,7 +48,7 @@ impl<'a> Legal for Actions<'a> {
     }
 }
 
-/// Whether a number is a shift's, where it may stand, to a state that is there.
+/// Whether a number is that of a shift, allowed in this column, to a state that exists.
 fn is_shift(version: Version, entry: u32, column: usize, states: usize) -> bool
     ensures { IsTrue result ↔ ((s : ℕ) × (entry ≡ least_shift (width_of version) + s) × (s < states)
         × (1 ≤ column)) }
@@ -59,7 +59,7 @@ fn is_shift(version: Version, entry: u32, column: usize, states: usize) -> bool
     }
 }
 
-/// Whether a number is a reduction's, by a rule that is there.
+/// Whether a number is that of a reduction by a rule that exists.
 fn is_reduction(version: Version, entry: u32, rules: usize) -> bool
     ensures { IsTrue result ↔ ((p : ℕ) × (entry ≡ least_reduction (width_of version) + p) × (1 ≤ p)
         × (p ≤ rules)) }
@@ -112,7 +112,7 @@ pub(crate) fn gotos_within(version: Version, raw: &RawTables) -> bool
     )
 }
 
-/// Whether rows of so many columns are within their ranges.
+/// Whether a comb with this many columns is within its ranges.
 fn are_rows_within<L: Legal>(version: Version, rows: &RawComb, columns: usize, legal: &L) -> bool
     requires { length rows.now.rows.items ≡ length rows.now.entries.items }
     ensures { IsTrue result ↔ AreRowsWithin (width_of version) columns (L.IsLegal legal.now) (comb_raw rows.now) }
@@ -120,7 +120,7 @@ fn are_rows_within<L: Legal>(version: Version, rows: &RawComb, columns: usize, l
     are_at_most(&rows.bases, rows.entries.len()) && are_slots_within(version, rows, columns, legal)
 }
 
-/// Whether each slot lies in its row, with an entry that may stand there, or is free.
+/// Whether each slot is within its row, with an entry that is allowed there, or free.
 fn are_slots_within<L: Legal>(version: Version, rows: &RawComb, columns: usize, legal: &L) -> bool
     requires { length rows.now.rows.items ≡ length rows.now.entries.items }
     ensures { IsTrue result ↔ ((slot : ℕ) → slot < length rows.now.entries.items
@@ -135,7 +135,7 @@ fn are_slots_within<L: Legal>(version: Version, rows: &RawComb, columns: usize, 
     true
 }
 
-/// Whether a slot lies in its row, with an entry that may stand there, or is free.
+/// Whether a slot is within its row, with an entry that is allowed there, or free.
 fn is_slot_within<L: Legal>(
     version: Version,
     rows: &RawComb,
@@ -153,7 +153,7 @@ fn is_slot_within<L: Legal>(
     is_free || is_in_row(rows, columns, legal, slot, entry, row)
 }
 
-/// Whether a slot lies in a row that is there, with an entry that may stand there.
+/// Whether a slot is within a row that exists, with an entry that is allowed there.
 fn is_in_row<L: Legal>(
     rows: &RawComb,
     columns: usize,

@@ -1,4 +1,4 @@
-//! What the numbers of the parser's rules mean.
+//! Converts the numbers of the parser's rules.
 ghost use Rattle.std.specs.Prelude.{◌≡◌, IfOk, map, slice_index};
 ghost use Rattle.ly_base.specs.Shape.{shape_of};
 ghost use Rattle.ly_pack.specs.Values.{rule_from};
@@ -33,7 +33,7 @@ fn table_rule(alloc: Global, rule: RawRule) -> Result<TableRule, AllocError>
     })
 }
 
-/// What a rule of the parser makes.
+/// The tree that a rule of the parser builds.
 fn rule_tree(alloc: Global, rule: RawRule) -> Result<RuleTree, AllocError>
     ensures { IfOk result (λ tree. shape_of tree ≡ shape_meant (rule_raw rule)) }
 {
@@ -47,7 +47,7 @@ fn rule_tree(alloc: Global, rule: RawRule) -> Result<RuleTree, AllocError>
     }
 }
 
-/// The first place, or 0 where there is none.
+/// The first place, or 0 if there is none.
 fn first_place(places: &[u8]) -> u32
     ensures { result ≡ slice_index places.now 0 }
 {
@@ -57,7 +57,7 @@ fn first_place(places: &[u8]) -> u32
     }
 }
 
-/// The places in numbers of their own.
+/// The places as 32-bit numbers.
 fn wide_places(alloc: Global, places: &[u8]) -> Result<Vec<u32>, AllocError>
     ensures { IfOk result (λ out. out.items ≡ places.now) }
 {

@@ -1,4 +1,4 @@
-//! The ranges of the sections of the parser, but for its rows.
+//! The ranges of the sections of the parser, except for its rows.
 ghost use Rattle.std.specs.Prelude.{◌≡◌, ◌<◌, ◌≤◌, ◌↔◌, All, AllPairs, IsTrue, length};
 ghost use Rattle.ly_tables.specs.Private.RawValues.{raw_from, rule_raw};
 ghost use Rattle.ly_tables.specs.Ranges.{counts_of};
@@ -33,7 +33,7 @@ fn is_rule_within(rule: &RawRule, raw: &RawTables) -> bool
         && are_apart(&rule.places)
 }
 
-/// Whether a rule has the length, the name and the places that go with the kind of what it makes.
+/// Whether a rule has a length, a name and places that are allowed for its kind of tree.
 fn is_shape_within(rule: &RawRule) -> bool
     ensures { IsTrue result ↔ IsShapeWithin (rule_raw rule.now) }
 {
@@ -45,7 +45,7 @@ fn is_shape_within(rule: &RawRule) -> bool
     }
 }
 
-/// Whether places count the symbols of a body from 1.
+/// Whether places are those of symbols of a body, counted from 1.
 fn are_places_within(places: &[u8], body_length: u8) -> bool
     ensures { IsTrue result ↔ All (λ i. (1 ≤ i) × (i ≤ body_length)) places.now }
 {
@@ -54,7 +54,7 @@ fn are_places_within(places: &[u8], body_length: u8) -> bool
         .all(|place| 1 <= *place && *place <= body_length)
 }
 
-/// Whether no two places are equal.
+/// Whether all places are different.
 fn are_apart(places: &[u8]) -> bool
     ensures { IsTrue result ↔ AllPairs (λ i j. i ≡ j → ⊥) places.now }
 {

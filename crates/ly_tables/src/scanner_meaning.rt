@@ -1,4 +1,4 @@
-//! What the numbers of the scanner's sections mean.
+//! Converts the numbers of the scanner's sections.
 ghost use Rattle.std.specs.Prelude.{◌≡◌, IfOk, map};
 ghost use Rattle.std.specs.Option.{option_map};
 ghost use Rattle.ly_tables.specs.Private.Meaning.{counted_meant, cut_meant, default_meant, emitted_meant};
@@ -14,7 +14,7 @@ use ly_base::{Cut, Emitted, RuleNo, ScanAction, StateNo, Sym, Version};
 use ly_scan::Starts;
 use std::alloc::{AllocError, Global};
 
-/// The terminals of these numbers.
+/// The terminals with these numbers.
 pub(crate) fn literals(alloc: Global, numbers: &[u32]) -> Result<Vec<Sym>, AllocError>
     ensures { IfOk result (λ out. map (λ t. t.0) out.items ≡ numbers.now) }
 {
@@ -65,7 +65,7 @@ fn emitted(kind: u8, terminal: u32) -> Emitted
     }
 }
 
-/// A cut.
+/// A trailing context.
 fn cut(kind: u8, len: u32) -> Cut
     ensures { result ≡ cut_meant kind len }
 {
@@ -87,7 +87,7 @@ fn number_or_none(version: Version, number: u32) -> Option<u32>
     }
 }
 
-/// Where the conditions begin.
+/// The initial states of the conditions.
 pub(crate) fn conditions(
     alloc: Global,
     version: Version,
@@ -103,7 +103,7 @@ pub(crate) fn conditions(
     Ok(out)
 }
 
-/// Where a condition begins.
+/// The initial states of a condition.
 fn starts(version: Version, condition: RawStarts) -> Starts
     ensures { starts_from result ≡ starts_meant (width_of version) (starts_raw condition) }
 {

@@ -33,7 +33,7 @@ pub(crate) fn push_scanner(
     push_comb(out, version, &set.parts.scan_rows)
 }
 
-/// The rules of the scanner, and before them how many they are.
+/// The number of scanner rules, and the rules.
 fn push_scan_rules(
     out: &mut Vec<u8>,
     version: Version,
@@ -76,7 +76,7 @@ fn push_emitted(out: &mut Vec<u8>, version: Version, emits: Emitted) -> Result<(
     push_number(out, version, terminal)
 }
 
-/// A cut: its kind, and its length or 0.
+/// A trailing context: its kind, and its length or 0.
 fn push_cut(out: &mut Vec<u8>, version: Version, scan_cut: Cut) -> Result<(), AllocError>
     requires { IsCutWithin (width_of version) scan_cut }
     ensures { OnOk result (out.new.items ≡ out.old.items ++ cut (width_of version) scan_cut) }
@@ -90,7 +90,7 @@ fn push_cut(out: &mut Vec<u8>, version: Version, scan_cut: Cut) -> Result<(), Al
     push_count(out, version, len)
 }
 
-/// Where the conditions begin, and before that how many they are.
+/// The number of conditions, and their initial states.
 fn push_conditions(
     out: &mut Vec<u8>,
     version: Version,
@@ -109,7 +109,7 @@ fn push_conditions(
     Ok(())
 }
 
-/// Where a condition begins.
+/// The initial states of a condition.
 fn push_starts(out: &mut Vec<u8>, version: Version, condition: Starts) -> Result<(), AllocError>
     requires { AreStartsShort (width_of version) (starts_from condition) }
     ensures { OnOk result (out.new.items ≡ out.old.items ++ starts (width_of version) (starts_from condition)) }
@@ -118,7 +118,7 @@ fn push_starts(out: &mut Vec<u8>, version: Version, condition: Starts) -> Result
     push_or_none(out, version, condition.at_line.map(|state| state.0))
 }
 
-/// The rule of each scanner state counted from 1, with 0 for none, and before them how many states there are.
+/// The number of scanner states, and the rule of each, counted from 1, with 0 for none.
 fn push_accepted(
     out: &mut Vec<u8>,
     version: Version,

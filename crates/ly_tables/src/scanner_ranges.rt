@@ -1,4 +1,4 @@
-//! The ranges of the sections of the scanner, but for its rows.
+//! The ranges of the sections of the scanner, except for its rows.
 ghost use Rattle.std.specs.Prelude.{◌≡◌, ◌≢◌, ◌⊎◌, ◌<◌, ◌≤◌, ◌↔◌, All, IsTrue, length};
 ghost use Rattle.ly_tables.specs.Private.RawValues.{raw_from, scan_rule_raw};
 ghost use Rattle.ly_tables.specs.Ranges.{counts_of, width_of};
@@ -52,7 +52,7 @@ fn is_emission_within(kind: u8, terminal: u32, terminals: usize) -> bool
     }
 }
 
-/// Whether a cut is within its ranges.
+/// Whether a trailing context is within its ranges.
 fn is_cut_within(cut: u8, len: u32) -> bool
     ensures { IsTrue result ↔ (cut ≤ 2) × (cut ≡ 0 → len ≡ 0) × (cut ≡ 1 → 1 ≤ len) }
 {
@@ -65,7 +65,7 @@ fn is_cut_within(cut: u8, len: u32) -> bool
     }
 }
 
-/// Whether a number is below a bound, or stands for none.
+/// Whether a number is below a bound, or represents none.
 fn is_none_or(version: Version, number: u32, bound: usize) -> bool
     ensures { IsTrue result ↔ IsNoneOr (width_of version) bound number }
 {
@@ -80,7 +80,7 @@ pub(crate) fn conditions_within(version: Version, raw: &RawTables) -> bool
         && are_starts_within(version, &raw.conditions, raw.accepted.len())
 }
 
-/// Whether the states where each condition begins are there.
+/// Whether the initial states of each condition exist.
 fn are_starts_within(version: Version, conditions: &[RawStarts], states: usize) -> bool
     ensures { IsTrue result ↔ All (λ c. IsNoneOr (width_of version) states c.elsewhere
         × IsNoneOr (width_of version) states c.at_line) conditions.now }
@@ -97,7 +97,7 @@ pub(crate) fn classes_within(raw: &RawTables) -> bool
     is_count_within(count as usize, MOST_CLASSES) && are_classes_below(&raw.classes, count)
 }
 
-/// Whether each class is below their count.
+/// Whether each class is less than their number.
 fn are_classes_below(classes: &[u8], count: u32) -> bool
     ensures { IsTrue result ↔ All (λ class. class < count) classes.now }
 {

@@ -19,9 +19,9 @@ use std::alloc::Global;
 pub(crate) struct RawScanner {
     /// The rules.
     pub(crate) scan_rules: Vec<RawScanRule>,
-    /// Where the conditions begin.
+    /// The initial states of the conditions.
     pub(crate) conditions: Vec<RawStarts>,
-    /// How many classes of bytes there are.
+    /// The number of classes of bytes.
     pub(crate) class_count: u32,
     /// The class of each byte.
     pub(crate) classes: Vec<u8>,
@@ -31,7 +31,7 @@ pub(crate) struct RawScanner {
     pub(crate) rows: RawComb,
 }
 
-/// The sections of the scanner, and what is left behind them.
+/// The sections of the scanner, and the bytes after them.
 pub(crate) fn read_scanner(
     alloc: Global,
     version: Version,

@@ -2,16 +2,16 @@ ghost use Rattle.std.specs.Prelude.{◌≡◌};
 ghost use Rattle.ly_tables.specs.Private.SectionOrder.{section_from};
 ghost use Rattle.ly_tables.specs.RawSections.{section_number};
 
-/// A section of a table file that holds numbers with ranges. The magic and the version are section 1.
+/// A section of a table file with numbers that have ranges. The magic and the version are section 1.
 #[derive(Clone, Copy)]
 pub(crate) enum Section {
-    /// How many symbols there are, and the names of terminals.
+    /// The number of symbols, and the names of terminals.
     Symbols,
     /// The terminal of each byte.
     Literals,
     /// The rules of the scanner.
     ScanRules,
-    /// Where the conditions begin.
+    /// The initial states of the conditions.
     Conditions,
     /// The class of each byte.
     Classes,

@@ -1,4 +1,4 @@
-//! Which section of a table file is out of its ranges.
+//! Finds the section of a table file that is out of its ranges.
 ghost use Rattle.std.specs.Prelude.{◌≡◌, IfSome, None};
 ghost use Rattle.ly_tables.specs.Private.RawValues.{raw_from};
 ghost use Rattle.ly_tables.specs.Private.SectionOrder.{AreAllWithin, AreFileNumbers, AreWithinBefore, IsFirstNumber};
@@ -15,7 +15,7 @@ use crate::section::Section;
 use crate::symbol_ranges::{literals_within, symbols_within};
 use ly_base::Version;
 
-/// The first section that is out of its ranges, if one is.
+/// The first section that is out of its ranges, if there is one.
 pub(crate) fn section_out(version: Version, raw: &RawTables) -> Option<Section>
     requires { AreFileNumbers version (raw_from raw.now) }
     ensures none { result ≡ None → AreAllWithin version (raw_from raw.now) }
@@ -27,7 +27,7 @@ pub(crate) fn section_out(version: Version, raw: &RawTables) -> Option<Section>
     }
 }
 
-/// The first section of the symbols and the scanner that is out of its ranges, if one is.
+/// The first section of the symbols and the scanner that is out of its ranges, if there is one.
 fn scanner_section_out(version: Version, raw: &RawTables) -> Option<Section>
     requires { AreFileNumbers version (raw_from raw.now) }
     ensures none { result ≡ None → AreWithinBefore version (raw_from raw.now) (section_number rule_section) }
@@ -57,7 +57,7 @@ fn scanner_section_out(version: Version, raw: &RawTables) -> Option<Section>
     None
 }
 
-/// The first section of the parser that is out of its ranges, if one is.
+/// The first section of the parser that is out of its ranges, if there is one.
 fn parser_section_out(version: Version, raw: &RawTables) -> Option<Section>
     requires fits { AreFileNumbers version (raw_from raw.now) }
     requires before { AreWithinBefore version (raw_from raw.now) (section_number rule_section) }

@@ -2,24 +2,24 @@ ghost use Rattle.std.specs.Prelude.{◌≡◌, length};
 
 use crate::table_set::TableSet;
 
-/// How many there are in a table set of what it is made of.
+/// The sizes of a table set.
 #[derive(Clone, Copy, Debug, PartialEq, Eq)]
 pub struct SetCounts {
-    /// The terminals, that of the end and that of no token among them.
+    /// The number of terminals, with `$end` and `$undef`.
     pub terminals: usize,
-    /// The nonterminals, `$accept` not among them.
+    /// The number of nonterminals, without `$accept`.
     pub nonterminals: usize,
-    /// The rules of the scanner.
+    /// The number of rules of the scanner.
     pub scanner_rules: usize,
-    /// The states of the scanner.
+    /// The number of states of the scanner.
     pub scanner_states: usize,
-    /// The rules of the parser but rule 0.
+    /// The number of rules of the parser, without rule 0.
     pub rules: usize,
-    /// The states of the parser.
+    /// The number of states of the parser.
     pub parser_states: usize,
 }
 
-/// Counts what a table set is made of.
+/// The sizes of a table set.
 pub fn counts(set: &TableSet) -> SetCounts
     ensures terminals { result.terminals ≡ length set.now.terminals }
     ensures nonterminals { result.nonterminals ≡ set.now.nonterminals }

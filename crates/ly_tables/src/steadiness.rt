@@ -1,4 +1,4 @@
-//! From the parts of a table set to the set.
+//! Makes a table set from its parts.
 ghost use Rattle.std.specs.Prelude.{◌≡◌, ◌⊎◌, IfErr, IfOk};
 ghost use Rattle.ly_base.specs.declared.version.Version.TheVariants.{V2};
 ghost use Rattle.ly_pack.specs.Steady.{IsSteady};
@@ -13,7 +13,7 @@ use crate::table_set::TableSet;
 use ly_loop::{LoopFault, steady};
 use std::alloc::Global;
 
-/// The set of parts that are within the ranges of version 2, if their parser's tables are steady.
+/// The set with these parts, which are within the ranges of version 2, if their parser's tables are steady.
 pub(crate) fn steady_set(alloc: Global, parts: TableParts) -> Result<TableSet, TableFault>
     requires { IsWithinVersion V2 (set_of parts) }
     ensures same { IfOk result (λ s. s ≡ set_of parts) }
@@ -26,7 +26,7 @@ pub(crate) fn steady_set(alloc: Global, parts: TableParts) -> Result<TableSet, T
     Ok(TableSet::new(parts))
 }
 
-/// What a fault of the check is called here.
+/// The error of a table file for an error of the loop check.
 fn refusal(fault: LoopFault) -> TableFault
     ensures { result ≡ refusal_of fault }
 {

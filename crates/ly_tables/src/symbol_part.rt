@@ -10,7 +10,7 @@ use crate::table_set::TableSet;
 use ly_base::{Sym, Version};
 use std::alloc::AllocError;
 
-/// The sections of the symbols: how many there are, the names of terminals, and the terminal of each byte.
+/// The sections of the symbols: their numbers, the names of terminals, and the terminal of each byte.
 pub(crate) fn push_symbols(
     out: &mut Vec<u8>,
     version: Version,

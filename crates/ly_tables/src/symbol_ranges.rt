@@ -21,14 +21,14 @@ pub(crate) fn symbols_within(version: Version, raw: &RawTables) -> bool
         && are_names_within(&raw.terminals)
 }
 
-/// Whether there may be so many terminals and nonterminals, where no more than so many symbols may be.
+/// Whether these numbers of terminals and nonterminals are allowed, with at most `most` symbols.
 fn are_counts_within(most: usize, terminals: usize, nonterminals: usize) -> bool
     ensures { IsTrue result ↔ (2 ≤ terminals) × (1 ≤ nonterminals) × (terminals + nonterminals + 1 ≤ most) }
 {
     2 <= terminals && 1 <= nonterminals && nonterminals < most && terminals < most - nonterminals
 }
 
-/// Whether names have lengths that are allowed, and the first two are those of the end and of no token.
+/// Whether names have allowed lengths, and the first two are `$end` and `$undef`.
 fn are_names_within(names: &[Vec<u8>]) -> bool
     requires { 2 ≤ length names.now }
     ensures { IsTrue result ↔ AreNamesWithin (map (λ name. name.items) names.now) }
@@ -36,7 +36,7 @@ fn are_names_within(names: &[Vec<u8>]) -> bool
     are_names_long(names) && begin_with_specials(names)
 }
 
-/// Whether the first two names are those of the end and of no token.
+/// Whether the first two names are `$end` and `$undef`.
 fn begin_with_specials(names: &[Vec<u8>]) -> bool
     requires { 2 ≤ length names.now }
     ensures { IsTrue result ↔ BeginWithSpecials (map (λ name. name.items) names.now) }
@@ -44,21 +44,21 @@ fn begin_with_specials(names: &[Vec<u8>]) -> bool
     is_named(names, 0, b"$end") && is_named(names, 1, b"$undef")
 }
 
-/// Whether each name has a length that is allowed.
+/// Whether each name has an allowed length.
 fn are_names_long(names: &[Vec<u8>]) -> bool
     ensures { IsTrue result ↔ All (λ name. IsNameLong name.items) names.now }
 {
     names.iter().all(|name| is_name_long(name))
 }
 
-/// Whether a name has one byte or more, and not too many.
+/// Whether a name has at least one byte, and not too many.
 pub(crate) fn is_name_long(name: &[u8]) -> bool
     ensures { IsTrue result ↔ IsNameLong name.now }
 {
     is_count_within(name.len(), LONGEST_NAME)
 }
 
-/// Whether a name is the one of this number.
+/// Whether this is the name with this number.
 fn is_named(names: &[Vec<u8>], number: usize, name: &[u8]) -> bool
     requires { number < length names.now }
     ensures { IsTrue result ↔ (slice_get (map (λ name. name.items) names.now) number ≡ Some name.now) }
@@ -66,7 +66,7 @@ fn is_named(names: &[Vec<u8>], number: usize, name: &[u8]) -> bool
     names[number].as_slice() == name
 }
 
-/// Whether the terminal of each byte is there, and not the end.
+/// Whether the terminal of each byte exists and isn't the end.
 pub(crate) fn literals_within(raw: &RawTables) -> bool
     ensures { IsTrue result ↔ All (IsToken (raw_from raw.now)) (raw_from raw.now).literals }
 {

@@ -15,7 +15,7 @@ use std::alloc::Global;
 /// The sections of the symbols, as numbers.
 #[derive(Drop)]
 pub(crate) struct RawSymbols {
-    /// How many nonterminals there are.
+    /// The number of nonterminals.
     pub(crate) nonterminals: u32,
     /// The names of terminals.
     pub(crate) terminals: Vec<Vec<u8>>,
@@ -23,7 +23,7 @@ pub(crate) struct RawSymbols {
     pub(crate) literals: Vec<u32>,
 }
 
-/// The sections of the symbols, and what is left behind them.
+/// The sections of the symbols, and the bytes after them.
 pub(crate) fn read_symbols(
     alloc: Global,
     version: Version,

@@ -13,7 +13,7 @@ use ly_pack::{Comb, MachineView, TableAction, TableRule};
 use ly_scan::Starts;
 use std::marker::Model;
 
-/// What a driver needs to know of a lex file and a yacc file. Its numbers are within the ranges of version 2 of the
+/// Everything that a driver needs of a lex file and a yacc file. Its numbers are within the ranges of version 2 of the
 /// table file, and each run of its parser's tables ends.
 #[derive(Drop)]
 pub struct TableSet {
@@ -32,7 +32,7 @@ impl Model for TableSet {
 }
 
 impl TableSet {
-    /// The set of these parts, which are within the ranges of version 2, and whose parser's tables are steady.
+    /// The set with these parts, which must be within the ranges of version 2, with steady parser's tables.
     pub fn new(parts: TableParts) -> TableSet
         requires within { IsWithinVersion V2 (set_of parts) }
         requires steady { IsSteady (machine_of (set_of parts)) }
@@ -69,14 +69,14 @@ impl TableSet {
         &self.parts.terminals
     }
 
-    /// The rules of the parser but rule 0: the first is rule 1.
+    /// The rules of the parser without rule 0: the first is rule 1.
     pub fn rules(&self) -> &[TableRule]
         ensures { map rule_from result.now ≡ self.now.rules }
     {
         &self.parts.rules
     }
 
-    /// The terminal of each byte as a literal, 1 where there is none.
+    /// The terminal of each byte as a literal, 1 if there is none.
     pub fn literals(&self) -> &[Sym]
         ensures literals { map (λ t. t.0) result.now ≡ self.now.literals }
         ensures all { length result.now ≡ 256 }
@@ -91,7 +91,7 @@ impl TableSet {
         &self.parts.scan_rules
     }
 
-    /// Where each condition begins.
+    /// The initial states of each condition.
     pub fn conditions(&self) -> &[Starts]
         ensures { map starts_from result.now ≡ self.now.conditions }
     {
@@ -112,7 +112,7 @@ impl TableSet {
         &self.parts.accepted
     }
 
-    /// Where scanner states lead: a row for each, a column for each class.
+    /// The transitions of scanner states: a row for each state, a column for each class.
     pub fn scan_rows(&self) -> &Comb<StateNo>
         ensures { result.now ≡ self.now.scan_rows }
     {

@@ -14,8 +14,8 @@ use crate::table_set::TableSet;
 use ly_base::Version;
 use std::alloc::{AllocError, Global};
 
-/// The bytes of a table file in a version: `LYTB`, the version, and the sections, numbers with their greatest byte
-/// first. It fails where memory runs out, and where version 1 is asked for and the set is beyond it.
+/// The bytes of a table file in a version: `LYTB`, the version, and the sections. Numbers have their most significant
+/// byte first. It fails if an allocation fails, or if the version is 1 and the set exceeds it.
 pub fn write_tables(alloc: Global, set: &TableSet, version: Version) -> Result<Vec<u8>, FormatFault>
     ensures spelled { IfOk result (λ bytes. TableText bytes.items version set.now) }
     ensures too_large { result ≡ Err fault.TooLargeForVersion

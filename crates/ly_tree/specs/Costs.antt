@@ -1,5 +1,6 @@
--- What a term costs: so much for each term that it consists of, itself among them, and so much for each byte of its
--- leaves. So many sums over terms are one: how many terms there are, how many bytes, how long a printed text may be.
+-- The cost of a term: a fixed cost for each term that it consists of, including itself, and one for each byte of its
+-- leaves. This covers several sums over terms: the number of terms, the number of bytes, the maximum length of a
+-- printed text.
 use Rattle.std.specs.Prelude.{ℕ, ◌≤◌, ◌+◌, ◌*◌, length, map, sum}
 use Rattle.ly_tree.specs.Forest.{Grown, Lists}
 use Rattle.ly_tree.specs.Term.{Term, Terms, nothing, leaf, built, none, more}
@@ -14,14 +15,14 @@ abbrev mutual
   costs each byte none = 0
   costs each byte (more t ts) = cost each byte t + costs each byte ts
 
--- how many bytes the leaves of a forest have
+-- the number of bytes of a forest's leaves
 abbrev pub bytes_in : Lists → ℕ
 bytes_in l = length l.texts + sum (map (λ t. cost 0 1 t) l.long_leaves)
 
--- what a forest can pay: for a term for each of its children, and for each byte of its leaves
+-- the budget of a forest: the cost of a term for each of its children, and of each byte of its leaves
 abbrev pub budget : ℕ → ℕ → Grown → ℕ
 budget each byte f = each * length f.children + byte * bytes_in f.lists
 
--- A forest pays for a term, which is no child itself: none of its parts is used twice.
+-- A forest has the budget for a term that is no child itself: none of its parts is used twice.
 abbrev pub IsPaid : Grown → Term → Type 0
 IsPaid f t = (each byte : ℕ) → cost each byte t ≤ each + budget each byte f

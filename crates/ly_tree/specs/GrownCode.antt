@@ -1,4 +1,4 @@
--- A code of what a forest holds: of a term its parts in prefix order, which a stack reads from the right.
+-- An encoding of a forest's content: a term as its parts in prefix order, which a stack reads from the right.
 use Rattle.std.specs.Prelude.{◌≡◌, ℕ, ◌⊎◌, List, [], ◌∷◌, ◌++◌, refl}
 use base.Stored.{coded_unit}
 use mathlib.Core.Logic.{inl, inr}
@@ -36,12 +36,12 @@ abbrev mutual
   all_items none = []
   all_items (more t ts) = to_items t ++ all_items ts
 
--- the stack with a term before those on top
+-- the stack with a term before those of its top
 abbrev pub put : Term → List Terms → List Terms
 put t [] = more t none ∷ []
 put t (ts ∷ st) = more t ts ∷ st
 
--- the stack with what is on top as the terms of a node
+-- the stack with its top made into a node
 abbrev pub built_on : ℕ → List Terms → List Terms
 built_on p [] = []
 built_on p (ts ∷ st) = put (built p ts) st
@@ -52,7 +52,7 @@ take_item (inr (inl l)) st = put (leaf l.0 l.1) st
 take_item (inr (inr (inl u))) st = put nothing st
 take_item (inr (inr (inr u))) st = none ∷ st
 
--- the stack after items, from the right
+-- the stack after reading items from the right
 abbrev pub take_items : List PrefixItem → List Terms
 take_items [] = []
 take_items (i ∷ is) = take_item i (take_items is)

@@ -5,11 +5,11 @@ use Rattle.ly_tree.specs.Shown.{Vocabulary}
 use Rattle.ly_tree.specs.Term.{Term, Terms}
 use Rattle.ly_tree.specs.Written.{written, written_all, Notation}
 
--- what stands before what a leaf consists of, by the name of its terminal
+-- the text before the content of a leaf, with the name of its terminal
 abbrev pub before_content : List ℕ → List ℕ
 before_content name = codes "{\"token\":" ++ (json_name name ++ codes ",")
 
--- what stands before the terms of a node, by its constructor
+-- the text before the children of a node, with its constructor
 abbrev pub before_children : List ℕ → List ℕ
 before_children name = codes "{\"node\":" ++ (json_name name ++ codes ",\"children\":[")
 
@@ -25,6 +25,6 @@ as_json v = record {
 abbrev pub json : Vocabulary → Term → List ℕ
 json v t = written (as_json v) t
 
--- terms, commas between them
+-- terms with commas between them
 abbrev pub jsons : Vocabulary → Terms → List ℕ
 jsons v ts = written_all (as_json v) ts

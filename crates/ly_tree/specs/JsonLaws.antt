@@ -1,4 +1,4 @@
--- What a JSON text says of a tree.
+-- A JSON text determines its tree.
 use Rattle.std.specs.Prelude.{◌≡◌, ◌<◌, ℕ, List, [], ◌++◌, All, codes}
 use Rattle.ly_print.specs.Json.{json_content}
 use Rattle.ly_tree.specs.Json.{before_children, before_content, json}
@@ -35,7 +35,7 @@ abbrev mutual
   json_named (leaf name bytes) = before_content name ++ (json_content bytes ++ codes "}")
   json_named (built name ts) = before_children name ++ (jsons_named ts ++ codes "]}")
 
-  -- those of terms, commas between them
+  -- the text of terms, with commas between them
   pub jsons_named : AllNamed → List ℕ
   jsons_named none = []
   jsons_named (more t ts) = json_named t ++ others_named ts
@@ -45,7 +45,7 @@ abbrev mutual
   others_named (more t ts) = codes "," ++ (json_named t ++ others_named ts)
 
 abbrev mutual
-  -- what leaves consist of is bytes
+  -- the texts of leaves consist of bytes
   pub IsNamedOfBytes : Named → Type 0
   IsNamedOfBytes nothing = Unit {0}
   IsNamedOfBytes (leaf name bytes) = All (λ b. b < 256) bytes
@@ -55,11 +55,11 @@ abbrev mutual
   AreNamedOfBytes none = Unit {0}
   AreNamedOfBytes (more t ts) = IsNamedOfBytes t × AreNamedOfBytes ts
 
--- a text that begins with a term says which one, and where it ends
+-- a text that begins with a term determines the term and where it ends
 abbrev pub SaysOneTree : Type 0
 SaysOneTree = (s t : Named) (r q : List ℕ) → IsNamedOfBytes s → IsNamedOfBytes t
     → json_named s ++ r ≡ json_named t ++ q → (s ≡ t) × (r ≡ q)
 
--- the text of a term is that of its names
+-- the text of a term is that of the term with names
 abbrev pub IsOfNames : Type 0
 IsOfNames = (v : Vocabulary) (t : Term) → json v t ≡ json_named (named v t)

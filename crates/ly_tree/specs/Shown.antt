@@ -21,6 +21,6 @@ plain v = record {
 abbrev pub shown : Vocabulary → Term → List ℕ
 shown v t = written (plain v) t
 
--- terms, commas between them
+-- terms with commas between them
 abbrev pub shown_all : Vocabulary → Terms → List ℕ
 shown_all v ts = written_all (plain v) ts

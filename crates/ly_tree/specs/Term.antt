@@ -1,4 +1,4 @@
--- What actions build: terms, which are trees of constructors over leaves.
+-- Terms, which actions build: trees of constructors over leaves.
 use Rattle.std.specs.Prelude.{ℕ, zero, suc, List, [], ◌∷◌}
 use Rattle.ly_base.specs.Shape.{Shape, nil, place, node}
 use Rattle.ly_base.specs.Trees as derivation
@@ -16,26 +16,26 @@ mutual
     none : Terms
     more : Term → Terms → Terms
 
--- the term at a place, counted from 1; nothing where there is none
+-- the term at a place, counted from 1; nothing if there is none
 abbrev pub at_place : Terms → ℕ → Term
 at_place none i = nothing
 at_place (more t ts) zero = nothing
 at_place (more t ts) (suc zero) = t
 at_place (more t ts) (suc (suc i)) = at_place ts (suc i)
 
--- those at these places
+-- the terms at these places
 abbrev pub at_places : Terms → List ℕ → Terms
 at_places ts [] = none
 at_places ts (i ∷ is) = more (at_place ts i) (at_places ts is)
 
--- what a rule makes of the terms of its body
+-- the term that a rule builds from the terms of its body
 abbrev pub made : ℕ → Shape → Terms → Term
 made p nil ts = nothing
 made p (place i) ts = at_place ts i
 made p (node name is) ts = built p (at_places ts is)
 
--- what rules by these shapes build of a derivation tree (POSIX, XCU yacc: the actions are done in the order of the
--- reductions, and each gives its rule's value)
+-- the terms that rules with these shapes build from a derivation tree (POSIX, XCU yacc: the actions are executed in the
+-- order of the reductions, and each gives the value of its rule)
 abbrev mutual
   pub build : (ℕ → Shape) → Tree → Term
   build shape (derivation.leaf t) = leaf t.terminal t.bytes

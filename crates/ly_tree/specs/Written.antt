@@ -1,9 +1,9 @@
--- Terms as written text, whatever the notation.
+-- The text of terms in any notation.
 use Rattle.std.specs.Prelude.{ℕ, ◌<◌, ◌≤◌, ◌+◌, ◌*◌, List, [], ◌++◌, All, codes, length}
 use Rattle.ly_tree.specs.Term.{Term, Terms, nothing, leaf, built, none, more}
 
--- How terms are written: nothing; a leaf, by its terminal and its bytes; and what opens a node, by its rule, and what
--- closes it.
+-- A notation: the text of nothing, the text of a leaf with this terminal and these bytes, and the opening and the
+-- closing of a node with this rule.
 pub record Notation : Type 0 where
   pub no_term : List ℕ
   pub leaf_text : ℕ → List ℕ → List ℕ
@@ -11,19 +11,19 @@ pub record Notation : Type 0 where
   pub closes : List ℕ
 
 abbrev mutual
-  -- a node's terms stand between what opens it and what closes it
+  -- a node's terms are between its opening and its closing
   pub written : Notation → Term → List ℕ
   written n nothing = n.no_term
   written n (leaf t bytes) = n.leaf_text t bytes
   written n (built p ts) = n.opens p ++ written_all n ts ++ n.closes
 
-  -- terms, commas between them
+  -- terms with commas between them
   pub written_all : Notation → Terms → List ℕ
   written_all n none = []
   written_all n (more t none) = written n t
   written_all n (more t (more u ts)) = written n t ++ codes "," ++ written_all n (more u ts)
 
--- So many bytes are enough for each term, a comma behind it and what closes it among them, and so many for each byte of
+-- This many bytes are enough for each term, including a comma after it and its closing, and this many for each byte of
 -- a leaf.
 pub record IsWithin (n : Notation) (term byte : ℕ) : Type 0 where
   pub no_term : length n.no_term + 1 ≤ term

@@ -16,37 +16,37 @@ use ly_print::{Front, Texts};
 use std::alloc::Global;
 use std::marker::Model;
 
-/// A term of a forest, by where it stands there. It takes eight bytes.
+/// A term of a forest, by its position there. It takes eight bytes.
 #[derive(Clone, Copy, Debug, PartialEq, Eq)]
 pub enum TermRef {
-    /// Nothing, which is in every forest.
+    /// Nothing. It is in every forest.
     Nothing,
-    /// A short leaf, whose text stands among the texts of a forest.
+    /// A short leaf, whose text is among the texts of a forest.
     ShortLeaf {
-        /// How many bytes its text has.
+        /// The length of its text in bytes.
         length: u8,
         /// Its terminal.
         terminal: u16,
-        /// How many bytes stand before its text.
+        /// The offset of its text among the texts.
         start: u32,
     },
-    /// A long leaf, by its number among these.
+    /// A long leaf, by its number among the long leaves.
     LongLeaf {
         /// The upper part of the number.
         high: u16,
         /// The lower part of the number.
         low: u32,
     },
-    /// A node, whose children stand one behind another among those of a forest.
+    /// A node, whose children are consecutive among those of a forest.
     Node {
-        /// How many children it has.
+        /// The number of its children.
         children: u8,
         /// Its rule.
         rule: u16,
-        /// How many children of other nodes stand before its own.
+        /// The index of its first child among the children of all nodes.
         start: u32,
     },
-    /// A long node, by its number among these.
+    /// A long node, by its number among the long nodes.
     LongNode {
         /// The upper part of the number.
         high: u16,
@@ -60,13 +60,13 @@ const _: () = prove!(size_of::<TermRef>() == 8);
 /// Leaves, and nodes over leaves.
 #[derive(Drop)]
 pub struct Forest {
-    /// The texts of short leaves, one behind another.
+    /// The texts of short leaves, one after another.
     texts: Texts,
-    /// The long leaves: the text of each, under its terminal.
+    /// The long leaves: the text of each, with its terminal.
     long_leaves: Headed<Sym, u8>,
-    /// The long nodes: of each its rule, and where its children stand.
+    /// The long nodes: for each its rule, and the range of its children.
     long_nodes: Vec<Span>,
-    /// The children of nodes, one node's behind another's. Those of a child stand before it.
+    /// The children of nodes, node by node. Those of a child precede it.
     children: Vec<TermRef>,
 }
 
@@ -91,7 +91,7 @@ impl Forest {
     ghost use Rattle.ly_tree.specs.Forest.{no_terms, number_of, term_of, terms_of, Keeps, StandsFor};
     ghost use Rattle.ly_tree.specs.Private.Grown.{AllKnown};
 
-    /// No leaves and no nodes.
+    /// A forest without leaves and nodes.
     pub fn new(alloc: Global) -> Self
         ensures { result ≡ no_terms }
     {
@@ -110,8 +110,8 @@ impl Forest {
         TermRef::Nothing
     }
 
-    /// Adds a leaf, and answers it. After the fault the forest is as it was.
-    #[inline(always)] // by a call a token takes a sixth more instructions
+    /// Adds a leaf, and returns a reference to it. After an error the forest is unchanged.
+    #[inline(always)] // a call would cost a sixth more instructions per token
     pub fn leaf(&mut self, terminal: Sym, text: &Front<'_>) -> Result<TermRef, OutOfMemory>
         ensures stands { IfOk result (λ r. StandsFor self.new r (leaf terminal.0 text.now)) }
         ensures keeps { OnOk result (Keeps self.old self.new) }
@@ -125,9 +125,9 @@ impl Forest {
         self.leaf_without_block(terminal, text)
     }
 
-    /// Adds a leaf whose text is copied as a block, and answers it. None where it isn't short, or there is no room for
-    /// a block; the forest is then as it was.
-    #[inline(always)] // as `leaf`
+    /// Adds a leaf whose text is copied as a block, and returns a reference to it. Returns `None` if it isn't short or
+    /// there is no capacity for a block; the forest is then unchanged.
+    #[inline(always)] // like `leaf`
     pub fn leaf_as_block(&mut self, terminal: Sym, text: &Front<'_>) -> Option<TermRef>
         ensures stands { IfSome result (λ r. StandsFor self.new r (leaf terminal.0 text.now)) }
         ensures keeps { IfSome result (λ _. Keeps self.old self.new) }
@@ -148,8 +148,8 @@ impl Forest {
         })
     }
 
-    /// Adds a leaf whose text isn't copied as a block, as `leaf` does.
-    #[inline(always)] // as `leaf`
+    /// Adds a leaf like `leaf`, for a text that isn't copied as a block.
+    #[inline(always)] // like `leaf`
     pub fn leaf_without_block(
         &mut self,
         terminal: Sym,
@@ -178,8 +178,8 @@ impl Forest {
         })
     }
 
-    /// Adds a long leaf, whose number has these parts.
-    #[inline(never)] // so that a short one has the registers; an answer without a number needs no room in memory
+    /// Adds a long leaf. Its number has these two parts.
+    #[inline(never)] // so that a short one gets the registers; a result without a number stays in one
     fn long_leaf(
         &mut self,
         high: u16,
@@ -198,8 +198,8 @@ impl Forest {
         Ok(())
     }
 
-    /// Adds a node, whose children are the terms at these places of a body, which count from 1, and answers it. After
-    /// the fault the forest is as it was.
+    /// Adds a node and returns a reference to it. Its children are the terms at these places of a body, counted from 1.
+    /// After an error the forest is unchanged.
     pub fn node<R: Refers>(
         &mut self,
         rule: RuleNo,
@@ -232,8 +232,8 @@ impl Forest {
         })
     }
 
-    /// Adds a long node, whose number has these parts.
-    #[inline(never)] // as `long_leaf`
+    /// Adds a long node. Its number has these two parts.
+    #[inline(never)] // like `long_leaf`
     fn long_node<R: Refers>(
         &mut self,
         high: u16,
@@ -263,7 +263,7 @@ impl Forest {
         Ok(())
     }
 
-    /// Looks at a term: at a node, whatever the children are.
+    /// Looks at a term: at a node without its children's terms.
     pub fn look(&self, term: TermRef) -> Look
         requires { IsSome (term_of self.now term) }
         ensures { (children : List Term) → IsSeen children result
@@ -286,15 +286,15 @@ impl Forest {
         }
     }
 
-    /// The children of all nodes, one node's behind another's. Those of a child stand before it.
+    /// The children of all nodes, node by node. Those of a child precede it.
     pub fn children(&self) -> &[TermRef]
         ensures { AreChildren self.now result.now }
     {
         &self.children
     }
 
-    /// How long the line of a term may be whose parts are used once each, where no more is written for a part; nothing,
-    /// where no number says so.
+    /// The maximum length of the line of a term whose parts are used once each, if no more than `most` is written for a
+    /// part. None if the length doesn't fit in a number.
     pub(crate) fn longest_line(&self, most: MostBytes) -> Option<usize>
         ensures { IfSome result (λ n. (n ≡ most.of_term + budget most.of_term most.of_byte self.now) × (n < 2 ^ 64)) }
     {
@@ -304,7 +304,7 @@ impl Forest {
         most.of_term.checked_add(terms.checked_add(of_bytes)?)
     }
 
-    /// What its leaves consist of is bytes.
+    /// Proves that the texts of its leaves consist of bytes.
     pub(crate) fn are_bytes(&self)
         ensures { (r : TermRef) (t : Term) → StandsFor self.now r t → IsOfBytes t }
     {
@@ -312,14 +312,14 @@ impl Forest {
         lists_are_bytes(&self.long_leaves);
     }
 
-    /// How many terms one may have whose parts are used once each.
+    /// The maximum number of terms in a term whose parts are used once each.
     pub(crate) fn most_terms(&self) -> usize
         ensures { result ≡ 1 + budget 1 0 self.now }
     {
         self.children.len() + 1
     }
 
-    /// No children.
+    /// An empty list of children.
     pub(crate) fn no_children(&self) -> &[TermRef]
         ensures { result.now ≡ [] }
     {
@@ -353,7 +353,7 @@ impl Forest {
     }
 
     /// A long node: its rule and its children.
-    #[inline(never)] // so that a short node has the registers
+    #[inline(never)] // so that a short node gets the registers
     pub(crate) fn long_node_at(&self, high: u16, low: u32) -> (RuleNo, &[TermRef])
         requires { IsSome (term_of self.now (TermRef.LongNode high low)) }
         ensures term { StandsFor self.now (TermRef.LongNode high low)
@@ -365,7 +365,7 @@ impl Forest {
     }
 }
 
-/// So many of the children that stand behind others.
+/// This many children from an index on.
 fn part(children: &[TermRef], start: usize, count: usize) -> &[TermRef]
     requires { start + count ≤ length children.now }
     ensures { result.now ≡ take count (drop start children.now) }
@@ -373,8 +373,8 @@ fn part(children: &[TermRef], start: usize, count: usize) -> &[TermRef]
     &children[start..start + count]
 }
 
-/// Appends what stands at these places of a body, which count from 1. After the fault the children are as they were.
-#[inline(always)] // else `node` and `long_node` each call it
+/// Appends the terms at these places of a body, counted from 1. After an error the children are unchanged.
+#[inline(always)] // otherwise `node` and `long_node` each call it
 fn pick<R: Refers>(
     children: &mut Vec<TermRef>,
     body: &[R],

@@ -7,19 +7,19 @@ use ly_print::are_bytes;
 use std::alloc::Global;
 use std::marker::Model;
 
-/// The head of a list, and where the list ends among the members.
+/// The head of a list, and the end of the list among the members.
 #[derive(Clone, Copy)]
 struct Heading<H> {
     /// The head.
     head: H,
-    /// How many members stand before its end, those of the lists before it too.
+    /// The number of members up to its end, including those of the lists before it.
     end: usize,
 }
 
-/// Lists, each under a head, one after another in one block.
+/// Lists with a head each, one after another in one block.
 #[derive(Drop)]
 pub(crate) struct Headed<H, T> {
-    /// Their headings.
+    /// The heads and ends of the lists.
     headings: Vec<Heading<H>>,
     /// The members of all lists.
     members: Vec<T>,
@@ -42,7 +42,7 @@ impl<H, T> Model for Headed<H, T> {
 }
 
 impl<H, T> Headed<H, T> {
-    /// No lists.
+    /// Without lists.
     pub(crate) fn new(alloc: Global) -> Self
         ensures { result ≡ [] }
     {
@@ -54,14 +54,14 @@ impl<H, T> Headed<H, T> {
 }
 
 impl<H, T> Headed<H, T> {
-    /// How many lists there are.
+    /// The number of lists.
     pub(crate) fn len(&self) -> usize
         ensures { result ≡ length self.now }
     {
         self.headings.len()
     }
 
-    /// How many members all lists have.
+    /// The number of members of all lists.
     pub(crate) fn members(&self) -> usize
         ensures { result ≡ sum (map (λ l. length l.1) self.now) }
     {
@@ -70,7 +70,7 @@ impl<H, T> Headed<H, T> {
 }
 
 impl<H: Copy, T: Copy> Headed<H, T> {
-    /// Adds a list. After the fault the lists are as they were.
+    /// Adds a list. After an error the lists are unchanged.
     pub(crate) fn push(&mut self, head: H, list: &[T]) -> Result<(), OutOfMemory>
         ensures ok { OnOk result (self.new ≡ self.old ++ (head, list.now) ∷ []) }
         ensures err { OnErr result (self.new ≡ self.old) }
@@ -82,7 +82,7 @@ impl<H: Copy, T: Copy> Headed<H, T> {
         Ok(())
     }
 
-    /// The list of a number, under its head.
+    /// The list with this number, and its head.
     pub(crate) fn get(&self, number: usize) -> (H, &[T])
         requires { number < length self.now }
         ensures { slice_get self.now number ≡ Some (result.0, result.1.now) }
@@ -93,7 +93,7 @@ impl<H: Copy, T: Copy> Headed<H, T> {
     }
 }
 
-/// The members between two places.
+/// The members in a range.
 fn part<T>(members: &[T], start: usize, end: usize) -> &[T]
     requires rises { start ≤ end }
     requires within { end ≤ length members.now }
@@ -102,7 +102,7 @@ fn part<T>(members: &[T], start: usize, end: usize) -> &[T]
     &members[start..end]
 }
 
-/// Where a list begins: where the one before it ends.
+/// The start of a list, which is the end of the one before it.
 fn start_of<H: Copy>(headings: &[Heading<H>], number: usize) -> usize
     requires { number < length headings.now }
     ensures { result ≡ start_after 0 headings.now number }
@@ -114,7 +114,7 @@ fn start_of<H: Copy>(headings: &[Heading<H>], number: usize) -> usize
     }
 }
 
-/// What lists of bytes consist of is bytes.
+/// Proves that lists of bytes consist of bytes.
 pub(crate) fn lists_are_bytes<H>(lists: &Headed<H, u8>)
     ensures { All (λ list. All (λ byte. byte < 256) list.1) lists.now }
 {

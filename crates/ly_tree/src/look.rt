@@ -1,7 +1,7 @@
 use crate::span::Span;
 use ly_base::Sym;
 
-/// What a look at a term shows: all but the text of a leaf.
+/// What a look at a term shows: everything but the text of a leaf.
 #[derive(Clone, Copy)]
 pub enum Look {
     /// Nothing.

@@ -6,31 +6,31 @@ ghost use Rattle.ly_tree.specs.Written.{IsWithin, Notation};
 use ly_base::{RuleNo, Sym};
 use ly_print::{Front, Label, Sink, TextWriter, WriteFault};
 
-/// How much is written at most.
+/// The maximum number of bytes written.
 #[derive(Clone, Copy, Debug, PartialEq, Eq)]
 pub struct MostBytes {
-    /// How many bytes for a term, a comma behind it and what closes it among them.
+    /// The number for a term, including a comma after it and its closing bytes.
     pub of_term: usize,
-    /// How many bytes for each byte of a leaf.
+    /// The number for each byte of a leaf.
     pub of_byte: usize,
 }
 
-/// A way of writing terms.
+/// A notation for terms.
 pub trait TermNotation {
-    /// How terms are written.
+    /// The notation as definitions see it.
     ghost form: { Self → Notation };
 
-    /// What nothing is.
+    /// The text of nothing.
     fn no_term(&self) -> &[u8]
         ensures { result.now ≡ (form self.now).no_term };
 
-    /// What opens a node, before its children.
+    /// The opening of a node, before its children.
     fn opens(&self, rule: RuleNo) -> &Label
         ensures { result.now ≡ (form self.now).opens rule.0 };
 
     /// Writes a leaf.
     ///
-    /// It fails where the writer does.
+    /// It fails if the writer does.
     fn push_leaf<S: Sink>(
         &self,
         out: &mut TextWriter,
@@ -46,9 +46,9 @@ pub trait TermNotation {
         ensures no_failure { OnOk result (S.failures writer.new ≡ S.failures writer.old) }
         ensures failed { OnErr result (S.failures writer.new ≡ next_count (S.failures writer.old)) };
 
-    /// Writes what closes a node, behind its children.
+    /// Writes the closing of a node, after its children.
     ///
-    /// It fails where the writer does.
+    /// It fails if the writer does.
     fn push_closes<S: Sink>(&self, out: &mut TextWriter, writer: &mut S) -> Result<(), WriteFault>
         requires countable { bytes_of out.old + length (form self.now).closes < 2 ^ 64 }
         ensures text { IsAppended out.old out.new (S.contents writer.old) (S.contents writer.new)
@@ -57,7 +57,7 @@ pub trait TermNotation {
         ensures no_failure { OnOk result (S.failures writer.new ≡ S.failures writer.old) }
         ensures failed { OnErr result (S.failures writer.new ≡ next_count (S.failures writer.old)) };
 
-    /// How much is written at most; nothing, where no number says so.
+    /// The maximum number of bytes written. None if it doesn't fit in a number.
     fn most(&self) -> Option<MostBytes>
         ensures { IfSome result (λ m. IsWithin (form self.now) m.of_term m.of_byte) };
 }

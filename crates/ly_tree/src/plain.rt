@@ -6,7 +6,7 @@ use crate::words::Words;
 use ly_base::{RuleNo, Sym};
 use ly_print::{Front, Label, Sink, TextWriter, WriteFault};
 
-/// Terms as plain text by their names: nothing as `()`, a leaf as `NUM"12"`, and a node as `Add(NUM"1",NUM"2")`.
+/// The plain text of terms with names: nothing as `()`, a leaf as `NUM"12"`, and a node as `Add(NUM"1",NUM"2")`.
 #[derive(Drop)]
 pub struct Plain<'w, W: Words> {
     /// The names.
@@ -14,7 +14,7 @@ pub struct Plain<'w, W: Words> {
 }
 
 impl<'w, W: Words> Plain<'w, W> {
-    /// Terms by these names.
+    /// The notation with these names.
     pub fn new(words: &'w W) -> Self
         ensures { result.words.now ≡ words.now }
     {
@@ -28,7 +28,7 @@ impl<W: Words> TermNotation for Plain<'_, W> {
       constructor = W.constructors n.words.now;
     }) };
 
-    #[inline(always)] // so that the loop over terms has the registers
+    #[inline(always)] // so that the loop over terms gets the registers
     fn no_term(&self) -> &[u8] {
         b"()"
     }
@@ -55,7 +55,7 @@ impl<W: Words> TermNotation for Plain<'_, W> {
     }
 
     fn most(&self) -> Option<MostBytes> {
-        // an escape has four bytes, and a quote and a comma stand behind a text
+        // an escape has four bytes, and a quote and a comma follow a text
         Some(MostBytes {
             of_term: self.words.longest().checked_add(4)?,
             of_byte: 4,

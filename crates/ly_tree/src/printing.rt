@@ -11,20 +11,20 @@ use crate::notation::TermNotation;
 use ly_base::{RuleNo, Sym};
 use ly_print::{Front, Sink, TextWriter, WriteFault};
 
-/// What is left of a term that is being printed, with a stack in place of recursion. The text stands apart, since that
-/// is handed to others by reference, and then has no registers.
+/// The unprinted rest of a term, with a stack in place of recursion. The text isn't a field, because it is passed by
+/// reference and would keep the fields out of registers.
 #[derive(Drop)]
 pub(crate) struct Printing<'f> {
-    /// Of the node that was begun last and isn't ended, the children behind the one that is printed.
+    /// The remaining children, after the one being printed, of the innermost open node.
     pub(crate) others: &'f [TermRef],
-    /// Of each node around that one, the outermost first, the children that aren't begun; before them all, no children.
+    /// For each open node around that one, the outermost first, its remaining children; before them all, an empty list.
     pub(crate) waiting: Vec<&'f [TermRef]>,
 }
 
 impl<'f> Printing<'f> {
-    /// Prints a term as far as its first child, and answers that. A term without children is printed whole, with what
-    /// stands before the next term, which is then answered, if there is one.
-    #[inline(always)] // so that the loop over terms has the registers
+    /// Prints a term up to its first child, and returns that child. A term without children is printed completely, with
+    /// what precedes the next term. Then the next term is returned, if there is one.
+    #[inline(always)] // so that the loop over terms gets the registers
     pub(crate) fn print<N: TermNotation, S: Sink>(
         &mut self,
         out: &mut TextWriter,
@@ -63,8 +63,8 @@ impl<'f> Printing<'f> {
         Ok(Some(*first))
     }
 
-    /// Prints what stands before the next term, and answers it, if there is one.
-    #[inline(always)] // so that the loop over terms has the registers
+    /// Prints what precedes the next term, and returns that term, if there is one.
+    #[inline(always)] // so that the loop over terms gets the registers
     fn go_on<N: TermNotation, S: Sink>(
         &mut self,
         out: &mut TextWriter,
@@ -104,8 +104,8 @@ impl<'f> Printing<'f> {
     }
 }
 
-/// Prints what stands before the children of a term: of one that is no node, all of it. Answers the children of a node.
-#[inline(always)] // so that the loop over terms has the registers
+/// Prints the opening of a term, which is all of it unless it is a node. Returns the children of a node.
+#[inline(always)] // so that the loop over terms gets the registers
 fn begin<'f, N: TermNotation, S: Sink>(
     out: &mut TextWriter,
     writer: &mut S,

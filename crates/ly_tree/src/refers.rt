@@ -3,12 +3,12 @@ ghost use Rattle.ly_tree.specs.declared.forest.TermRef as code;
 
 use crate::forest::TermRef;
 
-/// What refers to a term of a forest, as a level of a parser's stack does.
+/// A value that refers to a term of a forest, such as a level of a parser's stack.
 pub trait Refers {
-    /// What stands for the term.
+    /// The reference to the term.
     ghost referred: { Self → code.TermRef };
 
-    /// What stands for the term.
+    /// The reference to the term.
     fn term(&self) -> TermRef
         ensures { result ≡ referred self.now };
 }

@@ -1,12 +1,12 @@
 use ly_base::RuleNo;
 
-/// A node: its rule, and where its children stand among those of the forest.
+/// A node: its rule, and the range of its children among those of the forest.
 #[derive(Clone, Copy)]
 pub struct Span {
     /// The rule.
     pub rule: RuleNo,
-    /// How many children of other nodes stand before its own.
+    /// The index of its first child among the children of all nodes.
     pub start: usize,
-    /// How many children it has.
+    /// The number of its children.
     pub count: usize,
 }

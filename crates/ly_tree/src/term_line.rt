@@ -19,18 +19,18 @@ use ly_print::{MemSink, Sink, TextWriter, WriteFault};
 use std::alloc::Global;
 use std::marker::Model;
 
-/// The line of a term, ready to be written: all room that this takes is made, so that nothing but a write can fail.
+/// The line of a term, ready to be written. All allocations have been made, so only a write can fail.
 #[derive(Drop)]
 pub struct TermLine<'f, N: TermNotation> {
     /// The term.
     root: TermRef,
     /// Its forest.
     forest: &'f Forest,
-    /// How it is written.
+    /// The notation.
     notation: &'f N,
-    /// The text, of which there is none yet.
+    /// The buffer for the text, empty so far.
     out: TextWriter,
-    /// What is left of the term, and room for children that wait.
+    /// The rest of the term, with capacity for the waiting children.
     printing: Printing<'f>,
 }
 
@@ -49,7 +49,7 @@ impl<'f, N: TermNotation> Model for TermLine<'f, N> {
 }
 
 impl Forest {
-    /// The line of a term. It fails where memory runs out.
+    /// The line of a term. It fails if an allocation fails.
     pub fn line<'f, N: TermNotation>(
         &'f self,
         alloc: Global,
@@ -63,7 +63,7 @@ impl Forest {
     {
         self.are_bytes();
         let most = notation.most().ok_or(OutOfMemory)?;
-        // a line is no longer than that
+        // a line isn't longer than that
         self.longest_line(most).ok_or(OutOfMemory)?;
         Ok(TermLine {
             root,
@@ -77,7 +77,7 @@ impl Forest {
         })
     }
 
-    /// The plain text of a term. It fails where memory runs out.
+    /// The plain text of a term. It fails if an allocation fails.
     pub fn show<W: Words>(
         &self,
         alloc: Global,
@@ -92,7 +92,7 @@ impl Forest {
         let plain = Plain::new(words);
         let line = self.line(alloc, &plain, root)?;
         let mut sink = MemSink::new(alloc);
-        // its only failure is want of memory
+        // its only failure is out of memory
         let Ok(()) = line.write(&mut sink) else {
             return Err(OutOfMemory);
         };
@@ -106,8 +106,8 @@ impl Forest {
 impl<N: TermNotation> TermLine<'_, N> {
     /// Writes the line.
     ///
-    /// It fails where the writer does.
-    #[inline(never)] // so that it has the registers
+    /// It fails if the writer does.
+    #[inline(never)] // so that its loop gets the registers
     pub fn write<S: Sink>(self, writer: &mut S) -> Result<(), WriteFault>
         ensures ok { OnOk result (Appends (S.contents writer.old) (S.contents writer.new) self.entry) }
         ensures cut_short { IfErr result (λ fault.

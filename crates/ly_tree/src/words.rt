@@ -4,7 +4,7 @@ ghost use Rattle.ly_print.specs.Text.{before_leaf, token};
 use ly_base::{RuleNo, Sym};
 use ly_print::Label;
 
-/// The names by which terms are printed. Every number has one.
+/// The names for printing terms. Every number has one.
 pub trait Words {
     /// The names of terminals.
     ghost terminals: { Self → ℕ → List ℕ };
@@ -12,15 +12,15 @@ pub trait Words {
     /// The constructors of rules.
     ghost constructors: { Self → ℕ → List ℕ };
 
-    /// What stands before the text of a leaf: the terminal's name and a double quote.
+    /// The text before that of a leaf: the terminal's name and a double quote.
     fn leaf_label(&self, terminal: Sym) -> &Label
         ensures { result.now ≡ before_leaf (token (terminals self.now terminal.0)) };
 
-    /// What stands before the children of a node: the rule's constructor and a parenthesis.
+    /// The text before the children of a node: the rule's constructor and a parenthesis.
     fn node_label(&self, rule: RuleNo) -> &Label
         ensures { result.now ≡ constructors self.now rule.0 ++ codes "(" };
 
-    /// A length that no label passes.
+    /// A length that no label exceeds.
     fn longest(&self) -> usize
         ensures leaves { (t : ℕ) → length (before_leaf (token (terminals self.now t))) ≤ result }
         ensures nodes { (p : ℕ) → length (constructors self.now p ++ codes "(") ≤ result };

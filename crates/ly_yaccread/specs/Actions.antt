@@ -1,4 +1,4 @@
--- The actions of a yacc file, which say what the tree of a rule is.
+-- The actions of a yacc file, which define the tree of each rule.
 use Rattle.std.specs.Prelude.{◌≡◌, ◌≢◌, ◌⊎◌, ◌<◌, ◌≤◌, ◌^◌, ℕ, List, [], ◌∷◌, ◌++◌, false, nat_eq, codes}
 use Rattle.std.specs.List.{list_any}
 use Rattle.ly_base.specs.Escapes.{AllPass, number as number_of}
@@ -9,14 +9,14 @@ use Rattle.ly_yaccread.specs.Words.{Word, mark, name, number}
 use Rattle.ly_yaccread.specs.declared.words.Mark.TheVariants.{Whole, Dollar, Semicolon, OpenBrace, CloseBrace}
 use Rattle.ly_yaccread.specs.declared.words.Mark.TheVariants.{OpenParenthesis, CloseParenthesis, Equals, Comma}
 
--- What the tree of a rule is: what no action makes of it, the tree at a place of its body, or a node of this
--- constructor with the trees at these places as its children.
+-- The tree of a rule: the default of a rule without an action, the tree at a place of its body, or a node with this
+-- constructor and the trees at these places as its children.
 pub data Making : Type 0 where
   default : Making
   pass : ℕ → Making
   build : List ℕ → List ℕ → Making
 
--- Digits spell a place of a body of so many symbols: decimal, without leading zeros, from 1, and below 2 ^ 32.
+-- Digits spell a place of a body of this many symbols: decimal, without leading zeros, at least 1, and below 2 ^ 32.
 pub record IsPlace (symbols : ℕ) (ds : List ℕ) (p : ℕ) : Type 0 where
   pub decimal : AllPass is_decimal ds
   pub no_zero : (t : List ℕ) → ds ≢ 48 ∷ t
@@ -29,14 +29,14 @@ pub record IsPlace (symbols : ℕ) (ds : List ℕ) (p : ℕ) : Type 0 where
 abbrev pub PlaceFirst : ℕ → List Word → ℕ → List Word → Type 0
 PlaceFirst symbols ws p rest = (ds : List ℕ) × (ws ≡ mark Dollar ∷ number ds ∷ rest) × IsPlace symbols ds p
 
--- Behind places: a `)`, or a `,` and a place that wasn't named yet, and so on. All places, and the rest.
+-- After some places: a `)`, or a `,`, a new place, and so on. All places, and the rest.
 pub data MorePlaces (symbols : ℕ) : List ℕ → List Word → List ℕ → List Word → Type 0 where
   last : (ps : List ℕ) (rest : List Word) → MorePlaces symbols ps (mark CloseParenthesis ∷ rest) ps rest
   more : (ps all : List ℕ) (p : ℕ) (ws behind rest : List Word) → PlaceFirst symbols ws p behind
       → list_any (nat_eq p) ps ≡ false → MorePlaces symbols (ps ++ p ∷ []) behind all rest
       → MorePlaces symbols ps (mark Comma ∷ ws) all rest
 
--- the places between parentheses, behind the one that opens, and the rest
+-- the places after an opening parenthesis, and the rest after the closing one
 pub data Places (symbols : ℕ) : List Word → List ℕ → List Word → Type 0 where
   none : (rest : List Word) → Places symbols (mark CloseParenthesis ∷ rest) [] rest
   some : (ps : List ℕ) (p : ℕ) (ws behind rest : List Word) → PlaceFirst symbols ws p behind
@@ -54,7 +54,7 @@ pub record ActionFirst (symbols : ℕ) (ws : List Word) (m : Making) (rest : Lis
   pub opens : ws ≡ mark OpenBrace ∷ mark Whole ∷ mark Equals ∷ behind
   pub value : ValueFirst symbols behind m (mark Semicolon ∷ mark CloseBrace ∷ rest)
 
--- what stands behind the action that comes first, or all where no `{` does
+-- the action that comes first, or the default if no `{` does, and the words after it
 abbrev pub ActionPassed : ℕ → List Word → Making → List Word → Type 0
 ActionPassed symbols ws m rest = ActionFirst symbols ws m rest
     ⊎ (NoMark OpenBrace ws × (m ≡ default) × (ws ≡ rest))

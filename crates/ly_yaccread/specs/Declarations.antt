@@ -10,7 +10,7 @@ use Rattle.ly_yaccread.specs.declared.file.DeclarationKind.TheVariants.{Token, L
 use Rattle.ly_yaccread.specs.declared.listing.Listing.TheVariants.{Plain, Numbered}
 use Rattle.ly_yaccread.specs.declared.words.Mark.TheVariants.{Section}
 
--- what stands behind the `%` of a directive
+-- the name after the `%` of a directive
 abbrev pub directive_name : Directive → List ℕ
 directive_name (Tokens Token) = codes "token"
 directive_name (Tokens Left) = codes "left"
@@ -20,14 +20,14 @@ directive_name Types = codes "type"
 directive_name Start = codes "start"
 directive_name Union = codes "union"
 
--- What a declaration says: what these tokens are, and how many words are left from each of them on; where the grammar
--- starts; or nothing that is used.
+-- The content of a declaration: tokens, with the number of words left from each of them on; the start symbol; or
+-- nothing that is used.
 pub data Saying : Type 0 where
   tokens : DeclarationKind → List Word → List ℕ → Saying
   start : List ℕ → Saying
   nothing : Saying
 
--- what stands behind a directive, what the declaration says, and the rest
+-- what follows a directive, the content of the declaration, and the rest
 abbrev pub FollowsDirective : Directive → List Word → Saying → List Word → Type 0
 FollowsDirective (Tokens k) ws s rest
     = (xs : List Word) × (ns : List ℕ) × SymbolList Numbered ws xs ns rest × (s ≡ tokens k xs ns)
@@ -35,23 +35,23 @@ FollowsDirective Types ws s rest = (xs : List Word) × (ns : List ℕ) × Symbol
 FollowsDirective Start ws s rest = (n : List ℕ) × (ws ≡ name n ∷ rest) × (n ≢ codes "error") × (s ≡ start n)
 FollowsDirective Union ws s rest = (ws ≡ braces ∷ rest) × (s ≡ nothing)
 
--- a declaration, what it says, and the rest: a block, or a directive and what follows it
+-- a declaration, its content, and the rest: a block, or a directive and what follows it
 abbrev pub Declares : List Word → Saying → List Word → Type 0
 Declares ws s rest = ((ws ≡ block ∷ rest) × (s ≡ nothing))
     ⊎ ((d : Directive) × (behind : List Word) × (ws ≡ directive (directive_name d) ∷ behind)
     × FollowsDirective d behind s rest)
 
--- Tokens that are declared together.
+-- The tokens of one declaration.
 pub record Declared : Type 0 where
   pub kind : DeclarationKind
   pub symbols : List Word
 
--- What declarations say together.
+-- The content of all declarations.
 pub record Preamble : Type 0 where
   pub declarations : List Declared
   pub start : Option (List ℕ)
 
--- What declarations say together, and how many words are left from each of their tokens on.
+-- The content of all declarations, with the number of words left from each of their tokens on.
 pub record Declaring : Type 0 where
   pub preamble : Preamble
   pub tokens : List ℕ
@@ -60,12 +60,12 @@ pub record Declaring : Type 0 where
 abbrev pub none_declared : Declaring
 none_declared = record { preamble = record { declarations = []; start = None }; tokens = [] }
 
--- where the grammar starts is said once
+-- the start symbol may be declared once
 abbrev pub with_start : List Declared → Option (List ℕ) → List ℕ → Option Preamble
 with_start ds None n = Some (record { declarations = ds; start = Some n })
 with_start ds (Some m) n = None
 
--- what is said with one declaration more
+-- the content with one declaration more
 abbrev pub with_saying : Declaring → Saying → Option Declaring
 with_saying h (tokens k xs ns) = Some (record {
   preamble = record {
@@ -78,8 +78,7 @@ with_saying h (start n) = option_map (λ p. record { preamble = p; tokens = h.to
     (with_start h.preamble.declarations h.preamble.start n)
 with_saying h nothing = Some h
 
--- the declarations up to the first `%%`, which go on from what was said before them, what is said in the end, and
--- the rest
+-- the declarations up to the first `%%`: the content before them, the content with them, and the rest
 pub data Declarations : Declaring → List Word → Declaring → List Word → Type 0 where
   end : (h : Declaring) (rest : List Word) → Declarations h (mark Section ∷ rest) h rest
   more : (h i all : Declaring) (ws behind rest : List Word) (s : Saying) → Declares ws s behind

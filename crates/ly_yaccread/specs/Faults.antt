@@ -1,4 +1,4 @@
--- The faults of a yacc file: their numbers, their names, and where they stand.
+-- The errors of a yacc file: their numbers, names and offsets.
 use Rattle.std.specs.Prelude.{◌≡◌, ◌⊎◌, ◌-◌, ◌≤◌, ℕ, List, Option, Some, None, Contains, codes, length}
 use Rattle.ly_yaccread.specs.Words.{Word, AreWordsOf}
 use Rattle.ly_yaccread.specs.declared.fault.YaccFault.{YaccFault}
@@ -9,7 +9,7 @@ use Rattle.ly_yaccread.specs.declared.fault.YaccFaultKind.TheVariants.{BadLitera
 use Rattle.ly_yaccread.specs.declared.fault.YaccFaultKind.TheVariants.{DollarTwice, ErrorToken, MidRuleAction}
 use Rattle.ly_yaccread.specs.declared.fault.YaccFaultKind.TheVariants.{UnclosedComment}
 
--- the number that a fault is printed with
+-- the number that an error is printed with
 abbrev pub kind_number : YaccFaultKind → ℕ
 kind_number NoRulesMark = 30
 kind_number BadDeclaration = 31
@@ -22,12 +22,12 @@ kind_number ErrorToken = 37
 kind_number MidRuleAction = 38
 kind_number UnclosedComment = 39
 
--- want of memory has none
+-- out of memory has none
 abbrev pub yacc_number : YaccFault → Option ℕ
 yacc_number (Refused kind offset) = Some (kind_number kind)
 yacc_number OutOfMemory = None
 
--- the name that a fault is printed with
+-- the name that an error is printed with
 abbrev pub kind_name : YaccFaultKind → List ℕ
 kind_name NoRulesMark = codes "NoRulesMark"
 kind_name BadDeclaration = codes "BadDeclaration"
@@ -40,7 +40,7 @@ kind_name ErrorToken = codes "ErrorToken"
 kind_name MidRuleAction = codes "MidRuleAction"
 kind_name UnclosedComment = codes "UnclosedComment"
 
--- want of memory is named too
+-- out of memory has a name too
 abbrev pub yacc_name : YaccFault → List ℕ
 yacc_name (Refused kind offset) = kind_name kind
 yacc_name OutOfMemory = codes "OutOfMemory"
@@ -50,7 +50,7 @@ abbrev pub IsWordOffset : List ℕ → ℕ → Type 0
 IsWordOffset bytes offset = (ws : List Word) × (offsets : List ℕ) × AreWordsOf bytes ws offsets
     × Contains offsets offset
 
--- The fault stands at a word of the file, or at its last byte, so at offset 0 of an empty one.
+-- The offset of the error is that of a word of the file, or of its last byte, or 0 if the file is empty.
 abbrev pub StandsAt : List ℕ → YaccFault → Type 0
 StandsAt bytes (Refused kind offset) = IsWordOffset bytes offset ⊎ (offset ≡ length bytes - 1)
 StandsAt bytes OutOfMemory = Unit {0}

@@ -1,4 +1,4 @@
--- What a yacc file says, whatever room its lists have.
+-- The content of a yacc file, whatever the capacities of its lists.
 use Rattle.std.specs.Prelude.{ℕ, List, map}
 use Rattle.std.specs.Option.{option_map}
 use Rattle.std.specs.Rc.{rc_slice_items}
@@ -23,7 +23,7 @@ symbol_word (Literal b) = literal b
 abbrev pub symbol_words : List SymbolName → List Word
 symbol_words symbols = map symbol_word symbols
 
--- what an action makes
+-- the tree that an action builds
 abbrev pub making_of : TreeAction → Making
 making_of Default = default
 making_of (Pass p) = pass p
@@ -38,19 +38,19 @@ ruling_of p = record {
   making = making_of p.action;
 }
 
--- tokens that are declared together
+-- the tokens of one declaration
 abbrev pub declared_of : Declaration → Declared
 declared_of d = record { kind = d.kind; symbols = symbol_words d.symbols.items }
 
--- What a yacc file says: its declarations and start, and its rules; and where the tokens that are declared stand, one
--- declaration behind the other, and each rule.
+-- The content of a yacc file: its declarations, start symbol and rules; the offsets of the declared tokens, declaration
+-- by declaration, and of each rule.
 pub record Written : Type 0 where
   pub preamble : Preamble
   pub rules : List Ruling
   pub token_offsets : List ℕ
   pub rule_offsets : List RuleOffsets
 
--- what a value of a yacc file says
+-- the content of a value of a yacc file
 abbrev pub written_of : YaccFile → Written
 written_of f = record {
   preamble = record { declarations = map declared_of f.declarations.items; start = option_map (λ n. n.items) f.start };

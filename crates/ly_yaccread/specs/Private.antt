@@ -1,5 +1,5 @@
--- What contracts of private functions cite: what the reader of yacc files finds on its way. No public contract rests on
--- it.
+-- Cited by contracts of private functions: intermediate results of the reader of yacc files. No public contract depends
+-- on it.
 pub mod Read
 pub mod Refusals
 pub mod Words

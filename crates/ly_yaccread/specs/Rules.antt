@@ -6,18 +6,18 @@ use Rattle.ly_yaccread.specs.Words.{Word, mark, directive, name}
 use Rattle.ly_yaccread.specs.declared.standing.Standing.{Standing}
 use Rattle.ly_yaccread.specs.declared.words.Mark.TheVariants.{Section, Colon, Bar, Semicolon}
 
--- The symbol behind the `%prec` that comes first, and the rest; none, and all, where no `%prec` does.
+-- The symbol of a `%prec` that comes first, and the rest. If no `%prec` comes first: no symbol, and all words.
 abbrev pub PrecedencePassed : List Word → Option Word → List Word → Type 0
 PrecedencePassed ws (Some x) rest = (behind : List Word) × (ws ≡ directive (codes "prec") ∷ behind)
     × SymbolFirst behind x rest
 PrecedencePassed ws None rest = ((s : List Word) → ws ≢ directive (codes "prec") ∷ s) × (ws ≡ rest)
 
--- an action may stand behind a `%prec` where none stood before it
+-- an action may follow a `%prec` if none precedes it
 abbrev pub LateAction : ℕ → Making → Option Word → List Word → Making → List Word → Type 0
 LateAction symbols default (Some x) ws m rest = ActionPassed symbols ws m rest
 LateAction symbols early _ ws m rest = (m ≡ early) × (ws ≡ rest)
 
--- Behind the symbols of a body: perhaps an action, and perhaps a `%prec`.
+-- After the symbols of a body: an optional action and an optional `%prec`.
 pub record BodyEnd (symbols : ℕ) (ws : List Word) (precedence : Option Word) (making : Making) (rest : List Word)
     : Type 0 where
   pub early : Making
@@ -27,37 +27,37 @@ pub record BodyEnd (symbols : ℕ) (ws : List Word) (precedence : Option Word) (
   pub has_precedence : PrecedencePassed behind precedence left
   pub late : LateAction symbols early precedence left making rest
 
--- A rule: its left side, the symbols of its body, the symbol behind `%prec`, and what its tree is.
+-- A rule: its left side, the symbols of its body, the symbol after `%prec`, and its tree.
 pub record Ruling : Type 0 where
   pub left : List ℕ
   pub body : List Word
   pub precedence : Option Word
   pub making : Making
 
--- A body, the rule of this left side that it makes, and the rest.
+-- A body, its rule for this left side, and the rest.
 pub record Body (n : List ℕ) (ws : List Word) (r : Ruling) (rest : List Word) : Type 0 where
   pub same_left : r.left ≡ n
   pub behind : List Word
   pub symbols : Symbols ws r.body behind
   pub body_end : BodyEnd (length r.body) behind r.precedence r.making rest
 
--- A left side, and how many words are left from its name on.
+-- A left side, and the number of words left from its name on.
 pub record LeftSide : Type 0 where
   pub symbol : List ℕ
   pub left : ℕ
 
--- A body of this left side follows: behind the name and a `:`, or behind a `|` where it was the last left side.
+-- A body of this left side follows: after the name and a `:`, or after a `|` if the last rule had this left side.
 abbrev pub BodyFollows : Option LeftSide → List Word → LeftSide → List Word → Type 0
 BodyFollows last ws l behind
     = ((ws ≡ name l.symbol ∷ mark Colon ∷ behind) × (l.symbol ≢ codes "error") × (l.left ≡ length ws))
     ⊎ ((last ≡ Some l) × (ws ≡ mark Bar ∷ behind))
 
--- the words are over, or the second `%%` comes first
+-- no word is left, or the second `%%` comes first
 abbrev pub AreRulesOver : List Word → Type 0
 AreRulesOver ws = (ws ≡ []) ⊎ ((rest : List Word) × (ws ≡ mark Section ∷ rest))
 
--- The rules go on from the last left side: they are over, or a rule comes, or a `;` behind rules. Where each stands is
--- said beside them.
+-- The rules after the last left side: none, or a rule and the rest, or a `;` after a rule and the rest. Each rule has
+-- its location.
 pub data YaccRules : Option LeftSide → List Word → List Ruling → List Standing → Type 0 where
   end : (last : Option LeftSide) (ws : List Word) → AreRulesOver ws → YaccRules last ws [] []
   rule : (last : Option LeftSide) (l : LeftSide) (ws behind rest : List Word) (r : Ruling) (rs : List Ruling)

@@ -13,8 +13,8 @@ use Rattle.ly_yaccread.specs.declared.words.Mark.TheVariants.{Section, Block, Wh
 use Rattle.ly_yaccread.specs.declared.words.Mark.TheVariants.{OpenBrace, CloseBrace, OpenParenthesis}
 use Rattle.ly_yaccread.specs.declared.words.Mark.TheVariants.{CloseParenthesis, OpenTag, CloseTag, Equals, Comma}
 
--- A word of a yacc file: a mark, a `%` and a name, a name, the digits of a number, a literal of a byte, a block
--- `%{ .. %}`, what stands between braces, or anything else, behind which no word is read.
+-- A word of a yacc file: a mark, a directive, a name, the digits of a number, a literal of a byte, a block `%{ .. %}`,
+-- braces and the text between them, or anything else, after which no word is read.
 pub data Word : Type 0 where
   mark : Mark → Word
   directive : List ℕ → Word
@@ -43,7 +43,7 @@ spelling CloseTag = codes ">"
 spelling Equals = codes "="
 spelling Comma = codes ","
 
--- what a mark may not have behind it: `$` isn't read where `$$` stands
+-- what may follow a mark: no second `$` follows a `$`
 abbrev pub MayFollow : Mark → List ℕ → Type 0
 MayFollow Dollar rest = Stops (nat_eq 36) rest
 MayFollow m rest = Unit {0}
@@ -56,7 +56,7 @@ MarkBefore text m rest = (text ≡ spelling m ++ rest) × MayFollow m rest
 abbrev pub DirectiveBefore : List ℕ → List ℕ → List ℕ → Type 0
 DirectiveBefore text n rest = (behind : List ℕ) × (text ≡ codes "%" ++ behind) × NameBefore Yacc behind n rest
 
--- the text is a word of one piece and then the rest
+-- the text is a mark, a directive, a name, a number or a literal, and then the rest
 abbrev pub Begins : List ℕ → Word → List ℕ → Type 0
 Begins text (mark m) rest = MarkBefore text m rest
 Begins text (directive n) rest = DirectiveBefore text n rest
@@ -65,17 +65,17 @@ Begins text (number ds) rest = DigitsBefore text ds rest
 Begins text (literal b) rest = Literal text b rest
 Begins text _ rest = ⊥
 
--- the text is a gap, a word and the rest
+-- the text is whitespace and comments, a word and the rest
 abbrev pub HasInFront : List ℕ → Word → List ℕ → Type 0
 HasInFront text x rest = WordBefore Begins Yacc text x rest
 
--- A mark that stands for itself: in the declarations `%{` begins a block, and `{` what stands between braces.
+-- A mark that is a word of its own: in the declarations `%{` begins a block, and `{` begins text in braces.
 abbrev pub IsPlain : Part → Mark → Type 0
 IsPlain Declarations m = (m ≢ Block) × (m ≢ OpenBrace)
 IsPlain p m = Unit {0}
 
--- The text is a gap, a word of this part of a file, and the rest. A block goes to its first `%}`; braces are counted as
--- plain bytes.
+-- The text is whitespace and comments, a word of this part of a file, and the rest. A block ends at its first `%}`;
+-- braces are counted as plain bytes.
 abbrev pub Takes : Part → List ℕ → Word → List ℕ → Type 0
 Takes p text (mark m) rest = HasInFront text (mark m) rest × IsPlain p m
 Takes p text block rest = (p ≡ Declarations) × (inside : List ℕ) × HasInFront text (mark Block) inside
@@ -84,22 +84,22 @@ Takes p text braces rest = (p ≡ Declarations) × (inside : List ℕ) × HasInF
     × Closes 0 inside rest
 Takes p text x rest = HasInFront text x rest
 
--- the part of a file that a word leads to: each `%%` ends one
+-- the part of a file after a word: each `%%` ends a part
 abbrev pub part_behind : Part → Word → Part
 part_behind Declarations (mark Section) = Rules
 part_behind Rules (mark Section) = Programs
 part_behind p x = p
 
--- what stands behind the gap in front of a text
+-- the text after leading whitespace and comments
 abbrev pub GapPassed : List ℕ → List ℕ → Type 0
 GapPassed text rest = GapBefore Yacc text rest × GapEnds Yacc rest
 
--- The text ends a file of so many bytes, and what stands behind the gap in front of it begins at this offset.
+-- The text is the end of a file of this many bytes, and its first byte after whitespace and comments has this offset.
 abbrev pub BeginsAt : ℕ → List ℕ → ℕ → Type 0
 BeginsAt bytes text offset = (rest : List ℕ) × GapPassed text rest × (offset + length rest ≡ bytes)
 
--- The words of a text that stands in this part of a file of so many bytes, which it ends, and the offset of each. In
--- the programs everything is free. Where no word can be read, one that is anything else ends the list.
+-- The words of a text, which is in this part of a file of this many bytes and goes to its end, and the offset of each.
+-- In the programs any bytes are allowed. If no word can be read, the list ends with a word that is anything else.
 pub data Wording (bytes : ℕ) : Part → List ℕ → List Word → List ℕ → Type 0 where
   free : (text : List ℕ) → Wording bytes Programs text [] []
   end : (p : Part) (text : List ℕ) → Gap Yacc text → Wording bytes p text [] []

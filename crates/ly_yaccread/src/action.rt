@@ -16,8 +16,8 @@ use crate::words::Mark;
 use ly_base::{Language, SparseSet, leading_name};
 use std::alloc::Global;
 
-/// Reads the action that comes first, of a body of so many symbols, and answers it and what is left behind it;
-/// where no `{` comes first, that is `Default`, and all.
+/// Reads the action at the front, for a body of this many symbols. Returns it and the words after it. If the first word
+/// isn't `{`, the action is `Default` and no word is consumed.
 pub(crate) fn read_action(
     alloc: Global,
     words: Cursor<'_>,
@@ -35,7 +35,7 @@ pub(crate) fn read_action(
     Ok((action, rest))
 }
 
-/// What is left behind these two marks, which have to come first.
+/// Returns the words after these two marks, which must come first.
 fn after_both(words: Cursor<'_>, first: Mark, second: Mark) -> Result<Cursor<'_>, Refusal>
     ensures { MatchResult result
         (λ rest. words_left words.entry ≡ mark_word first ∷ mark_word second ∷ words_left rest)
@@ -50,7 +50,7 @@ fn after_both(words: Cursor<'_>, first: Mark, second: Mark) -> Result<Cursor<'_>
     }
 }
 
-/// Reads a value: a place, or a constructor and places between parentheses.
+/// Reads a value: a place, or a constructor and places in parentheses.
 fn read_value(
     alloc: Global,
     words: Cursor<'_>,
@@ -75,7 +75,7 @@ fn read_value(
     Ok((TreeAction::Build(node), rest))
 }
 
-/// Whether the name is one of a lex file.
+/// Whether the name is a valid name of a lex file.
 fn is_constructor(name: &[u8]) -> bool
     ensures { MatchBool result (IsName Lex name.now) (IsName Lex name.now → ⊥) }
 {
@@ -85,7 +85,7 @@ fn is_constructor(name: &[u8]) -> bool
     }
 }
 
-/// Reads the places between parentheses, behind the one that opens, and the one that closes.
+/// Reads the places after an opening parenthesis, and the closing one.
 fn read_places(
     alloc: Global,
     words: Cursor<'_>,
@@ -104,7 +104,7 @@ fn read_places(
     Ok((Vec::from_slice(alloc, places.members())?, rest))
 }
 
-/// Adds the places that stand behind those that are named already, each behind a `,`, up to the `)`.
+/// Adds the remaining places up to the `)`, each after a `,`.
 fn more_places<'t>(
     places: &mut SparseSet,
     words: Cursor<'t>,

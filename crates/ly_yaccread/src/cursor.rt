@@ -7,17 +7,17 @@ ghost use Rattle.ly_yaccread.specs.Words.{block as block_word, braces as braces_
 
 use crate::words::{FileWord, Mark, NextWord};
 
-/// The words of a file that are left.
+/// The words of a file that are still to be read.
 #[derive(Clone, Copy)]
 pub(crate) struct Cursor<'t> {
     /// The bytes of the file.
     pub(crate) text: &'t [u8],
-    /// The words that are left.
+    /// The words still to be read.
     pub(crate) left: &'t [FileWord<'t>],
 }
 
 impl<'t> Cursor<'t> {
-    /// The first word, and what is left behind it.
+    /// The first word, and the words after it.
     pub(crate) fn next(self) -> Option<(NextWord<'t>, Cursor<'t>)>
         ensures { MatchOption result (words_left self.entry ≡ [])
             (λ found. words_left self.entry ≡ word_of found.0 ∷ words_left found.1) }
@@ -26,7 +26,7 @@ impl<'t> Cursor<'t> {
         Some((first.word, Cursor { left, ..self }))
     }
 
-    /// What is left behind this mark, if it comes first.
+    /// The words after this mark, if it comes first.
     pub(crate) fn after(self, mark: Mark) -> Option<Cursor<'t>>
         ensures { MatchOption result (NoMark mark (words_left self.entry))
             (λ rest. words_left self.entry ≡ mark_word mark ∷ words_left rest) }
@@ -38,7 +38,7 @@ impl<'t> Cursor<'t> {
         }
     }
 
-    /// The name that comes first, and what is left behind it. The name `error` is none.
+    /// The name that comes first, and the words after it. `error` doesn't count as a name.
     pub(crate) fn name(self) -> Option<(&'t [u8], Cursor<'t>)>
         ensures { MatchOption result ((n : List ℕ) (rest : List Word) → NameFirst (words_left self.entry) n rest → ⊥)
             (λ found. NameFirst (words_left self.entry) found.0.now (words_left found.1)) }
@@ -56,7 +56,7 @@ impl<'t> Cursor<'t> {
         }
     }
 
-    /// The digits of the number that comes first, and what is left behind it.
+    /// The digits of the number that comes first, and the words after it.
     pub(crate) fn number(self) -> Option<(&'t [u8], Cursor<'t>)>
         ensures { MatchOption result ((ds : List ℕ) (rest : List Word) → words_left self.entry ≢ number_word ds ∷ rest)
             (λ found. words_left self.entry ≡ number_word found.0.now ∷ words_left found.1) }
@@ -68,7 +68,7 @@ impl<'t> Cursor<'t> {
         }
     }
 
-    /// The byte of the literal that comes first, and what is left behind it.
+    /// The byte of the literal that comes first, and the words after it.
     pub(crate) fn literal(self) -> Option<(u8, Cursor<'t>)>
         ensures { MatchOption result ((b : ℕ) (rest : List Word) → words_left self.entry ≢ literal_word b ∷ rest)
             (λ found. words_left self.entry ≡ literal_word found.0 ∷ words_left found.1) }
@@ -80,7 +80,7 @@ impl<'t> Cursor<'t> {
         }
     }
 
-    /// The name of the directive that comes first, and what is left behind it.
+    /// The name of the directive that comes first, and the words after it.
     pub(crate) fn directive(self) -> Option<(&'t [u8], Cursor<'t>)>
         ensures { MatchOption result ((n : List ℕ) (rest : List Word)
             → words_left self.entry ≢ directive_word n ∷ rest)
@@ -93,7 +93,7 @@ impl<'t> Cursor<'t> {
         }
     }
 
-    /// What is left behind the block that comes first.
+    /// The words after the block that comes first.
     pub(crate) fn block(self) -> Option<Cursor<'t>>
         ensures { MatchOption result ((rest : List Word) → words_left self.entry ≢ block_word ∷ rest)
             (λ rest. words_left self.entry ≡ block_word ∷ words_left rest) }
@@ -105,7 +105,7 @@ impl<'t> Cursor<'t> {
         }
     }
 
-    /// What is left behind the braces that come first, and what stands between them.
+    /// The words after the braces, with their content, that come first.
     pub(crate) fn braces(self) -> Option<Cursor<'t>>
         ensures { MatchOption result ((rest : List Word) → words_left self.entry ≢ braces_word ∷ rest)
             (λ rest. words_left self.entry ≡ braces_word ∷ words_left rest) }
@@ -118,7 +118,7 @@ impl<'t> Cursor<'t> {
     }
 }
 
-/// Whether the name is this one.
+/// Whether the two names are equal.
 pub(crate) fn is(name: &[u8], other: &[u8]) -> bool
     ensures { MatchBool result (name.now ≡ other.now) (name.now ≢ other.now) }
 {

@@ -11,10 +11,10 @@ use crate::refusal::Refusal;
 use crate::symbols::{Listed, read_symbol_list};
 use std::alloc::Global;
 
-/// What stands behind the `%` of a declaration.
+/// What follows the `%` of a declaration.
 #[derive(Clone, Copy)]
 pub(crate) enum Directive {
-    /// A kind of tokens.
+    /// `token`, `left`, `right` or `nonassoc`.
     Tokens(DeclarationKind),
     /// `type`.
     Types,
@@ -24,18 +24,18 @@ pub(crate) enum Directive {
     Union,
 }
 
-/// What a declaration says.
+/// The content of a declaration.
 #[derive(Drop)]
 pub(crate) enum Said {
-    /// What these tokens are, and how many words are left from each of them on.
+    /// A declaration of tokens, and for each of them the number of words left from it on.
     Tokens(Declaration, Vec<usize>),
-    /// The name of the nonterminal where the grammar starts.
+    /// The name of the start symbol.
     Start(Vec<u8>),
-    /// Nothing that is used.
+    /// A declaration that is ignored: a block, `%type` or `%union`.
     Nothing,
 }
 
-/// Reads a declaration, and answers what it says and what is left behind it.
+/// Reads a declaration. Returns its content and the words after it.
 pub(crate) fn read_declaration(
     alloc: Global,
     words: Cursor<'_>,
@@ -70,7 +70,7 @@ pub(crate) fn read_declaration(
     }
 }
 
-/// The directive that comes first, and what is left behind it.
+/// The directive that comes first, and the words after it.
 fn directive_first(words: Cursor<'_>) -> Option<(Directive, Cursor<'_>)>
     ensures { MatchOption result ((d : Directive) (rest : List Word)
         → words_left words.entry ≢ directive_word (directive_name d) ∷ rest)
@@ -80,7 +80,7 @@ fn directive_first(words: Cursor<'_>) -> Option<(Directive, Cursor<'_>)>
     Some((directive_named(name)?, rest))
 }
 
-/// The directive of this name.
+/// The directive with this name.
 fn directive_named(name: &[u8]) -> Option<Directive>
     ensures { MatchOption result ((d : Directive) → name.now ≢ directive_name d) (λ d. name.now ≡ directive_name d) }
 {

@@ -10,19 +10,19 @@ use crate::refusal::Refusal;
 use crate::words::Mark;
 use std::alloc::{AllocError, Global};
 
-/// What the declarations say together.
+/// The content of all declarations.
 #[derive(Drop)]
 pub(crate) struct Preamble {
     /// The declarations that name tokens, in the order of the text.
     pub(crate) declarations: Vec<Declaration>,
-    /// The name behind `%start`, where it stands.
+    /// The name after `%start`, if there is one.
     pub(crate) start: Option<Vec<u8>>,
-    /// How many words are left from each token of the declarations on.
+    /// For each token of the declarations, the number of words left from it on.
     pub(crate) tokens: Vec<usize>,
 }
 
 impl Preamble {
-    /// Adds what a declaration says, and answers whether it may be said: a second start may not.
+    /// Adds the content of a declaration. Returns false for a second `%start`.
     fn add(&mut self, said: Said) -> Result<bool, AllocError>
         ensures { IfOk result (λ added. MatchBool added
             (with_saying (declaring_of self.old) (saying_of said) ≡ Some (declaring_of self.new))
@@ -45,7 +45,7 @@ impl Preamble {
     }
 }
 
-/// Reads the declarations and the `%%` behind them.
+/// Reads the declarations and the `%%` after them.
 pub(crate) fn read_declarations(
     alloc: Global,
     words: Cursor<'_>,

@@ -3,12 +3,12 @@ use crate::fault::YaccFaultKind;
 use crate::refusal::Refusal;
 use crate::words::{Mark, NextWord};
 
-/// What was to stand where a file is refused.
+/// What was expected at the position where a file is rejected.
 #[derive(Clone, Copy)]
 pub(crate) enum Expected {
     /// A declaration or a part of one.
     Declaration,
-    /// What stands between the braces of a union.
+    /// The content of the braces of a union.
     Braces,
     /// A rule or a part of one.
     Rule,
@@ -19,8 +19,8 @@ pub(crate) enum Expected {
 }
 
 impl<'t> Cursor<'t> {
-    /// The refusal of words of which the first isn't what was to stand there. A word that is refused wherever it stands
-    /// comes before what was expected.
+    /// The error for words whose first one isn't what was expected. A word that is invalid everywhere is reported as
+    /// such, whatever was expected.
     pub(crate) fn refusal(self, expected: Expected) -> Refusal {
         self.refused(match self.next() {
             None => expected.kind_at_end(),
@@ -30,7 +30,7 @@ impl<'t> Cursor<'t> {
         })
     }
 
-    /// The refusal of words at their first, or at their end.
+    /// The error of this kind at the first word, or at the end of the words.
     pub(crate) fn refused(self, kind: YaccFaultKind) -> Refusal {
         Refusal::At {
             kind,
@@ -38,7 +38,7 @@ impl<'t> Cursor<'t> {
         }
     }
 
-    /// The bytes of the file from the first word that is left on.
+    /// The bytes of the file from the first unread word on.
     fn bytes(self) -> &'t [u8] {
         let offset = self.left.first().map_or(0, |first| first.offset);
         self.text.get(offset..).unwrap_or_default()
@@ -46,7 +46,7 @@ impl<'t> Cursor<'t> {
 }
 
 impl Expected {
-    /// What is wrong with a file that ends where this was to stand.
+    /// The kind of error if the file ends here.
     fn kind_at_end(self) -> YaccFaultKind {
         match self {
             Expected::Declaration | Expected::Braces => YaccFaultKind::NoRulesMark,
@@ -55,7 +55,7 @@ impl Expected {
         }
     }
 
-    /// What is wrong with a file where bytes that begin with no word stand in place of this.
+    /// The kind of error if bytes that begin with no word come here.
     fn kind_at_bytes(self, bytes: &[u8]) -> YaccFaultKind {
         if bytes.starts_with(b"'") {
             return YaccFaultKind::BadLiteral;
@@ -67,7 +67,7 @@ impl Expected {
         self.kind_at(NextWord::Other)
     }
 
-    /// What is wrong with a file where this word stands in place of this.
+    /// The kind of error if this word comes here.
     fn kind_at(self, word: NextWord<'_>) -> YaccFaultKind {
         match self {
             Expected::Declaration | Expected::Braces => YaccFaultKind::BadDeclaration,

@@ -5,51 +5,51 @@ ghost use Rattle.ly_yaccread.specs.declared.fault.YaccFault.TheVariants.{OutOfMe
 use std::alloc::AllocError;
 use thiserror::Error;
 
-/// Why a yacc file is refused; nothing is handed out then. It is printed as words that say what is wrong.
+/// Why a yacc file is rejected. Printed as a message.
 #[derive(Clone, Copy, Debug, PartialEq, Eq, Error)]
 pub enum YaccFault {
-    /// The file is at fault.
+    /// The file has an error.
     #[error("{kind}")]
     Refused {
-        /// What is wrong.
+        /// The kind of error.
         kind: YaccFaultKind,
-        /// The offset of the word that is at fault; that of the last byte where the file ends too early, and 0 if it is
-        /// empty.
+        /// The offset of the word with the error. If the file ends too early, the offset of its last byte, or 0 if it
+        /// is empty.
         offset: usize,
     },
-    /// A growth was refused.
+    /// Out of memory.
     #[error("out of memory")]
     OutOfMemory,
 }
 
-/// What is wrong with a yacc file. It is printed as words that say it.
+/// The kinds of errors in a yacc file. Printed as a message.
 #[derive(Clone, Copy, Debug, PartialEq, Eq, Error)]
 pub enum YaccFaultKind {
     /// No `%%` ends the declarations.
     #[error("no %% ends the declarations")]
     NoRulesMark,
-    /// A word that can't stand in the declarations, or a second `%start`.
+    /// A word that isn't allowed in the declarations, or a second `%start`.
     #[error("not a declaration")]
     BadDeclaration,
-    /// A word that can't stand in the rules, or at their end.
+    /// A word that isn't allowed in the rules, or at their end.
     #[error("not a rule")]
     BadRule,
-    /// A literal of no byte, of byte 0 or of more than one byte, or one that isn't closed.
+    /// A literal of no byte, of byte 0, of more than one byte, or without its closing quote.
     #[error("not a literal")]
     BadLiteral,
-    /// A word that can't stand in an action.
+    /// A word that isn't allowed in an action.
     #[error("not an action")]
     BadAction,
-    /// A number behind a `$` that no symbol of the body has.
+    /// A `$` number that is no symbol of the body.
     #[error("a place that the body doesn't have")]
     DollarRange,
-    /// A symbol of the body that the action names a second time.
+    /// A `$` number that occurs twice in an action.
     #[error("a place named twice")]
     DollarTwice,
-    /// The name `error`, which no grammar may have.
+    /// The name `error`, which is reserved.
     #[error("the token error")]
     ErrorToken,
-    /// A symbol or an action behind an action.
+    /// A symbol or an action after an action.
     #[error("an action within a rule")]
     MidRuleAction,
     /// A comment, a block or a union that isn't closed.
@@ -58,7 +58,7 @@ pub enum YaccFaultKind {
 }
 
 impl YaccFault {
-    /// The number that a fault line has for it; want of memory has none.
+    /// The number that the error is printed with; none for `OutOfMemory`.
     pub fn number(&self) -> Option<u8>
         ensures { result ≡ yacc_number self.now }
     {
@@ -68,7 +68,7 @@ impl YaccFault {
         }
     }
 
-    /// The name that a fault line has for it.
+    /// The name that the error is printed with.
     pub fn name(&self) -> &'static str
         ensures { result.now ≡ yacc_name self.now }
     {
@@ -80,7 +80,7 @@ impl YaccFault {
 }
 
 impl YaccFaultKind {
-    /// The number that a fault line has for it.
+    /// The number that the error is printed with.
     pub fn number(self) -> u8
         ensures { result ≡ kind_number self }
     {
@@ -98,7 +98,7 @@ impl YaccFaultKind {
         }
     }
 
-    /// The name that a fault line has for it.
+    /// The name that the error is printed with.
     pub fn name(self) -> &'static str
         ensures { result.now ≡ kind_name self }
     {

@@ -1,49 +1,49 @@
 use std::rc::RcSlice;
 
-/// What a yacc file says, and where it says it. Tags, numbers, `%type`, `%union` and blocks leave nothing behind. An
-/// offset that 32 bits can't hold is kept as `u32::MAX`.
+/// The content of a yacc file, with offsets. Tags, numbers, `%type`, `%union` and blocks are dropped. An offset that
+/// doesn't fit in 32 bits is stored as `u32::MAX`.
 #[derive(Drop)]
 pub struct YaccFile {
     /// The declarations that name tokens, in the order of the text.
     pub declarations: Vec<Declaration>,
-    /// The name behind `%start`, where it stands.
+    /// The name after `%start`, if there is one.
     pub start: Option<Vec<u8>>,
     /// The rules, in the order of the text: one for each body.
     pub rules: Vec<Production>,
-    /// The offset of each symbol that the declarations name, one declaration behind the other.
+    /// The offset of each symbol in the declarations, declaration by declaration.
     pub token_offsets: Vec<u32>,
-    /// Where each rule stands.
+    /// The offsets of each rule.
     pub rule_offsets: Vec<RuleOffsets>,
 }
 
-/// Where a rule stands.
+/// The offsets of a rule.
 #[derive(Clone, Copy, Debug, PartialEq, Eq)]
 pub struct RuleOffsets {
-    /// The offset of the name on the left, which rules have in common whose bodies stand behind one `:`.
+    /// The offset of the name on the left. All bodies after one `:` share it.
     pub left: u32,
-    /// The offset at which the body begins, right behind the `:` or the `|`.
+    /// The offset at which the body begins, directly after the `:` or the `|`.
     pub body: u32,
 }
 
 /// A declaration of tokens.
 #[derive(Drop)]
 pub struct Declaration {
-    /// What it says of them.
+    /// The kind of the declaration.
     pub kind: DeclarationKind,
     /// The symbols that it names, in the order of the text.
     pub symbols: Vec<SymbolName>,
 }
 
-/// What a declaration says of its tokens.
+/// The kinds of token declarations.
 #[derive(Clone, Copy, Debug, PartialEq, Eq)]
 pub enum DeclarationKind {
-    /// `%token`: that they are tokens.
+    /// `%token`: the symbols are tokens.
     Token,
-    /// `%left`: also that they bind to the left, more tightly than those of earlier declarations.
+    /// `%left`: they are also left-associative, and bind more tightly than those of earlier declarations.
     Left,
-    /// `%right`: also that they bind to the right.
+    /// `%right`: they are also right-associative, and bind more tightly than those of earlier declarations.
     Right,
-    /// `%nonassoc`: also that they don't stand beside one another.
+    /// `%nonassoc`: they are also nonassociative, and bind more tightly than those of earlier declarations.
     Nonassociative,
 }
 
@@ -59,32 +59,32 @@ pub enum SymbolName {
 /// A rule of the grammar: a left side and one body.
 #[derive(Drop)]
 pub struct Production {
-    /// The name on the left, which is held once for all rules in a row that have it.
+    /// The name on the left. Consecutive rules with the same name share it.
     pub left: RcSlice<u8>,
     /// The symbols of the body.
     pub body: Vec<SymbolName>,
-    /// The symbol behind `%prec`, where it stands.
+    /// The symbol after `%prec`, if there is one.
     pub precedence: Option<Box<SymbolName>>,
-    /// What the rule's tree is.
+    /// The tree that the rule builds.
     pub action: TreeAction,
 }
 
-/// What the tree of a rule is. Places count the symbols of its body from 1.
+/// The tree that a rule builds. Places number the symbols of its body from 1.
 #[derive(Drop)]
 pub enum TreeAction {
-    /// No action stands.
+    /// The rule has no action.
     Default,
-    /// The tree at this place.
+    /// The tree of the symbol at this place.
     Pass(u32),
     /// A node.
     Build(Box<Node>),
 }
 
-/// A node, as an action says it.
+/// A node, as an action writes it.
 #[derive(Drop)]
 pub struct Node {
-    /// Its constructor.
+    /// The name of its constructor.
     pub name: Vec<u8>,
-    /// The places of its children, no two the same.
+    /// The places of its children, without duplicates.
     pub places: Vec<u32>,
 }

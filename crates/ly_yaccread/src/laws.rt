@@ -1,6 +1,6 @@
 ghost use Rattle.ly_yaccread.specs.YaccText.{YaccTextIsOne};
 
-/// A text says one thing.
+/// Theorem: a text has at most one content.
 pub fn yacc_text_is_one()
     ensures { YaccTextIsOne }
 {}

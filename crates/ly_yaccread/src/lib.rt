@@ -1,9 +1,27 @@
-//! From the bytes of a yacc file to its declarations and its rules.
+//! Parses the bytes of a yacc file into its declarations and rules.
 //!
-//! `read_yacc` reads a file. Its answer is the one thing that the bytes say (`yacc_text_is_one`), and it refuses only a
-//! text that says nothing. A file is taken apart into words first, and the grammar speaks of these.
+//! `read_yacc` reads a file. The result is unique for each text (`yacc_text_is_one`), and a text is rejected only if it
+//! has no such result. The file is split into words first; the grammar of declarations and rules is defined over words.
+//! A place is the number after a `$`: that of a symbol of the body, counted from 1.
 //!
-//! Left out: what the names mean, which takes the lex file too.
+//! - The scan for words always succeeds: if some bytes are no word, the last word is `Other`, which no rule accepts. So
+//!   the grammar needs no case of its own for that error.
+//! - While a file is read, a rule or a token is located by the number of words left from it on. Offsets in bytes are
+//!   computed at the end.
+//! - Consecutive rules with one left side share its name (`RcSlice`), and the symbol of a `%prec` and a node are boxed,
+//!   because most rules have none. That keeps a rule small.
+//! - A name before a `:` begins a rule, even in the declarations. `$` and its number are two words, so `$ 1` is
+//!   accepted; `$$` is one word.
+//! - `error` is rejected wherever it is used as a name, even as a tag or a constructor, because the parser has no error
+//!   recovery.
+//! - A `%prec` before a name that a `:` follows lacks its symbol. A second action is rejected before its words are
+//!   read. A symbol or an action after an action is `MidRuleAction` even with a `%prec` between them.
+//! - A file that ends in the declarations lacks its `%%`, even in the middle of a declaration. A brace that isn't
+//!   closed is `UnclosedComment` only after `%union`; elsewhere it isn't allowed at all.
+//! - Places have 32 bits, so no action can name the last place of a body of 2^32 symbols.
+//! - A rule without an action is stored as such. Its tree is defined where trees are built.
+//!
+//! Not done here: the meaning of names, which takes the lex file too.
 #![tactic(auto)]
 
 mod action;

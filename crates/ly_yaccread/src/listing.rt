@@ -1,8 +1,8 @@
-/// How symbols are listed.
+/// The syntax of a list of symbols.
 #[derive(Clone, Copy)]
 pub(crate) enum Listing {
-    /// One behind the other.
+    /// Symbols only.
     Plain,
-    /// Each perhaps with a number behind it, which isn't used.
+    /// Each symbol may be followed by a number, which is ignored.
     Numbered,
 }

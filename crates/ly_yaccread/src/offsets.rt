@@ -1,4 +1,4 @@
-//! Where words stand in a file, by how many are left from them on.
+//! Offsets of words in a file, computed from the number of words left.
 ghost use Rattle.std.specs.Prelude.{◌≡◌, map, IfOk};
 ghost use Rattle.ly_yaccread.specs.Offsets.{kept, rule_offsets, token_offset, word_offset};
 ghost use Rattle.ly_yaccread.specs.Private.Words.{offsets_of};
@@ -8,7 +8,7 @@ use crate::standing::Standing;
 use crate::words::FileWord;
 use std::alloc::{AllocError, Global};
 
-/// The offset of each of these tokens, from which so many of a file's words are left.
+/// The offset of each of these tokens. A token is given by the number of words left from it on.
 pub(crate) fn token_offsets(
     alloc: Global,
     words: &[FileWord<'_>],
@@ -22,7 +22,7 @@ pub(crate) fn token_offsets(
         .collect(alloc)
 }
 
-/// Where each of these rules stands in the file of these words.
+/// The offsets of each of these rules in the file with these words.
 pub(crate) fn rule_offsets(
     alloc: Global,
     words: &[FileWord<'_>],
@@ -36,7 +36,7 @@ pub(crate) fn rule_offsets(
         .collect(alloc)
 }
 
-/// Where a rule stands.
+/// The offsets of a rule.
 fn offsets_of_rule(words: &[FileWord<'_>], standing: Standing) -> RuleOffsets
     ensures { result ≡ rule_offsets (offsets_of words.now) standing }
 {
@@ -47,14 +47,14 @@ fn offsets_of_rule(words: &[FileWord<'_>], standing: Standing) -> RuleOffsets
     }
 }
 
-/// The offset of the word from which so many are left, as it is kept.
+/// The offset, as stored, of the word from which this many are left.
 fn token_offset(words: &[FileWord<'_>], left: usize) -> u32
     ensures { result ≡ token_offset (offsets_of words.now) left }
 {
     kept_offset(word_offset(words, left))
 }
 
-/// The offset of the word from which so many are left.
+/// The offset of the word from which this many are left.
 fn word_offset(words: &[FileWord<'_>], left: usize) -> usize
     ensures { result ≡ word_offset (offsets_of words.now) left }
 {
@@ -62,7 +62,7 @@ fn word_offset(words: &[FileWord<'_>], left: usize) -> usize
     word.map_or(0, |word| word.offset)
 }
 
-/// An offset with 32 bits; one that has more as the greatest that has them.
+/// The offset in 32 bits, or `u32::MAX` if it is larger.
 fn kept_offset(offset: usize) -> u32
     ensures { result ≡ kept offset }
 {

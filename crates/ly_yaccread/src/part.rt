@@ -6,33 +6,33 @@ ghost use Rattle.ly_yaccread.specs.declared.part.Part.TheVariants.{Declarations,
 use crate::words::{Front, Mark, NextWord, next_word};
 use ly_base::{after_block, after_braces};
 
-/// A part of a yacc file: each but the last ends with a `%%`.
+/// A part of a yacc file. Each part but the last ends with a `%%`.
 #[derive(Clone, Copy)]
 pub(crate) enum Part {
-    /// What the symbols are.
+    /// The declarations of tokens, precedences and the start symbol.
     Declarations,
     /// The rules of the grammar.
     Rules,
-    /// What follows the rules, which isn't used.
+    /// What follows the rules. It is ignored.
     Programs,
 }
 
 impl Part {
-    /// Whether blocks and what stands between braces are words here.
+    /// Whether blocks and text in braces are words in this part.
     fn has_blocks(self) -> bool
         ensures { MatchBool result (self ≡ Declarations) (self ≢ Declarations) }
     {
         matches!(self, Part::Declarations)
     }
 
-    /// Whether everything is free here.
+    /// Whether any bytes are allowed in this part.
     pub(crate) fn is_free(self) -> bool
         ensures { MatchBool result (self ≡ Programs) (self ≢ Programs) }
     {
         matches!(self, Part::Programs)
     }
 
-    /// The part that stands behind a word.
+    /// The part of the file after this word.
     pub(crate) fn behind(self, word: NextWord<'_>) -> Part
         ensures { result ≡ part_behind self (word_of word.entry) }
     {
@@ -43,7 +43,7 @@ impl Part {
         }
     }
 
-    /// The word behind the gap at the front of a text in this part.
+    /// The first word of a text in this part, after whitespace and comments.
     pub(crate) fn word(self, text: &[u8]) -> Front<'_>
         ensures word { IsPartWord self text.now result.word result.behind.now }
         ensures from { GapPassed text.now result.from.now }

@@ -11,7 +11,7 @@ use crate::fault::YaccFaultKind;
 use crate::refusal::Refusal;
 use crate::words::Mark;
 
-/// Reads a `$` and a place of a body of so many symbols, and answers the place and what is left behind it.
+/// Reads a `$` and a place of a body of this many symbols. Returns the place and the words after it.
 pub(crate) fn read_place(words: Cursor<'_>, symbols: usize) -> Result<(u32, Cursor<'_>), Refusal>
     ensures { MatchResult result (λ found. PlaceFirst symbols (words_left words.entry) found.0 (words_left found.1))
         (λ _. (p : ℕ) (rest : List Word) → PlaceFirst symbols (words_left words.entry) p rest → ⊥) }
@@ -28,7 +28,7 @@ pub(crate) fn read_place(words: Cursor<'_>, symbols: usize) -> Result<(u32, Curs
     }
 }
 
-/// The fault at digits that spell no place and come first: leading zeros are no part of one.
+/// The error for digits that are no place. Leading zeros aren't allowed.
 fn no_place(digits: &[u8], words: Cursor<'_>) -> Refusal {
     words.refused(if digits.len() > 1 && digits.starts_with(b"0") {
         YaccFaultKind::BadAction
@@ -37,7 +37,7 @@ fn no_place(digits: &[u8], words: Cursor<'_>) -> Refusal {
     })
 }
 
-/// The place that the digits spell, in a body of so many symbols.
+/// The place that the digits spell, in a body of this many symbols.
 fn place_of(digits: &[u8], symbols: usize) -> Option<u32>
     ensures { MatchOption result ((p : ℕ) → IsPlace symbols digits.now p → ⊥) (IsPlace symbols digits.now) }
 {
@@ -48,7 +48,7 @@ fn place_of(digits: &[u8], symbols: usize) -> Option<u32>
     (1 <= place && place as usize <= symbols).then_some(place)
 }
 
-/// The number that decimal digits spell, if it has 32 bits.
+/// The number that decimal digits spell, if it fits in 32 bits.
 fn decimal(digits: &[u8]) -> Option<u32>
     ensures { MatchOption result (AllPass is_decimal digits.now → number 10 digits.now < 2 ^ 32 → ⊥)
         (λ value. AllPass is_decimal digits.now × (number 10 digits.now ≡ value)) }

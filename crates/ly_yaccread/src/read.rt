@@ -22,16 +22,21 @@ use crate::wording::words;
 use crate::words::FileWord;
 use std::alloc::{AllocError, Global};
 
-/// Reads a yacc file (POSIX, XCU yacc): declarations, `%%`, rules, and all that follows a second `%%`, which
-/// isn't used.
+/// Parses a yacc file (POSIX, XCU yacc): declarations, `%%` and rules. All that follows a second `%%` is ignored.
 ///
-/// The fault comes for the first word that can't stand where it does. `ErrorToken`, for the name `error`, and
-/// `BadLiteral` come wherever such a word stands; `UnclosedComment` for a comment, a block or a union that isn't
-/// closed; `NoRulesMark` where the file ends in the declarations; `BadDeclaration` for anything else in the
-/// declarations that is none, and for a second `%start`; `DollarRange` for a place that the body doesn't have,
-/// `DollarTwice` for one that is named again, `BadAction` for anything else in an action; `MidRuleAction` for a
-/// symbol or an action behind an action; `BadRule` for anything else in the rules; `OutOfMemory` where a growth was
-/// refused.
+/// The error is that of the first word that isn't allowed where it is:
+///
+/// - `ErrorToken`: the name `error`, anywhere.
+/// - `BadLiteral`: an invalid literal, anywhere.
+/// - `UnclosedComment`: a comment, a block or a union that isn't closed.
+/// - `NoRulesMark`: the file ends in the declarations.
+/// - `BadDeclaration`: anything else in the declarations that isn't one, and a second `%start`.
+/// - `DollarRange`: a `$` number that is no symbol of the body.
+/// - `DollarTwice`: a `$` number that occurs twice in an action.
+/// - `BadAction`: anything else in an action.
+/// - `MidRuleAction`: a symbol or an action after an action.
+/// - `BadRule`: anything else in the rules.
+/// - `OutOfMemory`: an allocation failed.
 pub fn read_yacc(alloc: Global, bytes: &[u8]) -> Result<YaccFile, YaccFault>
     ensures ok { IfOk result (λ file. YaccText bytes.now (written_of file)) }
     ensures refused { IfErr result
@@ -46,19 +51,19 @@ pub fn read_yacc(alloc: Global, bytes: &[u8]) -> Result<YaccFile, YaccFault>
     }
 }
 
-/// What the words of a file say, and where among them.
+/// The content of the words of a file, located by numbers of words.
 #[derive(Drop)]
 struct Reading {
-    /// What the declarations say.
+    /// The content of the declarations.
     preamble: Preamble,
     /// The rules.
     rules: Vec<Production>,
-    /// Where each rule stands.
+    /// The location of each rule.
     standings: Vec<Standing>,
 }
 
 impl Reading {
-    /// The file of these words.
+    /// The file with these words and this content.
     fn file(self, alloc: Global, words: &[FileWord<'_>]) -> Result<YaccFile, AllocError>
         ensures { IfOk result (λ file. written_of file ≡ file_at (offsets_of words.now) (declaring_of self.preamble)
             (map ruling_of self.rules.items) self.standings.items) }
@@ -85,7 +90,7 @@ impl Reading {
     }
 }
 
-/// Reads the words of a file: declarations, a `%%`, and rules.
+/// Parses the words of a file: declarations, a `%%`, and rules.
 fn read_words(alloc: Global, text: &[u8], words: &[FileWord<'_>]) -> Result<Reading, Refusal>
     ensures { MatchResult result
         (λ r. Says (words_of words.now) (declaring_of r.preamble) (map ruling_of r.rules.items) r.standings.items)

@@ -7,22 +7,22 @@ use crate::fault::{YaccFault, YaccFaultKind};
 use crate::words::FileWord;
 use std::alloc::{AllocError, AllocFailed};
 
-/// Why the words of a file are refused, and where among them.
+/// Why the words of a file are rejected, and at which word.
 #[derive(Clone, Copy)]
 pub(crate) enum Refusal {
-    /// A word is at fault, or that no word is left.
+    /// A word isn't allowed, or a word is missing at the end.
     At {
-        /// What is wrong.
+        /// The kind of error.
         kind: YaccFaultKind,
-        /// How many words are left from the one at fault on.
+        /// The number of words left from that word on.
         left: usize,
     },
-    /// A growth was refused.
+    /// Out of memory.
     OutOfMemory,
 }
 
 impl Refusal {
-    /// The fault of the text that these are the words of.
+    /// The error for the text that consists of these words.
     pub(crate) fn fault(self, text: &[u8], words: &[FileWord<'_>]) -> YaccFault
         ensures { IsFaultOf self (length text.now) (offsets_of words.now) result }
     {

@@ -16,16 +16,16 @@ use crate::symbols::{read_symbols, symbol_first};
 use std::alloc::Global;
 use std::rc::RcSlice;
 
-/// What stands behind the symbols of a body.
+/// What follows the symbols of a body.
 #[derive(Drop)]
 pub(crate) struct BodyEnd {
-    /// The symbol behind `%prec`, where it stands.
+    /// The symbol after `%prec`, if there is one.
     precedence: Option<Box<SymbolName>>,
     /// The action.
     action: TreeAction,
 }
 
-/// Reads a body, and answers the rule of this left side that it makes, and what is left behind it.
+/// Reads a body. Returns the rule with this left side and that body, and the words after it.
 pub(crate) fn read_rule<'t>(
     alloc: Global,
     left: RcSlice<u8>,
@@ -48,8 +48,8 @@ pub(crate) fn read_rule<'t>(
     ))
 }
 
-/// Reads what stands behind the symbols of a body, of which there are so many: perhaps an action, perhaps a
-/// `%prec`, and behind that an action where none stood before it.
+/// Reads what follows the symbols of a body of this many symbols: an optional action and an optional `%prec`. The
+/// action may come after the `%prec`.
 fn read_body_end(
     alloc: Global,
     words: Cursor<'_>,
@@ -69,14 +69,14 @@ fn read_body_end(
     Ok((BodyEnd { precedence, action }, rest))
 }
 
-/// Whether no action stood.
+/// Whether the rule has no action.
 pub(crate) fn is_default(action: &TreeAction) -> bool
     ensures { MatchBool result (making_of action.now ≡ default) (making_of action.now ≢ default) }
 {
     matches!(action, TreeAction::Default)
 }
 
-/// Reads the `%prec` that comes first and its symbol; none, and all is left, where no `%prec` does.
+/// Reads a `%prec` and its symbol. If the first word isn't `%prec`, returns none and consumes nothing.
 fn read_precedence(
     alloc: Global,
     words: Cursor<'_>,
@@ -96,7 +96,7 @@ fn read_precedence(
     }
 }
 
-/// What is left behind the `%prec` that comes first.
+/// The words after the `%prec` that comes first.
 fn after_prec(words: Cursor<'_>) -> Option<Cursor<'_>>
     ensures { MatchOption result ((rest : List Word) → words_left words.entry ≢ directive_word (codes "prec") ∷ rest)
         (λ rest. words_left words.entry ≡ directive_word (codes "prec") ∷ words_left rest) }

@@ -20,16 +20,16 @@ use crate::words::Mark;
 use std::alloc::{AllocError, Global};
 use std::rc::RcSlice;
 
-/// A left side, where it stands in the text.
+/// A left side, with its location in the text.
 #[derive(Clone, Copy)]
 pub(crate) struct LeftSide<'t> {
     /// Its name.
     pub(crate) name: &'t [u8],
-    /// How many words are left from the name on.
+    /// The number of words left from the name on.
     pub(crate) left: usize,
 }
 
-/// Reads the rules, and says beside them where each stands.
+/// Reads the rules, with the location of each.
 pub(crate) fn read_rules(
     alloc: Global,
     words: Cursor<'_>,
@@ -68,7 +68,7 @@ pub(crate) fn read_rules(
 }
 
 impl Expected {
-    /// What is to stand behind a rule.
+    /// What is expected after this rule.
     fn behind(rule: &Production) -> Expected {
         if is_default(&rule.action) {
             Expected::Rule
@@ -78,7 +78,7 @@ impl Expected {
     }
 }
 
-/// A left side to be kept: that of the last rule, where it is the same, and else one with room of its own.
+/// The left side to store: that of the last rule if the name is the same, else a copy.
 fn shared_left(alloc: Global, left: &[u8], rules: &[Production]) -> Result<RcSlice<u8>, AllocError>
     ensures { IfOk result (λ shared. rc_slice_items shared ≡ left.now) }
 {
@@ -88,14 +88,14 @@ fn shared_left(alloc: Global, left: &[u8], rules: &[Production]) -> Result<RcSli
     }
 }
 
-/// Whether no word is left, or the second `%%` comes first.
+/// Whether no word is left, or a second `%%` comes first.
 fn is_over(words: Cursor<'_>) -> bool
     ensures { MatchBool result (AreRulesOver (words_left words.entry)) (AreRulesOver (words_left words.entry) → ⊥) }
 {
     words.next().is_none() || words.after(Mark::Section).is_some()
 }
 
-/// What is left behind the `;` that comes first, where a rule stood before it.
+/// The words after the `;` that comes first, if a rule precedes it.
 fn after_semicolon<'t>(words: Cursor<'t>, last: Option<LeftSide<'_>>) -> Option<Cursor<'t>>
     ensures { MatchOption result ((l : rules.LeftSide) (rest : List Word) → last_of last.entry ≡ Some l
         → words_left words.entry ≢ mark_word Semicolon ∷ rest)
@@ -105,7 +105,7 @@ fn after_semicolon<'t>(words: Cursor<'t>, last: Option<LeftSide<'_>>) -> Option<
     words.after(Mark::Semicolon)
 }
 
-/// The left side of the body that follows, and what is left where the body begins.
+/// The left side of the next body, and the words from the body on.
 fn body_follows<'t>(
     words: Cursor<'t>,
     last: Option<LeftSide<'t>>,

@@ -4,17 +4,17 @@ ghost use Rattle.std.specs.List.{All, AllPairs};
 use crate::part::Part;
 use std::alloc::{AllocError, Global};
 
-/// Where a word stands in a file.
+/// The position of a word in a file.
 #[derive(Clone, Copy, Debug, PartialEq, Eq)]
 pub struct WordSpan {
-    /// The place of its first byte, counted from 0.
+    /// The offset of its first byte, counted from 0.
     pub start: usize,
-    /// How many bytes it has.
+    /// Its length in bytes.
     pub length: usize,
 }
 
 impl WordSpan {
-    /// The word, in the text where it stands; nothing of one that is shorter.
+    /// The bytes of the word in its text, or an empty slice if the text is too short.
     pub fn word(self, text: &[u8]) -> &[u8]
         ensures there { self.start + self.length ≤ length text.now
             → result.now ≡ slice_range text.now self.start (self.start + self.length) }
@@ -25,8 +25,8 @@ impl WordSpan {
     }
 }
 
-/// Where each word of a yacc file stands, up to the second `%%`, to the end, or to the first place where no word
-/// stands. Reading a file doesn't ask for it.
+/// The position of each word of a yacc file. It stops at the second `%%`, at the end, or at the first bytes that are no
+/// word. `read_yacc` doesn't use it.
 pub fn word_spans(alloc: Global, text: &[u8]) -> Result<Vec<WordSpan>, AllocError>
     ensures within { IfOk result (λ spans. All (λ s. s.start + s.length ≤ length text.now) spans.items) }
     ensures rising { IfOk result (λ spans. AllPairs (λ s t. s.start + s.length ≤ t.start) spans.items) }

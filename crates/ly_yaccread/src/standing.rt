@@ -1,8 +1,8 @@
-/// Where a rule stands among the words of a file.
+/// The location of a rule among the words of a file.
 #[derive(Clone, Copy)]
 pub(crate) struct Standing {
-    /// How many words are left from the name of its left side on.
+    /// The number of words left from the name of its left side on.
     pub(crate) left: usize,
-    /// How many words are left from its body on.
+    /// The number of words left from its body on.
     pub(crate) body: usize,
 }

@@ -13,7 +13,7 @@ use crate::refusal::Refusal;
 use crate::words::Mark;
 use std::alloc::{AllocError, Global};
 
-/// A symbol where it stands in the text.
+/// A symbol, borrowed from the text.
 #[derive(Clone, Copy)]
 pub(crate) enum NextSymbol<'t> {
     /// A name.
@@ -23,7 +23,7 @@ pub(crate) enum NextSymbol<'t> {
 }
 
 impl NextSymbol<'_> {
-    /// The symbol with room of its own.
+    /// An owned copy of the symbol.
     pub(crate) fn owned(self, alloc: Global) -> Result<SymbolName, AllocError>
         ensures { IfOk result (λ symbol. symbol_word symbol ≡ next_symbol self.entry) }
     {
@@ -34,7 +34,7 @@ impl NextSymbol<'_> {
     }
 }
 
-/// Reads symbols, as many as there are, and answers what is left behind them.
+/// Reads symbols, as many as follow. Returns them and the words after them.
 pub(crate) fn read_symbols(
     alloc: Global,
     words: Cursor<'_>,
@@ -56,11 +56,11 @@ pub(crate) fn read_symbols(
 pub(crate) struct Listed {
     /// The symbols.
     pub(crate) symbols: Vec<SymbolName>,
-    /// How many words are left from each of them on.
+    /// For each symbol, the number of words left from it on.
     pub(crate) left: Vec<usize>,
 }
 
-/// Reads the symbols of a declaration, as many as there are, and answers what is left behind them.
+/// Reads the symbols of a declaration, as many as follow. Returns them and the words after them.
 fn read_listed(
     alloc: Global,
     words: Cursor<'_>,
@@ -80,7 +80,7 @@ fn read_listed(
     Ok((Listed { symbols, left }, rest))
 }
 
-/// Reads perhaps a tag, and then symbols, one or more; where they don't stand, nothing can be declared.
+/// Reads an optional tag and then one or more symbols. Without a symbol, the error is a `BadDeclaration`.
 pub(crate) fn read_symbol_list(
     alloc: Global,
     words: Cursor<'_>,
@@ -97,7 +97,7 @@ pub(crate) fn read_symbol_list(
     Ok((listed, rest))
 }
 
-/// What is left behind the tag that comes first, or all where no `<` does.
+/// The words after the tag that comes first. If no `<` comes first, all words.
 fn after_tag(words: Cursor<'_>) -> Result<Cursor<'_>, Refusal>
     ensures { MatchResult result (λ rest. TagPassed (words_left words.entry) (words_left rest))
         (λ _. (rest : List Word) → TagPassed (words_left words.entry) rest → ⊥) }
@@ -114,7 +114,7 @@ fn after_tag(words: Cursor<'_>) -> Result<Cursor<'_>, Refusal>
     }
 }
 
-/// The symbol that comes first, and what is left behind it. A name before a `:` is none.
+/// The symbol that comes first, and the words after it. A name before a `:` is no symbol.
 pub(crate) fn symbol_first(words: Cursor<'_>) -> Option<(NextSymbol<'_>, Cursor<'_>)>
     ensures { MatchOption result (NoSymbol (words_left words.entry))
         (λ found. SymbolFirst (words_left words.entry) (next_symbol found.0) (words_left found.1)) }
@@ -129,7 +129,7 @@ pub(crate) fn symbol_first(words: Cursor<'_>) -> Option<(NextSymbol<'_>, Cursor<
     }
 }
 
-/// What is left behind the number that comes first, or all where none does or may.
+/// The words after the number that comes first. Without a number, or if the list has no numbers, all words.
 fn after_number(words: Cursor<'_>, listing: Listing) -> Cursor<'_>
     ensures { NumberPassed listing (words_left words.entry) (words_left result) }
 {

@@ -6,8 +6,8 @@ use crate::part::Part;
 use crate::words::FileWord;
 use std::alloc::{AllocError, Global};
 
-/// Takes a file apart into its words, up to the second `%%`, to the end, or to the first place where no word
-/// stands: there the last one is `Other`.
+/// Splits a file into its words. It stops at the second `%%`, at the end, or at the first bytes that are no word. In
+/// the last case the last word is `Other`.
 pub(crate) fn words(alloc: Global, text: &[u8]) -> Result<Vec<FileWord<'_>>, AllocError>
     ensures { IfOk result (λ words. AreWordsOf text.now (words_of words.items) (offsets_of words.items)) }
 {

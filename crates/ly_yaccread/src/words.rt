@@ -5,22 +5,22 @@ ghost use Rattle.ly_yaccread.specs.declared.words.NextWord.TheVariants.{End, Oth
 
 use ly_base::{Language, after_gap, leading_digits, leading_name, literal};
 
-/// A word that always has the same bytes.
+/// A word with fixed bytes.
 #[derive(Clone, Copy, Debug, PartialEq, Eq)]
 pub enum Mark {
-    /// `%%`, which begins the rules, and what follows them.
+    /// `%%`, before the rules and before the text after them.
     Section,
-    /// `%{`, which begins a block that isn't used.
+    /// `%{`, which opens a block that is ignored.
     Block,
     /// `$$`, the value of a rule.
     Whole,
     /// `$`, before the place of a symbol in a rule's body.
     Dollar,
-    /// `:`, between a left side and its bodies.
+    /// `:`, between a left side and its first body.
     Colon,
-    /// `|`, before a further body.
+    /// `|`, before another body.
     Bar,
-    /// `;`, behind a rule or a statement.
+    /// `;`, after a rule or a statement.
     Semicolon,
     /// `{`.
     OpenBrace,
@@ -32,7 +32,7 @@ pub enum Mark {
     CloseParenthesis,
     /// `<`, before a tag.
     OpenTag,
-    /// `>`, behind a tag.
+    /// `>`, after a tag.
     CloseTag,
     /// `=`.
     Equals,
@@ -40,38 +40,38 @@ pub enum Mark {
     Comma,
 }
 
-/// What stands at the front of a yacc file.
+/// The first word of a text.
 #[derive(Clone, Copy)]
 pub(crate) enum NextWord<'t> {
     /// The end of the file.
     End,
     /// A mark.
     Mark(Mark),
-    /// A directive: a `%` and this name.
+    /// A directive: a `%` and a name. This is the name.
     Directive(&'t [u8]),
     /// A name.
     Name(&'t [u8]),
-    /// A number of these digits.
+    /// The digits of a number.
     Number(&'t [u8]),
-    /// A literal of this byte.
+    /// The byte of a literal.
     Literal(u8),
     /// A block from `%{` to `%}`.
     Block,
-    /// What stands between braces, with them.
+    /// Braces and the text between them.
     Braces,
-    /// No word.
+    /// Bytes that are no word.
     Other,
 }
 
 impl NextWord<'_> {
-    /// Whether nothing stands there.
+    /// Whether this is the end of the file.
     pub(crate) fn is_end(&self) -> bool
         ensures { MatchBool result (self.now ≡ End) (self.now ≢ End) }
     {
         matches!(self, NextWord::End)
     }
 
-    /// Whether no word stands there.
+    /// Whether this is no word.
     pub(crate) fn is_other(&self) -> bool
         ensures { MatchBool result (self.now ≡ Other) (self.now ≢ Other) }
     {
@@ -79,7 +79,7 @@ impl NextWord<'_> {
     }
 }
 
-/// A word of a file, and where it stands.
+/// A word of a file, with its offset.
 #[derive(Clone, Copy)]
 pub(crate) struct FileWord<'t> {
     /// The word.
@@ -88,18 +88,18 @@ pub(crate) struct FileWord<'t> {
     pub(crate) offset: usize,
 }
 
-/// What stands at the front of a text, behind a gap.
+/// The first word of a text, after whitespace and comments.
 #[derive(Clone, Copy)]
 pub(crate) struct Front<'t> {
     /// The word.
     pub(crate) word: NextWord<'t>,
     /// The text from the word on.
     pub(crate) from: &'t [u8],
-    /// The text behind it.
+    /// The text after the word.
     pub(crate) behind: &'t [u8],
 }
 
-/// The word behind the gap at the front.
+/// The first word of a text, after whitespace and comments.
 pub(crate) fn next_word(text: &[u8]) -> Front<'_>
     ensures word { IsFront text.now result.word result.behind.now }
     ensures from { GapPassed text.now result.from.now }
@@ -109,7 +109,7 @@ pub(crate) fn next_word(text: &[u8]) -> Front<'_>
     Front { word, from, behind }
 }
 
-/// The word at the front, and what stands behind it.
+/// The word at the very front of a text, and the bytes after it.
 fn word_at(text: &[u8]) -> (NextWord<'_>, &[u8])
     ensures { IsWordAt text.now result.0 result.1.now }
 {
@@ -134,7 +134,7 @@ fn word_at(text: &[u8]) -> (NextWord<'_>, &[u8])
     }
 }
 
-/// The name behind a `%` at the front, and what stands behind it.
+/// The name after a `%` at the front, and the bytes after it.
 fn leading_directive(text: &[u8]) -> Option<(&[u8], &[u8])>
     ensures { MatchOption result ((name rest : List ℕ) → DirectiveBefore text.now name rest → ⊥)
         (λ found. DirectiveBefore text.now found.0.now found.1.now) }
@@ -142,7 +142,7 @@ fn leading_directive(text: &[u8]) -> Option<(&[u8], &[u8])>
     leading_name(text.strip_prefix(b"%")?, Language::Yacc)
 }
 
-/// The mark at the front, and what stands behind it.
+/// The mark at the front, and the bytes after it.
 fn leading_mark(text: &[u8]) -> Option<(Mark, &[u8])>
     ensures { MatchOption result ((mark : Mark) (rest : List ℕ) → MarkBefore text.now mark rest → ⊥)
         (λ found. MarkBefore text.now found.0 found.1.now) }
@@ -160,7 +160,7 @@ fn leading_mark(text: &[u8]) -> Option<(Mark, &[u8])>
     Some((mark_of(*first)?, rest))
 }
 
-/// The mark of this byte alone.
+/// The mark of this single byte.
 fn mark_of(byte: u8) -> Option<Mark>
     ensures { MatchOption result ((mark : Mark) → spelling mark ≢ byte ∷ []) (λ mark. spelling mark ≡ byte ∷ []) }
 {
