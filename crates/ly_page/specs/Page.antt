@@ -36,11 +36,11 @@ counted n one many = decimal n ++ space ∷ (if n == 1 then one else many)
 abbrev pub quoted_words : List ℕ → List ℕ
 quoted_words bytes = single_quote ∷ (escaped single_quote bytes ++ single_quote ∷ [])
 
--- the name of a file and a line number
+-- `file:line: `
 abbrev pub line_of : List ℕ → ℕ → List ℕ
 line_of name line = name ++ codes ":" ++ decimal line ++ codes ": "
 
--- the name of a file, a line and a column
+-- `file:line:column: `
 abbrev pub location_in : List ℕ → Location → List ℕ
 location_in name at = name ++ codes ":" ++ decimal at.line ++ codes ":" ++ decimal at.column ++ codes ": "
 

@@ -172,7 +172,7 @@ impl Page {
         }
     }
 
-    /// Appends the name of a file and a line number, each followed by a colon, and a space.
+    /// Appends `file:line: `.
     pub fn say_line_of(&mut self, file: Named<'_>, line: u64)
         ensures { Says self.old (line_of file.entry.name.now line) self.new }
     {
@@ -182,7 +182,7 @@ impl Page {
         self.say(b": ");
     }
 
-    /// Appends the name of a file, a line and a column.
+    /// Appends `file:line:column: `.
     pub fn say_location_in(&mut self, file: Named<'_>, at: Location)
         ensures { Says self.old (location_in file.entry.name.now at) self.new }
     {
