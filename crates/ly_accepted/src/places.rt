@@ -1,4 +1,4 @@
-//! Where the rules and the terminals of a yacc file stand.
+//! Locations of the rules and the terminals of a yacc file.
 use crate::lines::{FRONT, Lines};
 use indexmap::IndexSet;
 use ly_base::{Location, OutOfMemory, Sym, literal, locate};
@@ -9,35 +9,35 @@ use ly_yaccread::{
 };
 use std::alloc::Global;
 
-/// A yacc file that is accepted, and where its rules stand.
+/// An accepted yacc file and the locations in it.
 #[derive(Drop)]
 pub(crate) struct Places {
-    /// What the file says; nothing where it is refused.
+    /// The yacc file as it was read; `None` if it is rejected.
     file: Option<YaccFile>,
-    /// Where each rule stands, in the order of the text: its left side, but of a body behind a bar the bar.
+    /// The location of each rule, in the order of the text: its left side or, for a body after a bar, the bar.
     rules: Vec<Location>,
-    /// Where its words stand.
+    /// The spans of its words.
     words: Vec<WordSpan>,
     /// The rules that have a `%prec`.
     ranked: Vec<usize>,
 }
 
-/// A symbol that a `%token` declares, and another one before it.
+/// A symbol that a `%token` declares after another `%token` has declared it.
 #[derive(Drop)]
 pub(crate) struct DeclaredAgain<'p> {
     /// The symbol.
     pub(crate) symbol: &'p SymbolName,
-    /// Where it is declared again.
+    /// The offset of the second declaration.
     pub(crate) offset: usize,
-    /// Where it is declared first.
+    /// The offset of the first declaration.
     pub(crate) first: usize,
 }
 
-/// Of how many rules with a `%prec` it is looked at what stands behind that.
+/// For how many rules with a `%prec` the name after it is looked at.
 const RANKS: usize = 1_000;
 
 impl Places {
-    /// The places in a yacc file.
+    /// The locations in a yacc file.
     pub(crate) fn of(alloc: Global, text: &[u8]) -> Result<Places, OutOfMemory> {
         let words = word_spans(alloc, text)?;
         match read_yacc(alloc, text) {
@@ -57,7 +57,7 @@ impl Places {
         }
     }
 
-    /// Where the rule of a number stands, counted from 1.
+    /// The location of the rule with a number. The first is 1.
     pub(crate) fn location_of_rule(&self, rule: usize) -> Location {
         match rule.checked_sub(1) {
             Some(place) => self.rules.get(place).copied().unwrap_or(FRONT),
@@ -65,13 +65,13 @@ impl Places {
         }
     }
 
-    /// The rules that have a `%prec`, rising.
+    /// The rules that have a `%prec`, in ascending order.
     pub(crate) fn ranked_rules(&self) -> &[usize] {
         &self.ranked
     }
 
-    /// The rules without an action that begin with a literal and have another symbol than literals, rising; none where
-    /// no rule of the file has an action.
+    /// The rules without an action that begin with a literal and have a symbol that isn't a literal, in ascending
+    /// order. None if no rule of the file has an action.
     pub(crate) fn losing_rules(&self, alloc: Global) -> Result<Vec<usize>, OutOfMemory> {
         let mut losing = Vec::new(alloc);
         if let Some(file) = &self.file
@@ -86,7 +86,7 @@ impl Places {
         Ok(losing)
     }
 
-    /// The symbols that a `%token` declares, and another one before it.
+    /// The symbols that a `%token` declares after another one.
     pub(crate) fn declared_again(
         &self,
         alloc: Global,
@@ -121,7 +121,7 @@ impl Places {
         Ok(again)
     }
 
-    /// Whether a terminal stands behind a `%prec`, and so is there to give a rule its precedence.
+    /// Whether a terminal is in a `%prec`, so that it exists to give a rule its precedence.
     pub(crate) fn gives_precedence(&self, spec: &Spec, terminal: Sym) -> bool {
         let (Some(file), Some(name)) = (&self.file, spec.terminals().get(terminal.0 as usize))
         else {
@@ -137,7 +137,7 @@ impl Places {
         false
     }
 
-    /// Where a terminal is declared, or else where it stands first in a rule.
+    /// The location of a terminal's declaration, or else of its first occurrence in a rule.
     pub(crate) fn location_of_terminal(&self, spec: &Spec, text: &[u8], terminal: Sym) -> Location {
         match self.offset_of_terminal(spec, text, terminal) {
             Some(offset) => locate(text, offset),
@@ -145,7 +145,7 @@ impl Places {
         }
     }
 
-    /// The offset where a terminal is declared, or else where it stands first in a rule.
+    /// The offset of a terminal's declaration, or else of its first occurrence in a rule.
     fn offset_of_terminal(&self, spec: &Spec, text: &[u8], terminal: Sym) -> Option<usize> {
         let name = spec.terminals().get(terminal.0 as usize)?;
         let file = self.file.as_ref()?;
@@ -155,7 +155,7 @@ impl Places {
         }
     }
 
-    /// The offset where a terminal stands first in a rule.
+    /// The offset of a terminal's first occurrence in a rule.
     fn offset_in_rules(&self, file: &YaccFile, text: &[u8], name: &TerminalName) -> Option<usize> {
         let rule = file.rules.iter().position(|rule| has_terminal(&rule.body, name)
             || is_ranked_by(rule, name))?;
@@ -169,7 +169,7 @@ impl Places {
     }
 }
 
-/// Where rules stand.
+/// The locations of rules.
 fn rule_locations(
     alloc: Global,
     text: &[u8],
@@ -214,7 +214,7 @@ fn loses_symbols(body: &[SymbolName]) -> bool {
             .any(|symbol| matches!(symbol, SymbolName::Name(_)))
 }
 
-/// Bytes that tell a symbol from others: a name has no quote.
+/// Bytes that distinguish a symbol from others: a name has no quote.
 fn key_of(alloc: Global, symbol: &SymbolName) -> Result<Vec<u8>, OutOfMemory> {
     match symbol {
         SymbolName::Name(name) => Ok(Vec::from_slice(alloc, name)?),
@@ -222,7 +222,7 @@ fn key_of(alloc: Global, symbol: &SymbolName) -> Result<Vec<u8>, OutOfMemory> {
     }
 }
 
-/// The offset where a terminal is declared.
+/// The offset of a terminal's declaration.
 fn declared_offset(file: &YaccFile, name: &TerminalName) -> Option<usize> {
     let mut offsets = file.token_offsets.iter();
     for declaration in &file.declarations {
@@ -236,7 +236,7 @@ fn declared_offset(file: &YaccFile, name: &TerminalName) -> Option<usize> {
     None
 }
 
-/// Whether a rule has a terminal behind its `%prec`.
+/// Whether a rule has a terminal in its `%prec`.
 fn is_ranked_by(rule: &Production, name: &TerminalName) -> bool {
     match &rule.precedence {
         Some(symbol) => name.is_symbol(symbol),
@@ -254,7 +254,7 @@ fn has_terminal(symbols: &[SymbolName], name: &TerminalName) -> bool {
     false
 }
 
-/// Whether a word is a terminal's.
+/// Whether a word is a terminal's name.
 fn spells(word: &[u8], terminal: &TerminalName) -> bool {
     match terminal {
         TerminalName::Token(name) => word == name.as_slice(),

@@ -1,22 +1,22 @@
-//! Pairs of readings that are to be looked at, the cheapest first.
+//! A priority queue of pairs of readings, the cheapest first.
 use crate::pair::Pair;
 use crate::yields::Yields;
 use std::alloc::{AllocError, Global};
 
-/// How many pairs are kept for a conflict, at most.
+/// How many pairs are kept for a conflict at most.
 const KEPT: usize = 60_000;
 
-/// How dear a pair may be.
+/// The greatest cost of a pair that is kept.
 const DEAREST: usize = 200;
 
-/// Pairs that are to be looked at, by how dear they are.
+/// Pairs of readings by their cost.
 #[derive(Drop)]
 pub(crate) struct Queue {
-    /// For each price the pairs.
+    /// The pairs of each cost.
     pairs: Vec<Vec<Pair>>,
-    /// How many were put in.
+    /// How many pairs were added.
     count: usize,
-    /// No pair is cheaper than this.
+    /// A lower bound of the costs of the pairs.
     cheapest: usize,
 }
 
@@ -39,7 +39,7 @@ impl Queue {
         self.count >= KEPT
     }
 
-    /// Adds a pair, but none that is too dear, and none behind so many.
+    /// Adds a pair, unless its cost or the number of pairs is too great.
     pub(crate) fn push(&mut self, yields: &Yields, pair: Pair) -> Result<(), AllocError> {
         let Some(price) = pair.price(yields) else {
             return Ok(());
@@ -56,7 +56,7 @@ impl Queue {
         Ok(())
     }
 
-    /// Takes one of the cheapest pairs.
+    /// Removes and returns one of the cheapest pairs.
     pub(crate) fn pop(&mut self) -> Option<Pair> {
         for price in self.cheapest..DEAREST {
             if let Some(pairs) = self.pairs.get_mut(price)

@@ -1,4 +1,4 @@
-//! A reading of a sentence that isn't whole yet: what is under way round the place of a conflict.
+//! A partial reading of a sentence: the rules under way around the point of a conflict.
 use crate::bodies::{body_of, rest_of};
 use crate::yields::push_reversed;
 use ly_base::Sym;
@@ -6,25 +6,25 @@ use ly_join::{Grammar, Symbol};
 use ly_lr0::Item;
 use std::alloc::{AllocError, Global};
 
-/// How many symbols a reading has ahead, and how many rules it has under way or behind it, at most.
+/// How many symbols a reading may have ahead, and how many rules under way or completed.
 pub(crate) const LONGEST: usize = 300;
 
-/// A reading of a sentence.
+/// A partial reading of a sentence.
 #[derive(Drop)]
 pub(crate) struct Reading {
-    /// The rules under way, the inmost first: of that the dot is at the place, of each other one before the rule
-    /// within.
+    /// The rules under way, the inmost first. The inmost one has its dot at the conflict point, each other one before
+    /// the rule within it.
     pub(crate) open: Vec<Item>,
-    /// How many symbols stand before the place in them.
+    /// How many symbols precede the conflict point in them.
     pub(crate) passed: usize,
-    /// The rules of what was read behind the place.
+    /// The rules of what was read after the conflict point.
     pub(crate) rules: Vec<usize>,
-    /// The symbols that are ahead in them, the next one last.
+    /// The symbols ahead in them, the next one last.
     pub(crate) ahead: Vec<Symbol>,
 }
 
 impl Reading {
-    /// A reading that begins with the rule of an item, whose dot is at the place.
+    /// A reading that begins with the rule of an item. The item's dot is at the conflict point.
     pub(crate) fn of(alloc: Global, grammar: &Grammar, item: Item) -> Result<Reading, AllocError> {
         let mut open = Vec::new(alloc);
         open.push(item)?;
@@ -38,7 +38,7 @@ impl Reading {
         })
     }
 
-    /// The reading of a whole text that a way begins.
+    /// The reading of a whole text that begins with a derivation of the conflict's action.
     pub(crate) fn of_way(
         alloc: Global,
         grammar: &Grammar,
@@ -67,18 +67,18 @@ impl Reading {
         })
     }
 
-    /// The symbol that is ahead next.
+    /// The next symbol.
     pub(crate) fn next(&self) -> Option<Symbol> {
         self.ahead.last().copied()
     }
 
-    /// How many rules and symbols it holds.
+    /// How many rules and symbols it has.
     pub(crate) fn size(&self) -> usize {
         let rules = self.open.len().saturating_add(self.rules.len());
         rules.saturating_add(self.ahead.len())
     }
 
-    /// Whether it isn't gone on with.
+    /// Whether it is too long to go on.
     pub(crate) fn is_long(&self) -> bool {
         self.ahead.len() > LONGEST || self.rules.len() > LONGEST || self.open.len() > LONGEST
     }
@@ -95,7 +95,7 @@ impl Reading {
         Some(rule.left())
     }
 
-    /// The reading with the body of a rule in place of the symbol that is ahead next.
+    /// The reading with the next symbol replaced by the body of a rule.
     pub(crate) fn with_rule(
         &self,
         alloc: Global,
@@ -109,8 +109,8 @@ impl Reading {
         Ok(reading)
     }
 
-    /// The reading with a rule around its outmost one, which stands behind the dot of this item. Nothing is ahead but
-    /// what stands behind it there.
+    /// The reading with a rule around its outmost one, which follows the dot of this item. Only what follows it there
+    /// is ahead.
     pub(crate) fn within(
         &self,
         alloc: Global,

@@ -1,10 +1,10 @@
-//! The rules of the grammar, by the numbers that reports have for them.
+//! The rules of the grammar with the numbers that reports use.
 use crate::places::Places;
 use crate::surveying::{Accepted, say_numbered};
 use ly_base::OutOfMemory;
 use ly_page::Page;
 
-/// Says each rule with its number and its line.
+/// Appends each rule with its number and its line.
 pub(crate) fn say_rules(page: &mut Page, files: &Accepted<'_>, places: &Places) {
     let spec = files.spec;
     page.say(b"\nRules:\n");

@@ -1,4 +1,4 @@
-//! The states of the scanner: which bytes it tells apart, where each condition begins, and where each state leads.
+//! The states of the scanner: the classes of bytes, the start of each condition, and the edges of each state.
 ghost use Rattle.std.specs.Prelude.{◌<◌, length};
 
 use crate::decided::is_marked;
@@ -9,7 +9,7 @@ use ly_page::Page;
 use ly_subset::Dfa;
 use std::alloc::{AllocError, Global};
 
-/// Says the classes of bytes, the conditions and the states of the smallest scanner.
+/// Appends the classes of bytes, the conditions and the states of the minimal DFA.
 pub(crate) fn say_scanner(
     alloc: Global,
     page: &mut Page,
@@ -45,7 +45,7 @@ fn bytes_of_class(alloc: Global, dfa: &Dfa, class: usize) -> Result<Vec<bool>, A
     Ok(bytes)
 }
 
-/// Says the bytes that are marked, those that follow one another together.
+/// Appends the bytes that are marked. Consecutive ones are printed as ranges.
 fn say_bytes(page: &mut Page, marks: &[bool]) {
     for byte in 0..=255u8 {
         if !has_byte(marks, Some(byte)) {
@@ -69,7 +69,7 @@ fn has_byte(marks: &[bool], byte: Option<u8>) -> bool {
     }
 }
 
-/// Says with which bytes no match begins, in each condition.
+/// Appends the bytes that no match begins with, for each condition.
 pub(crate) fn say_other_bytes(
     alloc: Global,
     page: &mut Page,
@@ -88,7 +88,7 @@ pub(crate) fn say_other_bytes(
     Ok(())
 }
 
-/// The marks of the bytes with which no match begins in a condition.
+/// The marks of the bytes that no match begins with in a condition.
 fn other_bytes(alloc: Global, dfa: &Dfa, condition: u32) -> Result<Vec<bool>, AllocError> {
     let mut others = Vec::new(alloc);
     for byte in 0..=255u8 {
@@ -98,7 +98,7 @@ fn other_bytes(alloc: Global, dfa: &Dfa, condition: u32) -> Result<Vec<bool>, Al
     Ok(others)
 }
 
-/// Whether a match may begin with a byte in a condition, where a line begins or elsewhere.
+/// Whether a match may begin with a byte in a condition, at the start of a line or elsewhere.
 fn begins(dfa: &Dfa, condition: u32, line: bool, byte: u8) -> bool {
     let class = dfa.class(byte) as usize;
     match dfa.start(condition, line) {
@@ -107,7 +107,7 @@ fn begins(dfa: &Dfa, condition: u32, line: bool, byte: u8) -> bool {
     }
 }
 
-/// Says the name of a condition, or its number where it has none.
+/// Appends the name of a condition, or its number if it has none.
 fn say_name(page: &mut Page, files: &Accepted<'_>, condition: u32) {
     match files.file.start_conditions.get(condition as usize) {
         Some(found) => page.say(&found.name),
@@ -115,7 +115,7 @@ fn say_name(page: &mut Page, files: &Accepted<'_>, condition: u32) {
     }
 }
 
-/// Says where a condition begins.
+/// Appends the start states of a condition.
 fn say_condition(page: &mut Page, dfa: &Dfa, condition: u32) {
     say_numbered(page, b"    ", condition as u64, b"");
     say_start(page, b"  begins", dfa.start(condition, false));
@@ -123,7 +123,7 @@ fn say_condition(page: &mut Page, dfa: &Dfa, condition: u32) {
     page.say(b"\n");
 }
 
-/// Says a start, if there is one.
+/// Appends a start state, if there is one.
 fn say_start(page: &mut Page, where_it_is: &[u8], start: Option<u32>) {
     page.say(where_it_is);
     match start {
@@ -132,7 +132,7 @@ fn say_start(page: &mut Page, where_it_is: &[u8], start: Option<u32>) {
     }
 }
 
-/// Says a state: its rule, and where classes of bytes lead from it.
+/// Appends a state: its rule, and its edges by classes of bytes.
 fn say_state(page: &mut Page, files: &Accepted<'_>, lines: &RuleLines, state: u32)
     requires { state < length files.now.dfa.now.rules }
 {

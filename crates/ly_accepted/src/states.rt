@@ -1,4 +1,4 @@
-//! The states of the parser, as users of yacc read them: the items, what is done before each terminal, and gotos.
+//! The states of the parser as users of yacc know them: the items, the action before each terminal, and gotos.
 ghost use Rattle.std.specs.Prelude.{◌<◌, IfSome, length};
 ghost use Rattle.ly_lookahead.specs.Lookaheads.{AreLookaheads, HasSet};
 
@@ -18,22 +18,22 @@ use std::alloc::Global;
 /// The tables of a parser.
 pub type Tables = Machine<Dense<TableAction>, Dense<StateNo>>;
 
-/// What states are told by.
+/// What is needed to print states.
 #[derive(Clone, Copy)]
 struct Teller<'a> {
     /// The specification.
     spec: &'a Spec,
-    /// What is done in each state.
+    /// The actions of each state.
     resolved: &'a Resolved<'a>,
     /// The lookaheads of complete rules.
     lookaheads: &'a Lookaheads,
-    /// The tables, for the default reductions.
+    /// The tables, which have the default reductions.
     tables: &'a Tables,
     /// The items of the states, and the strings that lead to them.
     cores: &'a Cores<'a>,
 }
 
-/// Says each state of the parser.
+/// Appends each state of the parser.
 pub(crate) fn say_states(
     alloc: Global,
     page: &mut Page,
@@ -57,7 +57,7 @@ pub(crate) fn say_states(
 }
 
 impl Teller<'_> {
-    /// Says a state.
+    /// Appends a state.
     fn say_state(&self, alloc: Global, page: &mut Page, state: StateNo) -> Result<(), OutOfMemory>
         requires state { state.0 < length self.now.resolved.now.automaton.states }
         requires sets { AreLookaheads self.now.resolved.now.automaton self.now.lookaheads.now }
@@ -78,7 +78,7 @@ impl Teller<'_> {
         Ok(())
     }
 
-    /// Says an item, with its lookaheads where its dot is at the end.
+    /// Appends an item, with its lookaheads if its dot is at the end.
     fn say_item(&self, page: &mut Page, state: StateNo, item: Item)
         requires state { state.0 < length self.now.resolved.now.automaton.states }
         requires sets { AreLookaheads self.now.resolved.now.automaton self.now.lookaheads.now }
@@ -98,7 +98,7 @@ impl Teller<'_> {
         page.say(b"\n");
     }
 
-    /// Says what is done before each terminal: what isn't the default reduction by itself, and that behind it.
+    /// Appends the actions before terminals: first those that aren't the default reduction, then the default reduction.
     fn say_actions(&self, page: &mut Page, state: StateNo)
         requires { state.0 < length self.now.resolved.now.automaton.states }
     {
@@ -117,7 +117,7 @@ impl Teller<'_> {
         }
     }
 
-    /// Says what is done before a terminal.
+    /// Appends the action before a terminal.
     fn say_action(&self, page: &mut Page, state: StateNo, entry: &TerminalAction)
         requires { state.0 < length self.now.resolved.now.automaton.states }
     {
@@ -139,7 +139,7 @@ impl Teller<'_> {
         }
     }
 
-    /// Says where a state goes by nonterminals.
+    /// Appends the gotos of a state.
     fn say_gotos(&self, page: &mut Page, state: StateNo)
         requires { state.0 < length self.now.resolved.now.automaton.states }
     {
@@ -151,7 +151,7 @@ impl Teller<'_> {
     }
 }
 
-/// The place of an item with its dot at the end among the complete rules of a state.
+/// The index of an item with its dot at the end among the complete rules of a state.
 pub(crate) fn place_of(
     lr0: &Lr0<'_>,
     lookaheads: &Lookaheads,
@@ -166,7 +166,7 @@ pub(crate) fn place_of(
         return None;
     }
     let complete = lr0.complete(state);
-    // They rise, so that the first one that is looked at is the rule, however many there are.
+    // they are in ascending order, so the first match is the rule, however many there are
     let first = complete.binary_search(&item.rule).ok()?;
     for place in first..complete.len() {
         if complete[place] == item.rule {

@@ -1,8 +1,8 @@
-//! What is said of what may not be meant in a pattern.
+//! The texts of warnings about patterns.
 use crate::patterns::Surprise;
 use ly_page::Page;
 
-/// Says what is surprising, and what to write.
+/// Appends what a pattern means, and what to write instead.
 pub(crate) fn say_surprise(page: &mut Page, surprise: Surprise) {
     page.say(match surprise {
         Surprise::Letter(letter) => return say_letter(page, letter),
@@ -32,7 +32,7 @@ pub(crate) fn say_surprise(page: &mut Page, surprise: Surprise) {
     });
 }
 
-/// Says that a letter behind a backslash stands for itself, and what to write for the class that it may be meant for.
+/// Appends that a letter after a backslash is that letter, and what to write for the class that may be meant.
 fn say_letter(page: &mut Page, letter: u8) {
     page.say(b"\\");
     page.say(&[letter]);

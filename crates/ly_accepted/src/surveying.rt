@@ -23,56 +23,56 @@ use ly_resolve::Resolved;
 use ly_subset::Dfa;
 use std::alloc::Global;
 
-/// What is asked for beside the text.
+/// What to make besides the text.
 #[derive(Clone, Copy, Debug, Default, PartialEq, Eq)]
 pub struct Wish {
-    /// Whether the states of the parser are.
+    /// Whether to make the states of the parser.
     pub states: bool,
-    /// Whether their picture is.
+    /// Whether to make the graph of the states.
     pub picture: bool,
-    /// Whether nothing is to be said of the lex file, since it stands for none.
+    /// Whether to report nothing about the lex file, since there is none.
     pub grammar_alone: bool,
-    /// Whether what is said is to be JSON in the place of English.
+    /// Whether to make JSON instead of English.
     pub json: bool,
 }
 
-/// What is said of two files.
+/// The report of two files.
 #[derive(Debug, Drop)]
 pub struct Explanation {
     /// The text, in English or as JSON.
     pub text: Vec<u8>,
-    /// The states of the parser, where they are asked for and the files are accepted.
+    /// The states of the parser, if requested and if the files are accepted.
     pub states: Option<Vec<u8>>,
-    /// A picture of the parser's states, in the language of Graphviz's `dot`, where it is asked for and the files are
+    /// The graph of the parser's states in the language of Graphviz's `dot`, if requested and if the files are
     /// accepted.
     pub picture: Option<Vec<u8>>,
-    /// What is found in the files, where they are accepted.
+    /// What was found in the files, if they are accepted.
     pub findings: Option<Findings>,
 }
 
-/// What is found in two files that are accepted.
+/// What was found in two accepted files.
 #[derive(Clone, Copy, Debug, PartialEq, Eq)]
 pub struct Findings {
-    /// How many conflicts there are of each kind.
+    /// How many conflicts of each kind there are.
     pub conflicts: ConflictCounts,
-    /// Whether anything is doubtful.
+    /// Whether there is a warning.
     pub are_doubtful: bool,
 }
 
-/// Two files that are accepted, and what is known of them.
+/// Two accepted files, and what is known of them.
 #[derive(Clone, Copy)]
 pub struct Accepted<'a> {
     /// The lex file.
     pub lex: Named<'a>,
     /// The yacc file.
     pub yacc: Named<'a>,
-    /// What the lex file says.
+    /// The lex file as it was read.
     pub file: &'a LexFile,
-    /// What both say together.
+    /// The specification of both files.
     pub spec: &'a Spec,
-    /// The smallest scanner.
+    /// The minimal DFA of the scanner.
     pub dfa: &'a Dfa,
-    /// What the parser does in each state, and the conflicts.
+    /// The actions of each state of the parser, and the conflicts.
     pub resolved: &'a Resolved<'a>,
     /// The lookaheads of the rules that are complete in its states.
     pub lookaheads: &'a Lookaheads,
@@ -80,10 +80,10 @@ pub struct Accepted<'a> {
     pub indented: &'a [u64],
 }
 
-/// Says of two files that are accepted what is doubtful, where their conflicts are, and which rule has which number;
-/// and the states and their picture, where they are asked for.
+/// Reports the warnings, the conflicts and the numbered rules of two accepted files; also the states and their graph,
+/// if requested.
 ///
-/// `OutOfMemory` comes where a growth was refused.
+/// Returns `OutOfMemory` if an allocation fails.
 pub fn survey(
     alloc: Global,
     files: Accepted<'_>,
@@ -108,7 +108,7 @@ pub fn survey(
     })
 }
 
-/// What is doubtful, where the conflicts are, and which rule has which number; and whether anything is doubtful.
+/// The warnings, the conflicts and the numbered rules; and whether there is a warning.
 fn said_of(alloc: Global, files: &Accepted<'_>, wish: Wish) -> Result<(Vec<u8>, bool), OutOfMemory>
     requires order { IsBreadthFirst files.now.dfa.now }
     requires sets { AreLookaheads files.now.resolved.now.automaton files.now.lookaheads.now }
@@ -124,7 +124,7 @@ fn said_of(alloc: Global, files: &Accepted<'_>, wish: Wish) -> Result<(Vec<u8>, 
     Ok((page.finish()?, !doubts.is_empty()))
 }
 
-/// Says all that in English, by where symbols and rules stand, and by what is doubtful.
+/// Appends all of that in English, given the locations of symbols and rules and the warnings.
 fn say_all(
     alloc: Global,
     page: &mut Page,
@@ -148,7 +148,7 @@ fn say_all(
     Ok(())
 }
 
-/// The states of the scanner, where there is a lex file, and of the parser, where they are asked for.
+/// The states of the scanner, if there is a lex file, and of the parser, if requested.
 fn states_if(
     alloc: Global,
     files: &Accepted<'_>,
@@ -168,7 +168,7 @@ fn states_if(
     Ok(Some(page.finish()?))
 }
 
-/// The picture of the parser's states, where it is asked for.
+/// The graph of the parser's states, if requested.
 fn picture_if(
     alloc: Global,
     files: &Accepted<'_>,
@@ -182,7 +182,7 @@ fn picture_if(
     Ok(Some(page.finish()?))
 }
 
-/// Says that files are accepted, and how large their parser is.
+/// Appends that the files are accepted, and the size of their parser.
 fn say_sizes(page: &mut Page, files: &Accepted<'_>, wish: Wish) {
     let grammar = files.spec.grammar();
     let rules = grammar.rules().len().saturating_sub(1);
@@ -205,14 +205,14 @@ fn say_sizes(page: &mut Page, files: &Accepted<'_>, wish: Wish) {
     page.say_count(files.resolved.lr0().states(), b"state.\n", b"states.\n");
 }
 
-/// Says a number, and what stands before it and behind it.
+/// Appends a number, and the texts before and after it.
 pub(crate) fn say_numbered(page: &mut Page, before: &[u8], number: u64, behind: &[u8]) {
     page.say(before);
     page.say_number(number);
     page.say(behind);
 }
 
-/// The first of things, so many at most.
+/// The first elements of a list, at most this many.
 pub(crate) fn first_of<T>(things: &[T], most: usize) -> &[T]
     ensures { result.now ≡ take most things.now }
 {

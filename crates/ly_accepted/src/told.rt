@@ -1,4 +1,4 @@
-//! A group of conflicts as it is told, before it is put into words.
+//! A group of conflicts as a value, before it is printed.
 use crate::ambiguity::Ambiguity;
 use crate::cores::Prefix;
 use crate::ways::Ways;
@@ -7,50 +7,51 @@ use ly_base::Sym;
 use ly_join::Symbol;
 use ly_resolve::Conflict;
 
-/// A group of conflicts, as it is told.
+/// A group of conflicts with all that is reported about it.
 #[derive(Drop)]
 pub(crate) struct Told<'g> {
-    /// The first of them; the others differ from it in the terminal alone.
+    /// The first of the conflicts. The others differ from it only in the terminal.
     pub(crate) conflict: Conflict,
-    /// The terminals of all of them.
+    /// The terminals of all conflicts.
     pub(crate) terminals: Vec<Sym>,
-    /// What leads to their state.
+    /// The string that leads to their state.
     pub(crate) prefix: Prefix,
-    /// What is known of how they come about.
+    /// How they arise.
     pub(crate) shown: Shown<'g>,
 }
 
-/// What is known of how a conflict comes about.
+/// How a conflict arises.
 #[derive(Drop)]
 pub(crate) enum Shown<'g> {
-    /// Nothing, since it wasn't sought.
+    /// Unknown: no search was made.
     Unsought,
-    /// Both actions are possible behind a string.
+    /// Both actions are possible after a string: a counterexample.
     At(Spot<'g>),
-    /// Only merging makes the conflict. The ways to each action are behind strings of their own, where they are found.
+    /// The conflict comes from merging alone. The derivations of its actions are after different strings, if they are
+    /// known.
     Merged(Option<Ways>),
-    /// No string was found, and perhaps a sentence with two trees.
+    /// No string was found; a sentence with two trees may be known.
     Unknown(Option<Ambiguity>),
 }
 
-/// A string behind which both actions of a conflict are possible.
+/// A counterexample of a conflict.
 #[derive(Drop)]
 pub(crate) struct Spot<'g> {
     /// The string.
     pub(crate) string: &'g [Symbol],
-    /// The shortest tokens of it.
+    /// Its shortest tokens.
     pub(crate) derived: Derived,
-    /// Whether the parser comes to the conflict by them, as far as they are known.
+    /// Whether the parser reaches the conflict on these tokens, as far as they are known.
     pub(crate) is_met: bool,
-    /// How both actions come about.
+    /// How both actions arise.
     pub(crate) readings: Readings,
 }
 
-/// How both actions of a conflict come about behind a string.
+/// How both actions of a conflict arise after a string.
 #[derive(Drop)]
 pub(crate) enum Readings {
     /// By two rules that are the same.
     Same,
-    /// By these ways, and perhaps with a sentence that has two trees.
+    /// By these derivations, and perhaps with a sentence that has two trees.
     Ways(Ways, Option<Ambiguity>),
 }

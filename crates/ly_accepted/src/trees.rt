@@ -1,4 +1,4 @@
-//! A sentence with two trees, as it is said.
+//! Prints a sentence and its two trees.
 use crate::ambiguity::Ambiguity;
 use crate::bodies::body_of;
 use crate::brackets::Style;
@@ -8,11 +8,11 @@ use ly_join::{Spec, Symbol};
 use ly_page::Page;
 use std::alloc::Global;
 
-/// How many symbols of a tree are said, at most.
+/// How many symbols of a tree are printed at most.
 const MOST: usize = 2_000;
 
-/// Says a sentence, and its two trees. They have names where brackets alone don't tell them apart, and where there are
-/// no tokens.
+/// Appends a sentence and its two trees. The trees have the names of left sides if brackets alone don't distinguish
+/// them, and if there are no tokens.
 pub(crate) fn say_ambiguity(
     alloc: Global,
     page: &mut Page,
@@ -35,7 +35,7 @@ pub(crate) fn say_ambiguity(
     Ok(())
 }
 
-/// Two trees, with names where brackets alone don't tell them apart, and where there are no tokens.
+/// Two trees, with the names of left sides if brackets alone don't distinguish them, and if there are no tokens.
 pub(crate) fn told_apart(
     alloc: Global,
     spec: &Spec,
@@ -61,10 +61,10 @@ fn trees_of(
     Ok((one, other))
 }
 
-/// A part of a tree that is to be said.
+/// A part of a tree that is still to be printed.
 #[derive(Clone, Copy)]
 enum Part {
-    /// A symbol, with what is below it.
+    /// A symbol with its children.
     Symbol(Below),
     /// The end of a rule.
     Close,
@@ -75,28 +75,28 @@ enum Part {
 struct Below {
     /// The symbol.
     symbol: Symbol,
-    /// Whether it isn't all that stands below the root.
+    /// Whether the tree has more below its root than this symbol.
     beside: bool,
 }
 
-/// What says a tree.
+/// The state of printing a tree.
 #[derive(Drop)]
 struct Teller<'a> {
     /// The specification.
     spec: &'a Spec,
-    /// How trees are said.
+    /// The style of trees.
     style: Style,
-    /// The rules that weren't said yet.
+    /// The rules that weren't printed yet.
     rules: &'a [usize],
-    /// What was said.
+    /// The text so far.
     page: Page,
-    /// Whether a bracket was said last.
+    /// Whether the last thing printed is an opening bracket.
     opened: bool,
-    /// What is to be said, the next part last.
+    /// The parts that are still to be printed, the next one last.
     parts: Vec<Part>,
 }
 
-/// The tree that has these rules, each in front of those below it, a space before each symbol.
+/// The text of the tree that has these rules, each before those below it. A space precedes each symbol.
 fn tree_of<'a>(
     alloc: Global,
     spec: &'a Spec,
@@ -125,7 +125,7 @@ fn tree_of<'a>(
 }
 
 impl<'a> Teller<'a> {
-    /// Says a part.
+    /// Appends a part.
     fn say_part(&mut self, part: Part) -> Result<(), OutOfMemory> {
         let Part::Symbol(below) = part else {
             self.close();
@@ -149,7 +149,7 @@ impl<'a> Teller<'a> {
         Some(body_of(self.spec.grammar(), *rule))
     }
 
-    /// Says the space before a symbol, if it needs one.
+    /// Appends the space before a symbol, if it needs one.
     fn say_space(&mut self) {
         if !self.opened {
             self.page.say(b" ");
@@ -157,13 +157,13 @@ impl<'a> Teller<'a> {
         self.opened = false;
     }
 
-    /// Says a terminal.
+    /// Appends a terminal.
     fn say_terminal(&mut self, number: Sym) {
         self.say_space();
         self.page.say_terminal(self.spec, number);
     }
 
-    /// Says how a rule begins, and notes what is below it.
+    /// Appends the start of a rule, and notes what is below it.
     fn say_rule(&mut self, left: Sym, body: &[Symbol], beside: bool) -> Result<(), OutOfMemory> {
         let one_of_many = body.len() > 1;
         if self.style == Style::Names || beside && one_of_many {
@@ -180,7 +180,7 @@ impl<'a> Teller<'a> {
         Ok(())
     }
 
-    /// Says the beginning of a rule.
+    /// Appends the start of a rule.
     fn open(&mut self, left: Sym) {
         self.say_space();
         if self.style == Style::Names {
@@ -190,7 +190,7 @@ impl<'a> Teller<'a> {
         self.opened = true;
     }
 
-    /// Says the end of a rule.
+    /// Appends the end of a rule.
     fn close(&mut self) {
         self.opened = false;
         self.page.say(b"]");

@@ -1,4 +1,4 @@
-//! How the two actions of a conflict come about, each behind a string of symbols, as it is drawn.
+//! How the two actions of a conflict arise, each after a string of symbols, as it is printed.
 use crate::bodies::{behind_dot, body_of};
 use crate::brackets::{Style, say_way};
 use crate::cores::Cores;
@@ -12,7 +12,7 @@ use ly_page::Page;
 use ly_resolve::{Action, Conflict, ConflictKind};
 use std::alloc::Global;
 
-/// What the ways to the actions of a conflict are drawn by.
+/// What is needed to find and print the derivations of a conflict's actions.
 #[derive(Clone, Copy)]
 pub(crate) struct Drawn<'a> {
     /// The items of the states.
@@ -23,17 +23,18 @@ pub(crate) struct Drawn<'a> {
     pub(crate) conflict: &'a Conflict,
 }
 
-/// How the two actions of a conflict come about.
+/// The derivations of the two actions of a conflict. A derivation is a list of items, from the start rule to the
+/// action.
 #[derive(Drop)]
 pub(crate) struct Ways {
-    /// The way to the shift, or to the rule that is chosen.
+    /// The derivation of the shift, or of the rule that is chosen.
     pub(crate) one: Vec<Item>,
-    /// The way to the rule of the conflict.
+    /// The derivation of the rule of the conflict.
     pub(crate) other: Vec<Item>,
 }
 
 impl Drawn<'_> {
-    /// How both actions come about, each behind a string of its own.
+    /// The derivations of both actions, each after a string of its own.
     pub(crate) fn ways(
         &self,
         alloc: Global,
@@ -46,7 +47,7 @@ impl Drawn<'_> {
         })
     }
 
-    /// The way to a claim behind a string.
+    /// The derivation of a claim after a string.
     fn way(
         &self,
         alloc: Global,
@@ -56,14 +57,14 @@ impl Drawn<'_> {
         Drawing::new(alloc, self.cores, string, self.conflict.terminal)?.way(alloc, claim)
     }
 
-    /// What is claimed where a reduction by a rule is possible.
+    /// The claim that a reduction by a rule is possible.
     fn reduction(&self, rule: usize) -> Claim {
         let dot = body_of(self.spec.grammar(), rule).len();
         Claim::With(Item { rule, dot })
     }
 
-    /// What is claimed for what stands against the rule of the conflict: of a shift, by the first item that has the
-    /// terminal behind its dot.
+    /// The claim for the rival of the conflict's rule. For a shift it is about the first item that has the terminal
+    /// after its dot.
     fn rival(&self, alloc: Global) -> Result<Claim, OutOfMemory> {
         match reduced_rival(self.conflict) {
             Some(rule) => Ok(self.reduction(rule)),
@@ -75,7 +76,7 @@ impl Drawn<'_> {
     }
 }
 
-/// What is claimed where a terminal is shifted: the first of these items that has it behind its dot.
+/// The claim that a terminal is shifted. It is about the first of these items that has the terminal after its dot.
 fn shift(grammar: &Grammar, core: &[Item], terminal: Sym) -> Claim {
     for item in core {
         if behind_dot(grammar, *item) == Some(Symbol::Terminal(terminal)) {
@@ -85,7 +86,7 @@ fn shift(grammar: &Grammar, core: &[Item], terminal: Sym) -> Claim {
     Claim::Settled
 }
 
-/// The rule that stands against that of a conflict; none where a shift does.
+/// The rule that is the rival of a conflict's rule; `None` if the rival is a shift.
 pub(crate) fn reduced_rival(conflict: &Conflict) -> Option<usize> {
     match (conflict.kind, conflict.choice) {
         (ConflictKind::ReduceReduce, Action::Reduce(rule)) => Some(rule.0 as usize),
@@ -93,7 +94,7 @@ pub(crate) fn reduced_rival(conflict: &Conflict) -> Option<usize> {
     }
 }
 
-/// Both ways as they are drawn. Brackets have the names of left sides where both look alike without them.
+/// The texts of both derivations. The brackets have the names of left sides if the two look the same without them.
 pub(crate) fn drawn_ways(
     alloc: Global,
     spec: &Spec,
@@ -109,7 +110,7 @@ pub(crate) fn drawn_ways(
     Ok((one, other))
 }
 
-/// A way as it is drawn.
+/// The text of a derivation.
 fn drawn_way(
     alloc: Global,
     spec: &Spec,
@@ -121,7 +122,7 @@ fn drawn_way(
     page.finish()
 }
 
-/// Says how both actions of a conflict come about.
+/// Appends how both actions of a conflict arise.
 pub(crate) fn say_ways(
     alloc: Global,
     page: &mut Page,
@@ -142,7 +143,7 @@ pub(crate) fn say_ways(
     Ok(())
 }
 
-/// Says which rule it is that a reduction is drawn of.
+/// Appends the rule whose reduction is drawn.
 fn say_label(page: &mut Page, rule: usize) {
     let behind = if rule < 10 { b": ".as_slice() } else { b":" };
     say_numbered(page, b"    rule ", rule as u64, behind);

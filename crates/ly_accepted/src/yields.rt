@@ -1,4 +1,4 @@
-//! The shortest tokens that symbols yield.
+//! The shortest token strings that symbols derive.
 use crate::bodies::body_of;
 use ly_base::{OutOfMemory, Sym};
 use ly_grammar::Reduced;
@@ -6,41 +6,41 @@ use ly_join::{Grammar, Spec, Symbol};
 use ly_page::Page;
 use std::alloc::{AllocError, Global};
 
-/// How often the rules are gone through at most. A nonterminal that needs more has no yield here.
+/// The greatest number of passes over the rules. A nonterminal that needs more has no shortest string here.
 const ROUNDS: usize = 64;
 
-/// How many symbols are looked at, at most, to say what symbols yield.
+/// How many symbols are looked at, at most, to derive tokens.
 const MOST: usize = 400;
 
-/// Of each nonterminal the rule with which its shortest yield begins.
+/// For each nonterminal the first rule of its shortest derivation.
 #[derive(Drop)]
 pub(crate) struct Yields {
-    /// The rules, with the lengths of the yields.
+    /// The rules, with the lengths of the strings.
     shortest: Vec<Option<Shortest>>,
 }
 
-/// How the shortest yield of a nonterminal begins.
+/// The first step of the shortest derivation of a nonterminal.
 #[derive(Clone, Copy)]
 struct Shortest {
     /// The rule.
     rule: usize,
-    /// How many tokens there are.
+    /// The number of tokens.
     length: u64,
 }
 
 /// Trees of symbols.
 #[derive(Drop)]
 pub(crate) struct Derived {
-    /// Their rules, each in front of those below it.
+    /// Their rules, each before those below it.
     pub(crate) rules: Vec<usize>,
     /// Their tokens.
     pub(crate) tokens: Vec<Sym>,
-    /// Whether that is all of them, and not only how they begin.
+    /// Whether these are all of them, and not only the first ones.
     pub(crate) whole: bool,
 }
 
 impl Yields {
-    /// The shortest yields of a grammar's nonterminals.
+    /// The shortest strings of a grammar's nonterminals.
     pub(crate) fn of(alloc: Global, reduced: &Reduced<'_>) -> Result<Yields, AllocError> {
         let nonterminals = reduced.grammar().accept().0 as usize + 1;
         let mut yields = Yields {
@@ -54,7 +54,7 @@ impl Yields {
         Ok(yields)
     }
 
-    /// Takes each rule by which a shorter yield begins, and answers whether there was one.
+    /// Records each rule that gives a shorter string. Returns whether there was one.
     fn shorten(&mut self, reduced: &Reduced<'_>) -> bool {
         let rules = reduced.grammar().rules();
         let mut shortened = false;
@@ -67,7 +67,7 @@ impl Yields {
         shortened
     }
 
-    /// Takes a rule for its left side, if the yield of this length is shorter.
+    /// Records a rule for its left side, if a string of this length is shorter.
     fn take(&mut self, left: usize, rule: usize, length: Option<u64>) -> bool {
         let (Some(length), Some(shortest)) = (length, self.shortest.get_mut(left)) else {
             return false;
@@ -82,7 +82,7 @@ impl Yields {
         shorter
     }
 
-    /// How many tokens the shortest yields of symbols have together, if they are known.
+    /// The number of tokens in the shortest string of these symbols, if it is known.
     pub(crate) fn length(&self, symbols: &[Symbol]) -> Option<u64> {
         let mut length: u64 = 0;
         for symbol in symbols {
@@ -94,12 +94,12 @@ impl Yields {
         Some(length)
     }
 
-    /// How the shortest yield of a nonterminal begins.
+    /// The first step of the shortest derivation of a nonterminal.
     fn shortest_of(&self, symbol: Sym) -> Option<Shortest> {
         *self.shortest.get(symbol.0 as usize)?
     }
 
-    /// The trees of symbols by which they yield so few tokens.
+    /// The trees of symbols with the fewest tokens.
     pub(crate) fn derive(
         &self,
         alloc: Global,
@@ -125,7 +125,7 @@ impl Yields {
 }
 
 impl Derived {
-    /// Says the tokens, a space before each. Of a long row nothing is said behind dots.
+    /// Appends the tokens, a space before each. A long row ends with dots.
     pub(crate) fn say(&self, page: &mut Page, spec: &Spec) {
         for token in &self.tokens {
             page.say(b" ");
@@ -136,7 +136,7 @@ impl Derived {
         }
     }
 
-    /// Takes a symbol on: a terminal is a token, and of a nonterminal the body of the shortest rule is ahead now.
+    /// Derives a symbol: a terminal becomes a token, and a nonterminal is replaced by the body of its shortest rule.
     fn derive(
         &mut self,
         yields: &Yields,
