@@ -1,4 +1,4 @@
--- Conflicts that are told together.
+-- Conflicts that are reported together.
 use Rattle.std.specs.Prelude.{◌≡◌, ◌≢◌, ◌<◌, ℕ, List, Option, None, Some, AllPairs, Contains, IfSome, length, slice_get}
 use Rattle.ly_lr0.specs.Automaton.{Lr0Automaton}
 use Rattle.ly_resolve.specs.Conflicts.{Conflict, reduce_reduce}
@@ -12,34 +12,35 @@ use Rattle.ly_accepted.specs.declared.common.Answer.{Answer}
 use Rattle.ly_accepted.specs.declared.common.Answer.TheVariants as answer
 use Rattle.ly_accepted.specs.declared.groups.Group.{Group}
 
--- over how many demands an example is sought
+-- how many demands a search for a counterexample may find at most
 abbrev pub most_demands : ℕ
 most_demands = 20000
 
--- conflicts that differ in the terminal alone
+-- conflicts that differ only in the terminal
 abbrev pub DifferInTerminal : Conflict → Conflict → Type 0
 DifferInTerminal c d = (c.prefix ≡ d.prefix) × (c.kind ≡ d.kind) × (c.rule ≡ d.rule) × (c.choice ≡ d.choice)
 
--- what was answered where an example was sought: nothing where none was
+-- the result of the search for a counterexample; none if no search was made
 abbrev pub answer_from : Option Example → Option Answer
 answer_from None = None
 answer_from (Some (At string)) = Some answer.At
 answer_from (Some Merged) = Some answer.Merged
 answer_from (Some Unknown) = Some answer.Unknown
 
--- what is answered is so: the conflict has an example, or none, or more demands follow from it than are looked at
+-- this result is right: the conflict has a counterexample, or none, or more demands follow from its first one than are
+-- looked at
 abbrev pub IsTrueOf : Lr0Automaton → Conflict → Option Answer → Type 0
 IsTrueOf M c None = Unit {0}
 IsTrueOf M c (Some answer.At) = (g : List Symbol) × IsExample M.grammar c g
 IsTrueOf M c (Some answer.Merged) = (g : List Symbol) → IsExample M.grammar c g → ⊥
 IsTrueOf M c (Some answer.Unknown) = HasMoreDemands M c most_demands
 
--- the conflict of this index
+-- the conflict with this index
 abbrev pub IsConflictAt : Resolved → ℕ → Conflict → Type 0
 IsConflictAt r i c = slice_get r.conflicts i ≡ Some c
 
--- Conflicts by their indices, rising, one at least: all differ from the first in the terminal alone. What was answered
--- of the first is so, and of reductions it is so of each.
+-- One or more conflicts, by their indices in ascending order. All differ from the first only in the terminal. The
+-- result of the search is right for the first; for reduce/reduce conflicts it is right for each.
 pub record IsGroup (r : Resolved) (g : Group) : Type 0 where
   pub first : ℕ
   pub begins : slice_get g.conflicts.items 0 ≡ Some first
@@ -50,14 +51,15 @@ pub record IsGroup (r : Resolved) (g : Group) : Type 0 where
   pub alike : (i : ℕ) → Contains g.conflicts.items i → (c : Conflict) × IsConflictAt r i c × DifferInTerminal conflict c
       × (c.kind ≡ reduce_reduce → IsTrueOf r.automaton c (answer_from g.example))
 
--- conflicts of both groups that differ in the terminal alone are reductions, of which something else was answered
+-- conflicts of the two groups that differ only in the terminal are reduce/reduce conflicts with different search
+-- results
 abbrev pub AreApart : Resolved → Group → Group → Type 0
 AreApart r g h = (i j : ℕ) (c d : Conflict) → Contains g.conflicts.items i → Contains h.conflicts.items j
     → IsConflictAt r i c → IsConflictAt r j d → DifferInTerminal c d
     → (c.kind ≡ reduce_reduce) × (answer_from g.example ≢ answer_from h.example)
 
--- All conflicts in groups, each in one of them, in the order of their first ones. There are no more groups than have to
--- be.
+-- All conflicts in groups, each in exactly one of them, in the order of their first ones. There are no more groups than
+-- necessary.
 pub record AreGroups (r : Resolved) (groups : List Group) : Type 0 where
   pub are : (g : Group) → Contains groups g → IsGroup r g
   pub each : (i : ℕ) → i < length r.conflicts → (g : Group) × Contains groups g × Contains g.conflicts.items i

@@ -1,4 +1,4 @@
--- What is told of groups of conflicts.
+-- What is reported about groups of conflicts.
 use Rattle.std.specs.Prelude.{◌≡◌, ℕ, List, Option, Some, Contains, IfSome, length, map, min, option_map, reverse}
 use Rattle.std.specs.Prelude.{slice_get}
 use Rattle.ly_base.specs.declared.numbers.Sym.{Sym}
@@ -19,15 +19,15 @@ use Rattle.ly_accepted.specs.declared.told.Shown.TheVariants.{At, Merged, Unknow
 use Rattle.ly_accepted.specs.declared.told.Told.{Told}
 use Rattle.ly_accepted.specs.Groups.{IsConflictAt, most_demands}
 
--- how many groups are told, at most
+-- how many groups are reported at most
 abbrev pub most_told : ℕ
 most_told = 100
 
--- a sentence by two trees that take both actions of the conflict
+-- a sentence with two trees that take both actions of the conflict
 abbrev pub IsAmbiguity : Resolved → Conflict → Ambiguity → Type 0
 IsAmbiguity r c a = IsAmbiguousAt r c a.one.items a.other.items (numbers_of a.sentence.items)
 
--- what is found is such a sentence
+-- the sentence, if one is found, has such trees
 abbrev pub IsFoundIn : Resolved → Conflict → Option Ambiguity → Type 0
 IsFoundIn r c found = IfSome found (IsAmbiguity r c)
 
@@ -35,8 +35,8 @@ abbrev pub AreReadings : Resolved → Conflict → Readings → Type 0
 AreReadings r c Same = Unit {0}
 AreReadings r c (Ways ways found) = IsFoundIn r c found
 
--- what is said of how the conflicts of a group come about is so: an example of the first, that none has one, or that
--- from the first follow more demands than are looked at
+-- what is reported about how the conflicts of a group arise is right: a counterexample of the first, that none has one,
+-- or that more demands follow from the first than are looked at
 abbrev pub IsShown : Resolved → List ℕ → Conflict → Shown → Type 0
 IsShown r group c Unsought = Unit {0}
 IsShown r group c (At spot) = IsExample r.automaton.grammar c (reverse (map symbol_of spot.string.now))
@@ -44,12 +44,12 @@ IsShown r group c (At spot) = IsExample r.automaton.grammar c (reverse (map symb
 IsShown r group c (Merged ways) = (i : ℕ) → Contains group i → HasNoExample r i
 IsShown r group c (Unknown found) = HasMoreDemands r.automaton c most_demands × IsFoundIn r c found
 
--- the terminals of the conflicts of these indices, in their order
+-- the terminals of the conflicts with these indices, in their order
 abbrev pub AreTerminalsOf : Resolved → List ℕ → List Sym → Type 0
 AreTerminalsOf r group terminals = (length terminals ≡ length group) × ((p i : ℕ) (c : Conflict)
     → slice_get group p ≡ Some i → IsConflictAt r i c → option_map (λ t. t.0) (slice_get terminals p) ≡ Some c.terminal)
 
--- What is told of a group: its first conflict, the terminals of all, and how they come about.
+-- What is reported about a group: its first conflict, the terminals of all, and how they arise.
 pub record IsTold (r : Resolved) (group : List ℕ) (told : Told) : Type 0 where
   pub first : ℕ
   pub begins : slice_get group 0 ≡ Some first
@@ -57,7 +57,7 @@ pub record IsTold (r : Resolved) (group : List ℕ) (told : Told) : Type 0 where
   pub terminals : AreTerminalsOf r group told.terminals.items
   pub shown : IsShown r group (conflict_from r.automaton told.conflict) told.shown
 
--- The groups are told in their order, as many as may be.
+-- The groups are reported in their order, up to the maximum.
 pub record AreTold (r : Resolved) (groups : List Group) (told : List Told) : Type 0 where
   pub count : length told ≡ min most_told (length groups)
   pub each : (p : ℕ) (g : Group) (t : Told) → slice_get groups p ≡ Some g → slice_get told p ≡ Some t

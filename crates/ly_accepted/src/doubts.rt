@@ -1,4 +1,4 @@
-//! What is doubtful in files that are accepted.
+//! The warnings about accepted files.
 ghost use Rattle.ly_lookahead.specs.Lookaheads.{AreLookaheads};
 ghost use Rattle.ly_subset.specs.Automaton.{IsBreadthFirst};
 
@@ -11,21 +11,21 @@ use ly_base::{Location, OutOfMemory, Sym, locate};
 use ly_examples::{unreduced_rules, unreturned_terminals, unused_terminals};
 use std::alloc::Global;
 
-/// How many terminals of a kind are told, at most.
+/// How many terminals of a kind are reported at most.
 pub(crate) const MOST: usize = 50;
 
-/// What finds doubts about a yacc file.
+/// Finds the warnings about a yacc file.
 #[derive(Drop)]
 struct Finder<'a> {
     /// The files.
     files: Accepted<'a>,
-    /// Where symbols and rules stand.
+    /// The locations of symbols and rules.
     places: &'a Places,
-    /// Those that are found.
+    /// The warnings found so far.
     doubts: Vec<Doubt<'a>>,
 }
 
-/// What is doubtful: first in the lex file, where there is one, and then in the yacc file.
+/// The warnings: first about the lex file, if there is one, then about the yacc file.
 pub(crate) fn doubts_of<'a>(
     alloc: Global,
     files: Accepted<'a>,
@@ -62,7 +62,7 @@ pub(crate) fn doubts_of<'a>(
 }
 
 impl<'a> Finder<'a> {
-    /// Adds a doubt about what stands at a location, or nowhere.
+    /// Adds a warning about a location, or without one.
     fn add(&mut self, at: Option<Location>, kind: DoubtKind<'a>) -> Result<(), OutOfMemory> {
         Ok(
             self.doubts.push(Doubt {
@@ -73,19 +73,19 @@ impl<'a> Finder<'a> {
         )
     }
 
-    /// Adds a doubt about the rule of a number.
+    /// Adds a warning about the rule with a number.
     fn add_of_rule(&mut self, rule: usize, kind: DoubtKind<'a>) -> Result<(), OutOfMemory> {
         self.add(Some(self.places.location_of_rule(rule)), kind)
     }
 
-    /// Adds a doubt about a terminal, where it is declared, or else stands first.
+    /// Adds a warning about a terminal, at its declaration or else at its first occurrence.
     fn add_of_terminal(&mut self, terminal: Sym, kind: DoubtKind<'a>) -> Result<(), OutOfMemory> {
         let (spec, text) = (self.files.spec, self.files.yacc.bytes);
         let at = self.places.location_of_terminal(spec, text, terminal);
         self.add(Some(at), kind)
     }
 
-    /// Finds which rules of the grammar are removed, are never reduced, or lose trees.
+    /// Finds the rules of the grammar that are removed, are never reduced, or lose trees.
     fn find_rules(&mut self, alloc: Global) -> Result<(), OutOfMemory> {
         let reduced = self.files.resolved.lr0().reduced();
         for rule in 0..reduced.grammar().rules().len() {
@@ -102,7 +102,7 @@ impl<'a> Finder<'a> {
         Ok(())
     }
 
-    /// Finds which of the terminals that stand in no rule aren't there to give a rule its precedence.
+    /// Finds the terminals that no rule uses, except those that give a rule its precedence.
     fn find_unused(&mut self, alloc: Global, unused: &[Sym]) -> Result<(), OutOfMemory> {
         let names = self.precedence_names(alloc, unused)?;
         let mut found = 0;
@@ -121,7 +121,7 @@ impl<'a> Finder<'a> {
         Ok(())
     }
 
-    /// Finds which terminals no rule of the lex file returns, but of those that stand in no rule.
+    /// Finds the terminals that no rule of the lex file returns, except those that no rule of the grammar uses.
     fn find_unreturned(&mut self, unreturned: &[Sym], unused: &[Sym]) -> Result<(), OutOfMemory> {
         let mut found = 0;
         for terminal in unreturned {
@@ -139,7 +139,7 @@ impl<'a> Finder<'a> {
         Ok(())
     }
 
-    /// Those of terminals that stand behind a `%prec`, and so are there to give a rule its precedence.
+    /// The terminals that are in a `%prec`, so that they exist to give a rule its precedence.
     fn precedence_names(&self, alloc: Global, terminals: &[Sym]) -> Result<Vec<Sym>, OutOfMemory> {
         let mut names = Vec::new(alloc);
         for terminal in terminals {
@@ -150,7 +150,7 @@ impl<'a> Finder<'a> {
         Ok(names)
     }
 
-    /// Finds which tokens are declared more than once.
+    /// Finds the tokens that are declared more than once.
     fn find_declared_again(&mut self, alloc: Global) -> Result<(), OutOfMemory> {
         let (places, text) = (self.places, self.files.yacc.bytes);
         for again in first_of(&places.declared_again(alloc)?, MOST) {
@@ -163,7 +163,7 @@ impl<'a> Finder<'a> {
         Ok(())
     }
 
-    /// Finds which precedences decide nothing: those of terminals, and those that a `%prec` gives.
+    /// Finds the precedences that decide nothing: those of terminals, and those that a `%prec` gives.
     fn find_idle(&mut self, decided: &Decided) -> Result<(), OutOfMemory> {
         let (spec, places) = (self.files.spec, self.places);
         let mut found = 0;

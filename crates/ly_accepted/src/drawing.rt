@@ -1,4 +1,4 @@
-//! How an action comes about behind a string of symbols: the rules that are under way there.
+//! How an action arises after a string of symbols: the rules that are under way there.
 use crate::bodies::{behind_dot, rest_of};
 use crate::claims::{Claimed, MOST, Opening, Search, item_of, with_item};
 use crate::cores::Cores;
@@ -10,25 +10,25 @@ use ly_join::{Grammar, Symbol};
 use ly_lr0::{Item, Lr0};
 use std::alloc::Global;
 
-/// A string of symbols behind which an action is drawn.
+/// A string of symbols after which an action is possible.
 #[derive(Drop)]
 pub(crate) struct Drawing<'a> {
-    /// What is known of the grammar.
+    /// The useful rules of the grammar, with what is known of its symbols.
     reduced: &'a Reduced<'a>,
     /// The grammar.
     grammar: &'a Grammar,
     /// The string, its first symbol first.
     string: &'a [Symbol],
-    /// What stands next.
+    /// The next terminal.
     terminal: Sym,
     /// The items of the states.
     cores: &'a Cores<'a>,
-    /// For each beginning of the string, the empty one first, the state to which it leads.
+    /// For each prefix of the string, the empty one first, the state that it leads to.
     states: Vec<StateNo>,
 }
 
 impl<'a> Drawing<'a> {
-    /// What is drawn behind this string.
+    /// Prepares to find how actions arise after this string.
     pub(crate) fn new(
         alloc: Global,
         cores: &'a Cores<'a>,
@@ -46,8 +46,8 @@ impl<'a> Drawing<'a> {
         })
     }
 
-    /// The way to a claim behind the string: the items of the claims from that on the start to this one, each of which
-    /// is true by the one before it; none where that isn't found.
+    /// The derivation of a claim after the string: the items of claims from the start to this one, each of which
+    /// follows from the one before it. Empty if none is found.
     pub(crate) fn way(&self, alloc: Global, last: Claim) -> Result<Vec<Item>, OutOfMemory> {
         let mut search = Search::new(alloc);
         let last = Claimed {
@@ -57,7 +57,7 @@ impl<'a> Drawing<'a> {
         self.way_to(alloc, &mut search, last)
     }
 
-    /// The way to a claim, found by a search that has looked at nothing.
+    /// The derivation of a claim, found by a new search.
     fn way_to(
         &self,
         alloc: Global,
@@ -76,7 +76,7 @@ impl<'a> Drawing<'a> {
         Ok(Vec::new(alloc))
     }
 
-    /// Adds the claims by which the one at a place is true, and answers whether that on the start is among them.
+    /// Adds the claims that imply the claim at an index. Returns whether the claim on the start is among them.
     fn reaches_start(
         &self,
         alloc: Global,
@@ -91,7 +91,7 @@ impl<'a> Drawing<'a> {
         Ok(search.has_start(&before, place)?)
     }
 
-    /// What a claim on a rule with nothing before its dot is true by depends on alone.
+    /// The only part of a claim on a rule with nothing before its dot that decides which claims imply it.
     fn opening(&self, claimed: Claimed) -> Option<Opening> {
         let item = item_of(claimed.claim)?;
         if item.dot > 0 {
@@ -105,7 +105,7 @@ impl<'a> Drawing<'a> {
         })
     }
 
-    /// The claims by which one is true.
+    /// The claims that imply a claim.
     fn before(
         &self,
         alloc: Global,
@@ -135,7 +135,8 @@ impl<'a> Drawing<'a> {
         Ok(found)
     }
 
-    /// Adds the claims on the items of a core that wait for the left side of a rule with nothing before its dot.
+    /// Adds the claims on the items of a core that have the left side of a rule after their dot. The rule has nothing
+    /// before its dot.
     fn push_waiting(
         &self,
         found: &mut Vec<Claimed>,
@@ -160,8 +161,8 @@ impl<'a> Drawing<'a> {
         Ok(())
     }
 
-    /// Whether a claim is true by the item that waits for its rule in the core, with any terminal, and whether by that
-    /// item with the terminal that stands next.
+    /// Whether an item of the core with the claim's rule after its dot makes the claim true: with any terminal, and
+    /// with the next terminal.
     fn is_true_by(&self, claim: Claim, waiting: Item) -> (bool, bool) {
         if let Claim::InCore(_) = claim {
             return (true, false);
@@ -171,7 +172,7 @@ impl<'a> Drawing<'a> {
     }
 }
 
-/// The states to which the beginnings of a string lead, up to where it leads nowhere.
+/// The states that the prefixes of a string lead to, as long as there are any.
 fn states_along(
     alloc: Global,
     lr0: &Lr0<'_>,
@@ -190,7 +191,7 @@ fn states_along(
     Ok(states)
 }
 
-/// Whether a terminal begins what symbols yield, and whether that may be empty.
+/// Whether a terminal begins a string of these symbols, and whether they are nullable.
 pub(crate) fn begin(reduced: &Reduced<'_>, symbols: &[Symbol], terminal: Sym) -> (bool, bool) {
     let grammar = reduced.grammar();
     for symbol in symbols {

@@ -10,8 +10,7 @@ use ly_base::OutOfMemory;
 use ly_page::Page;
 use std::alloc::Global;
 
-/// What is said of two files, as the text that it is: as JSON it begins with whether they are accepted, and with how
-/// many conflicts there are, which is found in them.
+/// The report of two files as text. JSON begins with the verdict and the numbers of conflicts, which are in `findings`.
 pub fn text_in_form(
     alloc: Global,
     json: bool,
@@ -37,7 +36,7 @@ pub fn text_in_form(
     page.finish()
 }
 
-/// Says the rest of an object: the sizes of the grammar and its parser, the doubts and the conflicts.
+/// Appends the rest of an object: the sizes of the grammar and its parser, the warnings and the conflicts.
 pub(crate) fn say_json(
     alloc: Global,
     page: &mut Page,
@@ -65,7 +64,7 @@ pub(crate) fn say_json(
     Ok(())
 }
 
-/// Says a doubt as an object.
+/// Appends a warning as an object.
 fn say_doubt(page: &mut Page, files: &Accepted<'_>, doubt: &Doubt<'_>) {
     page.say(b"{\"file\":");
     page.say_json(file_of(files, doubt.side).name.as_bytes());

@@ -1,5 +1,5 @@
-//! Which conflicts are told together: those of one state that differ in the terminal alone, and that have examples
-//! alike.
+//! Groups of conflicts that are reported together: they are in one state, differ only in the terminal, and have the
+//! same kind of counterexample.
 ghost use Rattle.std.specs.Prelude.{◌≡◌, ◌<◌, ◌+◌, ◌++◌, [], ◌∷◌, Contains, IfOk, OnOk, length};
 ghost use Rattle.ly_resolve.specs.Resolved.{Resolved};
 ghost use Rattle.ly_resolve.specs.Values.{conflict_from, IsInside};
@@ -13,24 +13,24 @@ use ly_examples::{Example, Examples, Patience};
 use ly_resolve::Conflict;
 use std::alloc::Global;
 
-/// How many demands a search for an example looks at, at most.
+/// How many demands a search for a counterexample may find at most.
 pub(crate) const BOUND: usize = 20_000;
 
-/// Of how many conflicts an example is sought, at most.
+/// For how many conflicts a counterexample is searched at most.
 const SEARCHES: usize = 2_000;
 
-/// Behind how many conflicts with more demands no example is sought any more.
+/// After this many searches that find too many demands, no search is made any more.
 const ENDLESS: usize = 40;
 
-/// How many groups of conflicts are told, at most.
+/// How many groups of conflicts are reported at most.
 pub(crate) const TOLD: usize = 100;
 
-/// Conflicts that are told together.
+/// Conflicts that are reported together.
 #[derive(Drop)]
 pub(crate) struct Group {
-    /// Their indices among all conflicts, rising.
+    /// Their indices among all conflicts, in ascending order.
     pub(crate) conflicts: Vec<usize>,
-    /// The example of the first of them; nothing where none was sought.
+    /// The counterexample of the first of them; `None` if no search was made.
     pub(crate) example: Option<Example>,
 }
 
@@ -39,23 +39,23 @@ pub(crate) struct Group {
 pub(crate) struct Groups {
     /// The groups.
     pub(crate) list: Vec<Group>,
-    /// What their conflicts have in common, at the place of each.
+    /// What the conflicts of each group have in common, at the group's index.
     pub(crate) keys: Keys,
-    /// What the conflicts of those that are told have in common, whatever was answered.
+    /// What the conflicts of the reported groups have in common, whatever the searches found.
     pub(crate) told: IndexSet<Common>,
 }
 
-/// How many examples may still be sought.
+/// How many searches may still be made.
 #[derive(Clone, Copy)]
 struct Allowed {
-    /// How many conflicts may still be asked.
+    /// How many conflicts may still be searched for.
     searches: usize,
-    /// How many of them may still have more demands than are looked at.
+    /// How many searches may still find too many demands.
     endless: usize,
 }
 
-/// All conflicts in groups, which are in the order of their first ones. Examples are sought as long as there is
-/// patience.
+/// All conflicts in groups, which are in the order of their first ones. Counterexamples are searched for as long as the
+/// budget lasts.
 pub(crate) fn groups_of(
     alloc: Global,
     examples: &Examples<'_>,
@@ -85,7 +85,7 @@ pub(crate) fn groups_of(
     Ok(list)
 }
 
-/// The example of a conflict, if one may still be sought.
+/// The counterexample of a conflict, if a search may still be made.
 fn example_of(
     alloc: Global,
     examples: &Examples<'_>,
@@ -121,8 +121,8 @@ impl Groups {
         }
     }
 
-    /// Whether an example of a conflict is sought: one of those that are told, or that may belong to them. Shifts
-    /// against a reduction that differ in the terminal alone have examples all, so one of them is asked.
+    /// Whether to search for a counterexample of a conflict: its group is reported, or may be. Shift/reduce conflicts
+    /// that differ only in the terminal all have counterexamples, so the search is made for one of them.
     fn asks_for(&self, conflict: &Conflict) -> bool {
         let key = Key::of(conflict, &None);
         if key.common.is_shift && self.keys.find(key).is_some() {
@@ -131,7 +131,7 @@ impl Groups {
         self.list.len() < TOLD || self.told.contains(&key.common)
     }
 
-    /// Adds the conflict of an index to its group, or as a group of its own.
+    /// Adds the conflict with an index to its group, or as a new group.
     fn add(
         &mut self,
         alloc: Global,
@@ -150,7 +150,7 @@ impl Groups {
         }
     }
 
-    /// Adds the conflict of an index to the group at a place.
+    /// Adds the conflict with an index to the group at an index.
     fn join(&mut self, place: usize, index: usize) -> Result<(), OutOfMemory>
         requires { place < length self.old.list.items }
         ensures list { OnOk result (IsJoinedBy place index self.old.list.items self.new.list.items) }
@@ -160,7 +160,7 @@ impl Groups {
         Ok(())
     }
 
-    /// Adds a group of the conflict of an index alone, whose key isn't there.
+    /// Adds a group with one conflict, given by its index. No group has its key yet.
     fn open(
         &mut self,
         alloc: Global,

@@ -1,4 +1,4 @@
-//! How two readings go on: behind the place of the conflict by what is ahead, and outwards by rules around them.
+//! How two readings go on: after the conflict point by the symbols ahead, and outwards by rules around them.
 ghost use Rattle.std.specs.Prelude.{IfOk};
 ghost use Rattle.ly_resolve.specs.Values.{conflict_from, IsInside};
 ghost use Rattle.ly_accepted.specs.Told.{IsFoundIn};
@@ -19,35 +19,35 @@ use std::alloc::{AllocError, Global};
 /// How far two readings go on together.
 #[derive(Clone, Copy)]
 enum Course {
-    /// To where one of them has to replace a nonterminal.
+    /// Until one of them has to replace a nonterminal.
     Open,
-    /// To where one of them has nothing ahead.
+    /// Until one of them has nothing ahead.
     Ended,
-    /// To where they can't come to the same tokens.
+    /// Until they can't have the same tokens any more.
     Parted,
 }
 
-/// How many steps a pair takes beside what it holds.
+/// The cost of a pair in steps, besides its size.
 const PAIR: usize = 50;
 
-/// How many steps a derived symbol takes.
+/// The cost of a derived symbol in steps.
 const DERIVED: usize = 50;
 
 /// A search for a sentence.
 #[derive(Drop)]
 pub(crate) struct Search {
-    /// The pairs that are to be looked at.
+    /// The pairs that are still to be looked at.
     queue: Queue,
-    /// What tells those apart that were looked at.
+    /// The keys of the pairs that were added. They distinguish pairs that go on differently.
     seen: IndexSet<Vec<u32>>,
     /// The terminal of the conflict.
     terminal: Sym,
-    /// How many steps may still be made: what is looked at or copied.
+    /// How many steps may still be made. A step is something looked at or copied.
     pub(crate) steps: usize,
 }
 
 impl Search {
-    /// A search for a sentence of a conflict over so many steps, which has no pairs yet.
+    /// A search for a sentence of a conflict with this many steps, without pairs.
     pub(crate) fn new(
         alloc: Global,
         conflict: &Conflict,
@@ -61,12 +61,12 @@ impl Search {
         })
     }
 
-    /// Makes so many steps.
+    /// Takes off this many steps.
     pub(crate) fn take_steps(&mut self, count: usize) {
         self.steps = self.steps.saturating_sub(count);
     }
 
-    /// The pair that is looked at next, if there is one and steps may still be made.
+    /// Removes and returns the next pair, if there is one and steps may still be made.
     pub(crate) fn next(&mut self) -> Option<Pair> {
         if self.steps == 0 {
             return None;
@@ -85,7 +85,7 @@ impl Search {
         self.steps == 0 || self.queue.is_full()
     }
 
-    /// Whether no pair with this key was looked at. It is noted.
+    /// Whether no pair with this key was seen before. The key is added.
     fn is_new(&mut self, key: Vec<u32>) -> Result<bool, OutOfMemory> {
         self.take_steps(key.len());
         Ok(self.seen.insert(key)?)
@@ -93,7 +93,7 @@ impl Search {
 }
 
 impl Finder<'_> {
-    /// Looks at a pair for a conflict: answers the sentence that it has come to, or adds those that it becomes.
+    /// Looks at a pair for a conflict. Returns the sentence that it has completed, or adds the pairs that it leads to.
     pub(crate) fn look_at(
         &self,
         alloc: Global,
@@ -156,7 +156,7 @@ impl Finder<'_> {
         Ok(Course::Parted)
     }
 
-    /// Goes on with two readings behind the symbol that both have ahead.
+    /// Moves two readings past the symbol that both have ahead.
     fn pass_both(
         &self,
         alloc: Global,
@@ -172,7 +172,7 @@ impl Finder<'_> {
         pair.other.rules.extend_from_slice(&passed.rules)
     }
 
-    /// Adds the pairs that a pair becomes where a nonterminal that is ahead is replaced.
+    /// Adds the pairs that a pair leads to if a nonterminal that is ahead is replaced.
     fn push_derived(
         &self,
         alloc: Global,
@@ -186,7 +186,7 @@ impl Finder<'_> {
         self.push_replaced(alloc, search, pair, Which::Other)
     }
 
-    /// Adds the pairs that a pair becomes where readings replace the nonterminal that is ahead, if one is.
+    /// Adds the pairs that a pair leads to if readings replace the nonterminal that is ahead, if one is.
     fn push_replaced(
         &self,
         alloc: Global,
@@ -218,7 +218,7 @@ impl Finder<'_> {
         Ok(())
     }
 
-    /// Adds the pairs that a pair becomes where a reading that has nothing ahead gets a rule around it.
+    /// Adds the pairs that a pair leads to if a reading with nothing ahead gets a rule around it.
     fn push_around(
         &self,
         alloc: Global,
@@ -263,7 +263,7 @@ impl Finder<'_> {
         Ok(())
     }
 
-    /// The trees of symbols that have the fewest tokens.
+    /// The trees of symbols with the fewest tokens.
     pub(crate) fn yielded(
         &self,
         alloc: Global,

@@ -1,4 +1,4 @@
-//! What stands at the head of a group of conflicts: where they are, what is done, and why precedence doesn't settle it.
+//! The head of a group of conflicts: the location, what the parser does, and why precedence doesn't settle it.
 use crate::cut::say_prefix;
 use crate::decided::precedence_of;
 use crate::places::Places;
@@ -9,10 +9,10 @@ use ly_join::Spec;
 use ly_page::Page;
 use ly_resolve::{Action, Conflict, ConflictKind};
 
-/// How many terminals of a group are named, at most.
+/// How many terminals of a group are named at most.
 const NAMED: usize = 12;
 
-/// Says the head of a group of conflicts, which begins with the place of the rule that isn't taken.
+/// Appends the head of a group of conflicts. It begins with the location of the rule that isn't taken.
 pub(crate) fn say_heading(page: &mut Page, files: &Accepted<'_>, places: &Places, told: &Told<'_>) {
     let conflict = &told.conflict;
     page.say(b"\n");
@@ -34,7 +34,7 @@ pub(crate) fn say_heading(page: &mut Page, files: &Accepted<'_>, places: &Places
     }
 }
 
-/// Says where a rule stands, and the rule.
+/// Appends the location of a rule, and the rule.
 fn say_rule_of(page: &mut Page, files: &Accepted<'_>, places: &Places, rule: RuleNo) {
     let rule = rule.0 as usize;
     say_numbered(page, b"    Rule ", rule as u64, b" is ");
@@ -43,7 +43,7 @@ fn say_rule_of(page: &mut Page, files: &Accepted<'_>, places: &Places, rule: Rul
     page.say(b"\n");
 }
 
-/// Says the state of a group, by its number and its prefix.
+/// Appends the state of a group: its number and its prefix.
 fn say_place(page: &mut Page, spec: &Spec, told: &Told<'_>) {
     say_numbered(page, b"in state ", told.conflict.state.0 as u64, b"");
     if told.prefix.front.is_empty() {
@@ -54,7 +54,7 @@ fn say_place(page: &mut Page, spec: &Spec, told: &Told<'_>) {
     }
 }
 
-/// Says the terminals of a group.
+/// Appends the terminals of a group.
 fn say_before(page: &mut Page, spec: &Spec, terminals: &[Sym]) {
     page.say(b", before");
     for terminal in first_of(terminals, NAMED) {
@@ -67,7 +67,7 @@ fn say_before(page: &mut Page, spec: &Spec, terminals: &[Sym]) {
     }
 }
 
-/// Says what is done, and what isn't.
+/// Appends what the parser does, and what it doesn't do.
 fn say_done(page: &mut Page, conflict: &Conflict) {
     match conflict.choice {
         Action::Shift => page.say(b": the shift is taken"),
@@ -79,13 +79,13 @@ fn say_done(page: &mut Page, conflict: &Conflict) {
     say_numbered(page, b", rule ", conflict.rule.0 as u64, b" is not.\n");
 }
 
-/// Whether it is said why precedence doesn't settle a conflict: it may settle a shift against a reduction, but before
-/// the end.
+/// Whether to print why precedence doesn't settle a conflict. It can settle shift/reduce conflicts, except before the
+/// end.
 pub(crate) fn has_reason(conflict: &Conflict) -> bool {
     conflict.kind == ConflictKind::ShiftReduce && conflict.terminal.0 != 0
 }
 
-/// Says why precedence doesn't settle a shift against a reduction, of which there are so many that are alike.
+/// Appends why precedence doesn't settle a shift/reduce conflict. `alike` is the number of conflicts in its group.
 pub(crate) fn say_reason(page: &mut Page, spec: &Spec, conflict: &Conflict, alike: usize) {
     if precedence_of(spec, conflict.rule.0 as usize).is_none() {
         say_unranked(page, spec, conflict, alike);
@@ -97,7 +97,8 @@ pub(crate) fn say_reason(page: &mut Page, spec: &Spec, conflict: &Conflict, alik
     }
 }
 
-/// Says that the rule of a conflict has no precedence, and whether the terminal has one, if it is alone.
+/// Appends that the rule of a conflict has no precedence, and whether its terminal has one, if the conflict is the only
+/// one of its group.
 fn say_unranked(page: &mut Page, spec: &Spec, conflict: &Conflict, alike: usize) {
     let of_terminal = spec.precedences().get(conflict.terminal.0 as usize);
     if alike == 1 && !matches!(of_terminal, Some(Some(_))) {

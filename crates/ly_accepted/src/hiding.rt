@@ -1,4 +1,4 @@
-//! Why a rule of the lex file never matches: which rules take what it could.
+//! Why a rule of the lex file never matches: the rules that match its strings instead.
 use crate::doubt::Hiding;
 use crate::lines::RuleLines;
 use crate::surveying::Accepted;
@@ -8,15 +8,15 @@ use ly_position::{PosFault, positions};
 use ly_subset::{Dfa, SubsetFault, subsets};
 use std::alloc::Global;
 
-/// How many pairs of states are looked at, at most.
+/// How many pairs of states are looked at at most.
 const MOST: usize = 2_000;
 
-/// What takes the strings of a rule.
+/// The rules that match the strings of a rule instead.
 #[derive(Drop)]
 struct Winners {
-    /// The rules that do, in the order in which they were met.
+    /// These rules, in the order in which they were found.
     rules: IndexSet<usize>,
-    /// Whether all strings were looked at.
+    /// Whether all strings were covered.
     whole: bool,
 }
 
@@ -45,7 +45,7 @@ pub(crate) fn hiding_of(
     Ok(Hiding::Lines(found))
 }
 
-/// The scanner of one rule alone; none where that is too large.
+/// The DFA of one rule alone; `None` if it is too large.
 fn scanner_of(
     alloc: Global,
     files: &Accepted<'_>,
@@ -73,7 +73,7 @@ fn scanner_of(
     }
 }
 
-/// The rules that win where a rule has a string, by its own scanner and that of all rules.
+/// The rules that win for the strings of a rule, found by the DFA of the rule and that of all rules together.
 fn winners_beside(alloc: Global, own: &Dfa, all: &Dfa) -> Result<Winners, OutOfMemory> {
     let mut winners = Winners {
         rules: IndexSet::new(alloc),
@@ -101,7 +101,7 @@ fn winners_beside(alloc: Global, own: &Dfa, all: &Dfa) -> Result<Winners, OutOfM
 }
 
 impl Winners {
-    /// Looks at the states to which a byte leads from two states.
+    /// Looks at the states that a byte leads to from two states.
     fn look_behind(
         &mut self,
         own: &Dfa,

@@ -1,4 +1,4 @@
-//! The trees of two readings that have come to the same tokens.
+//! The trees of two readings that have read the same tokens.
 ghost use Rattle.std.specs.Prelude.{IfOk};
 ghost use Rattle.ly_resolve.specs.Values.{conflict_from, IsInside};
 ghost use Rattle.ly_accepted.specs.Told.{IsFoundIn};
@@ -17,14 +17,14 @@ use ly_lr0::Item;
 use ly_resolve::Conflict;
 use std::alloc::{AllocError, Global};
 
-/// From how many states it is tried to lead to a pair.
+/// From how many states a way to the start of a pair is searched at most.
 const STATES: usize = 4;
 
-/// How many steps such a try takes.
+/// The cost of one such search in steps.
 const TRY: usize = 1_000_000;
 
 impl Finder<'_> {
-    /// The sentence that two readings of one nonterminal have come to, if a string leads to where they begin, and its
+    /// The sentence that two readings of one nonterminal have completed, if a string leads to where they begin and the
     /// trees take both actions of a conflict.
     pub(crate) fn joined(
         &self,
@@ -62,8 +62,8 @@ impl Finder<'_> {
         Ok(None)
     }
 
-    /// How the nonterminal of two readings comes about behind a prefix: the way to the item that waits for it; an empty
-    /// one where it is that of the whole text, and none where that isn't found.
+    /// How the nonterminal of two readings arises after a prefix: the derivation of the item that waits for it. Empty
+    /// if it is the nonterminal of the whole text. `None` if no derivation is found.
     fn way_to(
         &self,
         alloc: Global,
@@ -89,8 +89,8 @@ impl Finder<'_> {
         Ok(Some(way))
     }
 
-    /// The rules of the tree that a reading has below the last item of a way, each in front of those below it. What
-    /// the way passes and what stands behind the reading is of the fewest tokens.
+    /// The rules of the tree that a reading has below the last item of a derivation, each before those below it. The
+    /// symbols that the derivation passes, and those after the reading, get trees with the fewest tokens.
     fn rules_of(
         &self,
         alloc: Global,
@@ -116,7 +116,8 @@ impl Finder<'_> {
         Ok(rules)
     }
 
-    /// Goes on to an item of a way: the inmost open rule has passed a symbol, which is derived, or another is opened.
+    /// Goes on to an item of a derivation: the inmost open rule passes a symbol, which gets a tree, or another rule is
+    /// opened.
     fn pass(
         &self,
         alloc: Global,
@@ -136,7 +137,7 @@ impl Finder<'_> {
         Ok(())
     }
 
-    /// Adds the rules of the shortest yield of the symbol behind an item's dot.
+    /// Adds the rules of the shortest tree of the symbol after an item's dot.
     fn derive_behind(
         &self,
         alloc: Global,
@@ -150,7 +151,7 @@ impl Finder<'_> {
         rules.extend_from_slice(&passed.rules)
     }
 
-    /// Adds a rule under way, and the rules of the shortest yields of what stands before its dot.
+    /// Adds a rule under way, and the rules of the shortest trees of the symbols before its dot.
     fn push_opened(
         &self,
         alloc: Global,

@@ -1,12 +1,12 @@
-//! Where symbols lead from states, from where they lead to them, and what waits for nonterminals. Of a number that
-//! none has it is nothing.
+//! The transitions of an automaton in both directions, and the items that wait for its nonterminals. A number that
+//! nothing has yields nothing.
 use ly_base::{StateNo, Sym};
 use ly_examples::Examples;
 use ly_join::Symbol;
 use ly_lr0::{Item, Lr0};
 use std::alloc::{AllocError, Global};
 
-/// Where a symbol leads from a state.
+/// The target of a state's transition over a symbol.
 pub(crate) fn goto_of(lr0: &Lr0<'_>, state: StateNo, symbol: Symbol) -> Option<StateNo> {
     if (state.0 as usize) < lr0.states() {
         lr0.goto(state, symbol)
@@ -15,7 +15,7 @@ pub(crate) fn goto_of(lr0: &Lr0<'_>, state: StateNo, symbol: Symbol) -> Option<S
     }
 }
 
-/// The last symbol of the strings that lead to a state; none of the first state.
+/// The accessing symbol of a state: that of all transitions to it. The first state has none.
 pub(crate) fn symbol_to(lr0: &Lr0<'_>, state: StateNo) -> Option<Symbol> {
     if (state.0 as usize) < lr0.states() {
         lr0.accessing_symbol(state)
@@ -24,7 +24,7 @@ pub(crate) fn symbol_to(lr0: &Lr0<'_>, state: StateNo) -> Option<Symbol> {
     }
 }
 
-/// The states from which a symbol leads to one of these.
+/// The states with a transition over a symbol to one of these.
 pub(crate) fn states_before(
     alloc: Global,
     examples: &Examples<'_>,
@@ -41,7 +41,7 @@ pub(crate) fn states_before(
     Ok(before)
 }
 
-/// The items that wait for a nonterminal.
+/// The items that have a nonterminal after their dot.
 pub(crate) fn waiting<'e>(examples: &'e Examples<'_>, left: Sym) -> &'e [Item] {
     if left.0 > examples.resolved().lr0().reduced().grammar().accept().0 {
         return &[];

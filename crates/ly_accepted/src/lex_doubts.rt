@@ -1,4 +1,4 @@
-//! What is doubtful in a lex file that is accepted.
+//! The warnings about an accepted lex file.
 ghost use Rattle.ly_subset.specs.Automaton.{IsBreadthFirst};
 
 use crate::decided::is_marked;
@@ -15,16 +15,16 @@ use ly_join::TerminalName;
 use ly_lexread::Returned;
 use std::alloc::{AllocError, Global};
 
-/// What finds doubts about a lex file.
+/// Finds the warnings about a lex file.
 #[derive(Drop)]
 struct Finder<'a> {
     /// The files.
     files: Accepted<'a>,
-    /// Those that are found.
+    /// The warnings found so far.
     doubts: Vec<Doubt<'a>>,
 }
 
-/// What is doubtful in the lex file.
+/// The warnings about the lex file.
 pub(crate) fn lex_doubts<'a>(
     alloc: Global,
     files: Accepted<'a>,
@@ -50,13 +50,13 @@ pub(crate) fn lex_doubts<'a>(
     Ok(doubts)
 }
 
-/// Where a line begins.
+/// The location of the start of a line.
 fn first_of_line(line: u64) -> Location {
     Location { line, column: 1 }
 }
 
 impl<'a> Finder<'a> {
-    /// Adds a doubt about what stands at a location.
+    /// Adds a warning about a location.
     fn add(&mut self, at: Location, kind: DoubtKind<'a>) -> Result<(), OutOfMemory> {
         Ok(
             self.doubts.push(Doubt {
@@ -67,7 +67,7 @@ impl<'a> Finder<'a> {
         )
     }
 
-    /// Finds which conditions no action sets, and in which no rule is active.
+    /// Finds the conditions that no action sets, and those in which no rule is active.
     fn find_conditions(&mut self, alloc: Global) -> Result<(), OutOfMemory> {
         let file = self.files.file;
         let count = file.start_conditions.len();
@@ -99,7 +99,7 @@ impl<'a> Finder<'a> {
         Ok(())
     }
 
-    /// Finds which literals are returned that the yacc file doesn't name.
+    /// Finds the literals that are returned but not named in the yacc file.
     fn find_unnamed_literals(
         &mut self,
         alloc: Global,
@@ -133,7 +133,7 @@ impl<'a> Finder<'a> {
         Ok(known)
     }
 
-    /// Finds what in the patterns of the lex file means something else than it may seem to.
+    /// Finds what means something else in the patterns of the lex file than it seems to.
     fn find_surprises(&mut self, alloc: Global) -> Result<(), OutOfMemory> {
         let (file, text) = (self.files.file, self.files.lex.bytes);
         let mut lines = Lines::of(text);
@@ -150,7 +150,7 @@ impl<'a> Finder<'a> {
         Ok(())
     }
 
-    /// Finds what is surprising in the pattern at the front of the end of a line, which begins at this location.
+    /// Finds what is surprising in the pattern at the start of the rest of a line. The rest begins at this location.
     fn find_surprises_in(
         &mut self,
         alloc: Global,
@@ -178,7 +178,7 @@ impl<'a> Finder<'a> {
         Ok(())
     }
 
-    /// Finds which lines among the rules of the lex file aren't used.
+    /// Finds the lines among the rules of the lex file that aren't used.
     fn find_indented(&mut self) -> Result<(), OutOfMemory> {
         for line in first_of(self.files.indented, MOST) {
             self.add(first_of_line(*line), DoubtKind::IndentedLine)?;
@@ -187,7 +187,7 @@ impl<'a> Finder<'a> {
     }
 }
 
-/// Marks a number. One that has no mark is passed over.
+/// Marks a number. A number without a mark is ignored.
 fn mark(marks: &mut Vec<bool>, number: u32) {
     if let Some(place) = marks.get_mut(number as usize) {
         *place = true;
@@ -200,7 +200,7 @@ fn line_from(text: &[u8], start: usize) -> &[u8] {
     rest.split(|byte| *byte == b'\n').next().unwrap_or(rest)
 }
 
-/// What stands behind the conditions at the front of the line of a rule.
+/// The line of a rule without the conditions at its start.
 fn behind_conditions(line: &[u8]) -> &[u8] {
     if !line.starts_with(b"<") {
         return line;
@@ -211,7 +211,7 @@ fn behind_conditions(line: &[u8]) -> &[u8] {
     }
 }
 
-/// What stands behind the name at the front of a definition, and the blanks behind that.
+/// The line of a definition without its name and the blanks after it.
 fn behind_name(line: &[u8]) -> &[u8] {
     let Some((_name, rest)) = leading_name(line, Language::Lex) else {
         return line;

@@ -1,12 +1,12 @@
-//! Where offsets of a text stand that are asked for as they rise.
+//! Locations of offsets of a text, which are asked for in ascending order.
 use crate::surveying::Accepted;
 use ly_base::Location;
 use std::alloc::{AllocError, Global};
 
-/// Where a file begins.
+/// The location of the start of a file.
 pub(crate) const FRONT: Location = Location { line: 1, column: 1 };
 
-/// A text, and the location of an offset of it, from which the next one is counted.
+/// A text with the location of the last offset. The next location is counted from there.
 #[derive(Clone, Copy)]
 pub(crate) struct Lines<'t> {
     /// The text.
@@ -18,7 +18,7 @@ pub(crate) struct Lines<'t> {
 }
 
 impl<'t> Lines<'t> {
-    /// Those of a text.
+    /// The locations of a text.
     pub(crate) fn of(text: &'t [u8]) -> Lines<'t> {
         Lines {
             text,
@@ -27,7 +27,7 @@ impl<'t> Lines<'t> {
         }
     }
 
-    /// The location of an offset. One before the last is counted from the front.
+    /// The location of an offset. If it is before the last one, it is counted from the start.
     pub(crate) fn locate(&mut self, offset: usize) -> Location {
         if offset < self.offset {
             *self = Lines::of(self.text);
@@ -39,7 +39,7 @@ impl<'t> Lines<'t> {
     }
 }
 
-/// Where these bytes end that begin at a location.
+/// The location after these bytes, which begin at a location.
 fn location_behind(start: Location, bytes: &[u8]) -> Location {
     let mut at = start;
     for byte in bytes {
@@ -61,12 +61,12 @@ fn location_behind(start: Location, bytes: &[u8]) -> Location {
 /// The lines on which the rules of a lex file begin.
 #[derive(Drop)]
 pub(crate) struct RuleLines {
-    /// They, by the numbers of the rules.
+    /// The line of each rule.
     lines: Vec<u64>,
 }
 
 impl RuleLines {
-    /// Those of a lex file that is accepted.
+    /// The lines of an accepted lex file.
     pub(crate) fn of(alloc: Global, files: &Accepted<'_>) -> Result<RuleLines, AllocError> {
         let mut counted = Lines::of(files.lex.bytes);
         let mut lines = Vec::with_capacity(alloc, files.file.rule_starts.len())?;
@@ -76,7 +76,7 @@ impl RuleLines {
         Ok(RuleLines { lines })
     }
 
-    /// The line on which a rule begins, by its number; the first one, where there is no such rule.
+    /// The line on which a rule begins, given its number; 1 if there is no such rule.
     pub(crate) fn of_rule(&self, rule: usize) -> u64 {
         self.lines.get(rule).copied().unwrap_or(1)
     }

@@ -1,4 +1,4 @@
-//! Whether the parser comes to a conflict by tokens, its other conflicts being settled as they are.
+//! Whether the parser reaches a conflict on given tokens, with its other conflicts settled as they are.
 use crate::bodies::body_of;
 use crate::leading::goto_of;
 use ly_base::{OutOfMemory, StateNo, Sym};
@@ -6,10 +6,10 @@ use ly_join::Symbol;
 use ly_resolve::{Action, Conflict, Resolved};
 use std::alloc::Global;
 
-/// How many steps are made, at most.
+/// How many steps are made at most.
 const STEPS: usize = 20_000;
 
-/// Whether the parser comes by these tokens to the state of a conflict, with the terminal of the conflict ahead.
+/// Whether the parser reaches the state of a conflict on these tokens, with the terminal of the conflict next.
 pub(crate) fn is_met(
     alloc: Global,
     resolved: &Resolved<'_>,
@@ -44,7 +44,7 @@ pub(crate) fn is_met(
     Ok(false)
 }
 
-/// What is done in a state before a terminal; nothing where it is refused.
+/// The action in a state before a terminal; `None` for an error.
 fn action_of(resolved: &Resolved<'_>, state: StateNo, terminal: Sym) -> Option<Action> {
     if (state.0 as usize) >= resolved.lr0().states() {
         return None;
@@ -58,7 +58,7 @@ fn action_of(resolved: &Resolved<'_>, state: StateNo, terminal: Sym) -> Option<A
     None
 }
 
-/// Reduces by a rule, and answers whether that is possible.
+/// Reduces by a rule. Returns whether that is possible.
 fn reduce_by(
     resolved: &Resolved<'_>,
     stack: &mut Vec<StateNo>,

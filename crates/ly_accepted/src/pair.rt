@@ -1,4 +1,4 @@
-//! Two readings of one sentence that isn't whole yet, which take the two actions of a conflict at the same place.
+//! Two partial readings of one sentence that take the two actions of a conflict at the same point.
 use crate::bodies::body_of;
 use crate::drawing::begin;
 use crate::growing::Search;
@@ -11,22 +11,22 @@ use ly_join::{Grammar, Symbol};
 use ly_lr0::{Item, Lr0};
 use std::alloc::{AllocError, Global};
 
-/// Two readings of one sentence.
+/// Two partial readings of one sentence.
 #[derive(Drop)]
 pub(crate) struct Pair {
-    /// The one that shifts, or reduces by the rule that is chosen.
+    /// The reading that shifts, or reduces by the chosen rule.
     pub(crate) one: Reading,
-    /// The one that reduces by the rule of the conflict.
+    /// The reading that reduces by the rule of the conflict.
     pub(crate) other: Reading,
-    /// The symbols before the place in the longer of them, from the place back.
+    /// The symbols before the conflict point in the longer of them, from that point back.
     pub(crate) string: Vec<Symbol>,
-    /// The states from which these lead to that of the conflict.
+    /// The states from which these symbols lead to the state of the conflict.
     pub(crate) states: Vec<StateNo>,
-    /// Whether the terminal of the conflict is still to come.
+    /// Whether the terminal of the conflict wasn't read yet.
     pub(crate) pending: bool,
-    /// How many tokens were read behind the place.
+    /// How many tokens were read after the conflict point.
     pub(crate) read: u64,
-    /// How many rules were taken to come here.
+    /// How many rules were taken so far.
     pub(crate) taken: u64,
 }
 
@@ -41,17 +41,17 @@ pub(crate) enum Which {
     Both,
 }
 
-/// What stands before the place of two readings.
+/// What precedes the conflict point of two readings.
 #[derive(Drop)]
 pub(crate) struct Before {
-    /// The symbols, from the place back.
+    /// The symbols, from the conflict point back.
     string: Vec<Symbol>,
-    /// The states from which these lead to that of the conflict.
+    /// The states from which these symbols lead to the state of the conflict.
     states: Vec<StateNo>,
 }
 
 impl Pair {
-    /// Whether both readings are of the same nonterminal, from the same symbol on, and have nothing ahead.
+    /// Whether both readings are of the same nonterminal, begin at the same symbol, and have nothing ahead.
     pub(crate) fn is_joined(&self, grammar: &Grammar) -> bool {
         self.one.ahead.is_empty()
             && self.other.ahead.is_empty()
@@ -68,14 +68,14 @@ impl Pair {
             }
     }
 
-    /// How many symbols, states and rules it holds.
+    /// How many symbols, states and rules it has.
     pub(crate) fn size(&self) -> usize {
         let readings = self.one.size().saturating_add(self.other.size());
         let before = self.string.len().saturating_add(self.states.len());
         readings.saturating_add(before)
     }
 
-    /// One of the readings; of both, the first one.
+    /// One of the readings; for `Both` the first one.
     pub(crate) fn reading(&self, which: Which) -> &Reading {
         match which {
             Which::One | Which::Both => &self.one,
@@ -83,7 +83,7 @@ impl Pair {
         }
     }
 
-    /// Which of two readings, of which one has nothing ahead at least, gets a rule around it; none where each may.
+    /// The reading that gets a rule around it. At least one of them has nothing ahead. `None` if either may get one.
     pub(crate) fn shorter(&self, grammar: &Grammar) -> Option<Which> {
         if self.is_joined(grammar) {
             return Some(Which::Both);
@@ -103,8 +103,8 @@ impl Pair {
         None
     }
 
-    /// What stands before the place where a reading gets the rule of an item around it; none where no such string
-    /// leads to the state of the conflict. It takes steps of a search.
+    /// What precedes the conflict point if a reading gets the rule of an item around it. `None` if no such string leads
+    /// to the state of the conflict. It takes steps of a search.
     pub(crate) fn before_within(
         &self,
         alloc: Global,
@@ -153,8 +153,8 @@ impl Pair {
         Ok(Some(before))
     }
 
-    /// Whether one of the states is come to by a symbol, if there is one. It is asked of each rule that may stand
-    /// around a reading, and mostly answers no.
+    /// Whether one of the states has this accessing symbol, if a symbol is given. This is tested for each rule that may
+    /// go around a reading, and is mostly false.
     fn goes_back_over(&self, lr0: &Lr0<'_>, symbol: Option<&Symbol>) -> bool {
         match symbol {
             Some(symbol) => self
@@ -165,7 +165,7 @@ impl Pair {
         }
     }
 
-    /// The pair in which readings have the rule of an item around them, behind what stands before the place.
+    /// The pair in which readings have the rule of an item around them, after what precedes the conflict point.
     pub(crate) fn within(
         &self,
         alloc: Global,
@@ -194,7 +194,7 @@ impl Pair {
         })
     }
 
-    /// The pair in which readings have the body of a rule in place of the symbol that is ahead next.
+    /// The pair in which readings have the next symbol replaced by the body of a rule.
     pub(crate) fn with_rule(
         &self,
         alloc: Global,
@@ -221,8 +221,8 @@ impl Pair {
         })
     }
 
-    /// Whether a reading may go on with symbols: with the terminal of the conflict where that is to come, and else with
-    /// the terminal that is ahead in the other reading, if one is.
+    /// Whether a reading may go on with symbols: with the terminal of the conflict if it wasn't read yet, otherwise
+    /// with the next terminal of the other reading, if there is one.
     pub(crate) fn may_meet(
         &self,
         lr0: &Lr0<'_>,
@@ -248,8 +248,7 @@ impl Pair {
         }
     }
 
-    /// How dear it is: the tokens that it has or needs at least, and the rules that were taken; none where that isn't
-    /// known.
+    /// The cost: the tokens that it has or needs at least, and the rules that were taken. `None` if it isn't known.
     pub(crate) fn price(&self, yields: &Yields) -> Option<u64> {
         let before = yields.length(&self.string)?;
         let ahead = yields
@@ -263,7 +262,7 @@ impl Pair {
         )
     }
 
-    /// Numbers that are the same of two pairs that go on alike.
+    /// A key that is the same for two pairs that go on in the same way.
     pub(crate) fn key(&self, alloc: Global, grammar: &Grammar) -> Result<Vec<u32>, AllocError> {
         let mut key = Vec::new(alloc);
         key.push(self.pending as u32)?;
@@ -278,7 +277,7 @@ impl Pair {
     }
 }
 
-/// Those of states in which a rule begins.
+/// The states, out of these, in which a rule begins.
 pub(crate) fn beginning(
     alloc: Global,
     lr0: &Lr0<'_>,
@@ -317,7 +316,7 @@ fn terminal_of(symbol: Option<Symbol>) -> Option<Sym> {
     }
 }
 
-/// Adds numbers that are the same of two readings that go on alike.
+/// Adds the key of a reading, which is the same for two readings that go on in the same way.
 fn push_reading(
     key: &mut Vec<u32>,
     grammar: &Grammar,
@@ -330,7 +329,7 @@ fn push_reading(
     push_symbols(key, &reading.ahead)
 }
 
-/// Adds symbols as numbers, and how many there are.
+/// Adds the number of symbols and the symbols as numbers.
 fn push_symbols(key: &mut Vec<u32>, symbols: &[Symbol]) -> Result<(), AllocError> {
     key.push(u32::try_from(symbols.len()).unwrap_or(u32::MAX))?;
     for symbol in symbols {

@@ -1,60 +1,60 @@
-//! What in a pattern means something else than whoever knows flex may think. Each doubt is what the reader of patterns
-//! answers: where its reading of a beginning ends tells what stands there, and its reading of the pattern as it may be
-//! meant tells whether that is another one.
+//! What in a pattern means something else than users of flex may think. Each warning rests on the reader of patterns:
+//! how far it can read a prefix shows what is at an offset, and its reading of the pattern that may be meant shows
+//! whether that is a different one.
 use ly_base::{Limits, OutOfMemory};
 use ly_ere::{EreFault, EreFaultKind, Names, Pattern, Re, read_pattern};
 use std::alloc::Global;
 
-/// How many bytes of a pattern are looked at, at most.
+/// How many bytes of a pattern are looked at at most.
 const LONGEST: usize = 1_000;
 
-/// How many bytes of patterns are read to doubt one, at most.
+/// How many bytes of patterns are read at most for the warnings about one pattern.
 const MOST: usize = 200_000;
 
 /// What may not be meant.
 #[derive(Clone, Copy, Debug, PartialEq, Eq)]
 pub(crate) enum Surprise {
-    /// A letter behind a backslash that elsewhere stands for a class of bytes.
+    /// A letter after a backslash that stands for a class of bytes in other tools.
     Letter(u8),
     /// `\b`, the backspace.
     Backspace,
-    /// `\x{`, whose `x` is a letter behind a backslash.
+    /// `\x{`, which is an escaped `x` and a brace.
     Braces,
-    /// `\u`, a letter behind a backslash.
+    /// `\u`, which is an escaped letter.
     Unicode,
-    /// `?` behind `*`, `+` or `?`.
+    /// `?` after `*`, `+` or `?`.
     Reluctant,
     /// A character of several bytes in brackets.
     ManyBytes,
-    /// An interval behind more than one piece.
+    /// An interval after more than one atom.
     Interval,
-    /// `$`, which asks for a newline.
+    /// `$`, which requires a newline.
     LineEnd,
-    /// `<<EOF>>`, which is its bytes.
+    /// `<<EOF>>`, which matches these bytes.
     EndOfFile,
 }
 
-/// A doubt about a pattern.
+/// A warning about a pattern.
 #[derive(Clone, Copy, Debug)]
 pub(crate) struct Doubtful {
     /// What it is about.
     pub(crate) surprise: Surprise,
-    /// How many bytes of the pattern stand before it.
+    /// The offset in the pattern.
     pub(crate) offset: usize,
 }
 
-/// What stands at an offset of a pattern.
+/// What is at an offset of a pattern.
 #[derive(Clone, Copy, PartialEq, Eq)]
 enum Stand {
-    /// The beginning of a piece, an operator, or the end.
+    /// The start of an atom, an operator, or the end.
     Piece,
-    /// What is in brackets.
+    /// Something in brackets.
     Brackets,
-    /// Another byte of a piece.
+    /// Another byte of an atom.
     Within,
 }
 
-/// A pattern that is doubted.
+/// A pattern with its warnings.
 #[derive(Drop)]
 struct Doubting<'a> {
     /// The definitions of the file.
@@ -63,13 +63,13 @@ struct Doubting<'a> {
     limits: Limits,
     /// The text of the pattern.
     text: &'a [u8],
-    /// What is doubted.
+    /// The warnings found so far.
     found: Vec<Doubtful>,
     /// How many bytes may still be read.
     bytes: usize,
 }
 
-/// What is doubtful in the text of a pattern, each kind of doubt once.
+/// The warnings about the text of a pattern, each kind once.
 pub(crate) fn surprises(
     alloc: Global,
     names: &Names,
@@ -99,7 +99,7 @@ impl Doubting<'_> {
         Ok(())
     }
 
-    /// Looks at what stands at an offset.
+    /// Looks at an offset.
     fn look_at(&mut self, alloc: Global, offset: usize) -> Result<(), OutOfMemory> {
         match (self.byte(offset), self.byte(offset.saturating_add(1))) {
             (Some(b'\\'), Some(letter)) => self.look_at_escape(alloc, offset, letter),
@@ -115,7 +115,7 @@ impl Doubting<'_> {
         }
     }
 
-    /// Looks at a backslash in front of a letter.
+    /// Looks at a backslash before a letter.
     fn look_at_escape(
         &mut self,
         alloc: Global,
@@ -144,7 +144,7 @@ impl Doubting<'_> {
         }
     }
 
-    /// Whether the backslash in front of a letter in brackets belongs to it: without that the pattern is the same.
+    /// Whether the backslash before a letter in brackets is an escape: without it the pattern is the same.
     fn is_letter_in_brackets(
         &mut self,
         alloc: Global,
@@ -158,8 +158,8 @@ impl Doubting<'_> {
         self.is_same(alloc, &meant)
     }
 
-    /// Looks at what may be an interval: it is doubted where the pattern is another one with parentheses around it and
-    /// the last piece before it.
+    /// Looks at a possible interval. There is a warning if parentheses around it and the atom before it change the
+    /// pattern.
     fn look_at_interval(&mut self, alloc: Global, offset: usize) -> Result<(), OutOfMemory> {
         if self.has(Surprise::Interval) || self.stand(alloc, offset)? != Stand::Piece {
             return Ok(());
@@ -195,7 +195,7 @@ impl Doubting<'_> {
         Ok(text)
     }
 
-    /// What stands at an offset, by how far the beginning up to there can be read.
+    /// What is at an offset, given how far the prefix up to there can be read.
     fn stand(&mut self, alloc: Global, offset: usize) -> Result<Stand, OutOfMemory> {
         let Some(before) = self.text.get(..offset) else {
             return Ok(Stand::Within);
@@ -215,7 +215,7 @@ impl Doubting<'_> {
         }
     }
 
-    /// Whether a part of the pattern is one by itself.
+    /// Whether a part of the pattern is a pattern by itself.
     fn is_pattern(&mut self, alloc: Global, start: usize, end: usize) -> Result<bool, OutOfMemory> {
         let Some(part) = self.text.get(start..end) else {
             return Ok(false);
@@ -223,7 +223,7 @@ impl Doubting<'_> {
         Ok(self.pattern(alloc, part)?.is_some())
     }
 
-    /// What a text is as a pattern, if it is one.
+    /// The pattern of a text, if it is one.
     fn pattern(&mut self, alloc: Global, text: &[u8]) -> Result<Option<Pattern>, OutOfMemory> {
         match self.read(alloc, text) {
             Ok(pattern) => Ok(Some(pattern)),
@@ -232,7 +232,7 @@ impl Doubting<'_> {
         }
     }
 
-    /// Whether another text is the same pattern; also where one of them is none.
+    /// Whether another text is the same pattern. True also if one of them is no pattern.
     fn is_same(&mut self, alloc: Global, other: &[u8]) -> Result<bool, OutOfMemory> {
         let (Some(one), Some(other)) = (
             self.pattern(alloc, self.text)?,
@@ -248,7 +248,7 @@ impl Doubting<'_> {
         Ok(tails && are_same(&one.head, &other.head))
     }
 
-    /// Reads a text as a pattern. Where too much was read already, it counts as too heavy.
+    /// Reads a text as a pattern. If too much was read already, the pattern counts as too heavy.
     fn read(&mut self, alloc: Global, text: &[u8]) -> Result<Pattern, EreFault> {
         let Some(left) = self.bytes.checked_sub(text.len()) else {
             return Err(EreFault::Refused {
@@ -265,12 +265,12 @@ impl Doubting<'_> {
         self.text.get(offset).copied()
     }
 
-    /// Whether something was doubted.
+    /// Whether there is a warning of this kind.
     fn has(&self, surprise: Surprise) -> bool {
         self.found.iter().any(|found| found.surprise == surprise)
     }
 
-    /// Doubts what stands at an offset, if that is of this kind.
+    /// Adds a warning about an offset, if its text is of this kind.
     fn note_if(
         &mut self,
         alloc: Global,
@@ -284,7 +284,7 @@ impl Doubting<'_> {
         self.note(surprise, offset)
     }
 
-    /// Doubts what stands at an offset.
+    /// Adds a warning about an offset.
     fn note(&mut self, surprise: Surprise, offset: usize) -> Result<(), OutOfMemory> {
         Ok(self.found.push(Doubtful { surprise, offset })?)
     }

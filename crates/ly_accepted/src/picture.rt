@@ -1,4 +1,4 @@
-//! The parser's automaton as a picture, in the language of Graphviz's `dot`.
+//! The parser's automaton as a graph in the language of Graphviz's `dot`.
 ghost use Rattle.std.specs.Prelude.{◌<◌, length};
 
 use crate::cores::Cores;
@@ -9,8 +9,8 @@ use ly_lr0::{Item, Lr0, Transition};
 use ly_page::Page;
 use std::alloc::Global;
 
-/// Says the picture: a box a state, with the items that have something before their dots, and an arrow a transition,
-/// dashed by nonterminals.
+/// Appends the graph: a box for each state with its kernel items, and an arrow for each transition, dashed for
+/// nonterminals.
 pub(crate) fn say_picture(
     alloc: Global,
     page: &mut Page,
@@ -30,7 +30,7 @@ pub(crate) fn say_picture(
     Ok(())
 }
 
-/// Says the box of a state.
+/// Appends the box of a state.
 fn say_box(
     alloc: Global,
     page: &mut Page,
@@ -52,12 +52,12 @@ fn say_box(
     Ok(())
 }
 
-/// Whether an item is in its state by a symbol before its dot, or begins all.
+/// Whether an item is a kernel item: it has a symbol before its dot, or is the first item.
 fn is_kernel(item: Item) -> bool {
     item.dot > 0 || item.rule == 0
 }
 
-/// Says the arrows that leave a state.
+/// Appends the arrows from a state.
 fn say_arrows(
     alloc: Global,
     page: &mut Page,
@@ -71,7 +71,7 @@ fn say_arrows(
     say_each_arrow(alloc, page, spec, state, lr0.gotos(state))
 }
 
-/// Says the arrows of transitions that leave a state.
+/// Appends the arrows of transitions from a state.
 fn say_each_arrow(
     alloc: Global,
     page: &mut Page,
@@ -93,7 +93,7 @@ fn say_each_arrow(
     Ok(())
 }
 
-/// Appends bytes as they stand in a string of `dot`.
+/// Appends bytes escaped as in a string of `dot`.
 fn say_escaped(page: &mut Page, bytes: &[u8]) {
     for byte in bytes {
         if *byte == b'"' || *byte == b'\\' {

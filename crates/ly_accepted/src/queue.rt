@@ -6,7 +6,7 @@ use std::alloc::{AllocError, Global};
 /// How many pairs are kept for a conflict at most.
 const KEPT: usize = 60_000;
 
-/// The greatest cost of a pair that is kept.
+/// Pairs with this cost or a greater one aren't kept.
 const DEAREST: usize = 200;
 
 /// Pairs of readings by their cost.
@@ -39,7 +39,7 @@ impl Queue {
         self.count >= KEPT
     }
 
-    /// Adds a pair, unless its cost or the number of pairs is too great.
+    /// Adds a pair, unless its cost, a reading's length or the number of pairs is too great.
     pub(crate) fn push(&mut self, yields: &Yields, pair: Pair) -> Result<(), AllocError> {
         let Some(price) = pair.price(yields) else {
             return Ok(());
