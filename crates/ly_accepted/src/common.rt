@@ -1,4 +1,4 @@
-//! What conflicts that are told together have in common.
+//! What conflicts that are reported together have in common.
 ghost use Rattle.std.specs.Prelude.{◌≡◌, ◌++◌, [], ◌∷◌, Contains, MatchOption, OnOk, Some, slice_get};
 ghost use Rattle.ly_accepted.specs.Groups.{answer_from};
 ghost use Rattle.ly_accepted.specs.Private.Keys.{choice_from, common_from, key_from};
@@ -9,52 +9,52 @@ use ly_resolve::{Action, Conflict, ConflictKind};
 use std::alloc::{AllocError, Global};
 use std::marker::Model;
 
-/// What is chosen in a conflict.
+/// The choice in a conflict.
 #[derive(Clone, Copy, PartialEq, Eq, Hash)]
 pub(crate) enum Choice {
     /// The shift.
     Shift,
     /// A reduction by a rule.
     Reduction(usize),
-    /// Neither: the terminal is refused.
+    /// Neither: the terminal is an error.
     Refusal,
 }
 
-/// What conflicts have in common that differ in the terminal alone.
+/// What conflicts that differ only in the terminal have in common.
 #[derive(Clone, Copy, PartialEq, Eq, Hash)]
 pub(crate) struct Common {
     /// Their state.
     pub(crate) state: u32,
     /// Their rule.
     pub(crate) rule: usize,
-    /// What is chosen.
+    /// The choice.
     pub(crate) choice: Choice,
-    /// Whether it is a shift that stands against the rule.
+    /// Whether the rival of the rule is a shift.
     pub(crate) is_shift: bool,
 }
 
-/// What is answered where an example is sought.
+/// The result of a search for a counterexample.
 #[derive(Clone, Copy, PartialEq, Eq, Hash)]
 pub(crate) enum Answer {
     /// There is one.
     At,
-    /// There is none.
+    /// There is none: the conflict comes from merging alone.
     Merged,
-    /// None was found.
+    /// The search gave up.
     Unknown,
 }
 
 /// What the conflicts of a group have in common.
 #[derive(Clone, Copy, PartialEq, Eq, Hash)]
 pub(crate) struct Key {
-    /// What is the same in them.
+    /// What doesn't depend on a search.
     pub(crate) common: Common,
-    /// What was answered where an example was sought; nothing of a shift, which has one, whether it was found or not.
+    /// The result of the search for a counterexample. `None` for a shift, which has one, whether it was found or not.
     pub(crate) answer: Option<Answer>,
 }
 
 impl Common {
-    /// What a conflict has in common with those that differ from it in the terminal alone.
+    /// What a conflict has in common with those that differ from it only in the terminal.
     pub(crate) fn of(conflict: &Conflict) -> Common
         ensures { result ≡ common_from conflict.now }
     {
@@ -68,7 +68,8 @@ impl Common {
 }
 
 impl Key {
-    /// What a conflict has in common with the others of its group, behind the answer to the search for its example.
+    /// What a conflict has in common with the others of its group, given the result of the search for its
+    /// counterexample.
     pub(crate) fn of(conflict: &Conflict, example: &Option<Example>) -> Key
         ensures { result ≡ key_from conflict.now example.now }
     {
@@ -82,7 +83,7 @@ impl Key {
     }
 }
 
-/// What is chosen, by an action.
+/// The choice that an action is.
 fn choice_of(action: Action) -> Choice
     ensures { result ≡ choice_from action }
 {
@@ -93,7 +94,7 @@ fn choice_of(action: Action) -> Choice
     }
 }
 
-/// What was answered where an example was sought.
+/// The result of a search for a counterexample.
 fn answer_of(example: &Option<Example>) -> Option<Answer>
     ensures { result ≡ answer_from example.now }
 {
@@ -131,14 +132,14 @@ impl Keys {
         }
     }
 
-    /// The place of a key, if it is there.
+    /// The index of a key, if it is there.
     pub(crate) fn find(&self, key: Key) -> Option<usize>
         ensures { MatchOption result (Contains self.now key → ⊥) (λ place. slice_get self.now place ≡ Some key) }
     {
         self.keys.get_index_of(&key)
     }
 
-    /// Adds a key that isn't there.
+    /// Adds a new key.
     pub(crate) fn push(&mut self, key: Key) -> Result<(), AllocError>
         requires { Contains self.old key → ⊥ }
         ensures { OnOk result (self.new ≡ self.old ++ key ∷ []) }

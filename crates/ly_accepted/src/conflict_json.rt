@@ -13,7 +13,7 @@ use ly_page::Page;
 use ly_resolve::{Action, ConflictKind};
 use std::alloc::Global;
 
-/// Says a group of conflicts as an object.
+/// Appends a group of conflicts as an object.
 pub(crate) fn say_conflict(
     alloc: Global,
     page: &mut Page,
@@ -52,7 +52,7 @@ pub(crate) fn say_conflict(
     Ok(())
 }
 
-/// Says the rules of a conflict: first the one that is chosen, or that stands against the other, if one does.
+/// Appends the rules of a conflict: first the rival, if it is a rule, then the rule of the conflict.
 fn say_rules(page: &mut Page, files: &Accepted<'_>, places: &Places, told: &Told<'_>) {
     page.say_json_key(b"rules");
     page.say(b"[");
@@ -64,7 +64,7 @@ fn say_rules(page: &mut Page, files: &Accepted<'_>, places: &Places, told: &Told
     page.say(b"]");
 }
 
-/// Says a rule, its number and its place.
+/// Appends a rule, its number and its location.
 fn say_rule(page: &mut Page, files: &Accepted<'_>, places: &Places, rule: RuleNo) {
     let rule = rule.0 as usize;
     let at = places.location_of_rule(rule);
@@ -81,8 +81,8 @@ fn say_rule(page: &mut Page, files: &Accepted<'_>, places: &Places, rule: RuleNo
     page.say(b"}");
 }
 
-/// Says what is known of how a conflict comes about: what the search for an example answered, the example, its tokens,
-/// whether the parser comes there, both ways, a sentence, and its trees.
+/// Appends how a conflict arises: the result of the search for a counterexample, the counterexample, its tokens,
+/// whether the parser reaches it, both derivations, a sentence, and its trees.
 fn say_shown(
     alloc: Global,
     page: &mut Page,
@@ -126,12 +126,12 @@ fn say_shown(
     }
 }
 
-/// Says that there is no example.
+/// Appends that there is no counterexample.
 fn say_no_spot(page: &mut Page) {
     page.say(b",\"example\":null,\"tokens\":null,\"met\":null");
 }
 
-/// Says an example, its tokens where they are known, and whether the parser comes there by them.
+/// Appends a counterexample, its tokens if they are known, and whether the parser reaches the conflict on them.
 fn say_spot(page: &mut Page, spec: &Spec, spot: &Spot<'_>) {
     let (front, left_out, back) = ends(spot.string);
     page.say_json_key(b"example");
@@ -149,7 +149,7 @@ fn say_spot(page: &mut Page, spec: &Spec, spot: &Spot<'_>) {
     }
 }
 
-/// Says both ways, if they are known.
+/// Appends both derivations, if they are known.
 fn say_ways(
     alloc: Global,
     page: &mut Page,
@@ -167,7 +167,7 @@ fn say_ways(
     Ok(())
 }
 
-/// Says a sentence with two trees, if one is known, and its trees.
+/// Appends a sentence with two trees, if one is known, and its trees.
 fn say_sentence(
     alloc: Global,
     page: &mut Page,
@@ -187,7 +187,7 @@ fn say_sentence(
     Ok(())
 }
 
-/// Says two drawings as a list, without the space before each.
+/// Appends two drawings as a list, without the space before each.
 fn say_both(page: &mut Page, one: &[u8], other: &[u8]) {
     page.say(b"[");
     page.say_json(one.strip_prefix(b" ").unwrap_or(one));
@@ -196,7 +196,7 @@ fn say_both(page: &mut Page, one: &[u8], other: &[u8]) {
     page.say(b"]");
 }
 
-/// Says the ends of a row of symbols as a list, and between them how many stand there, if any do.
+/// Appends both ends of a row of symbols as a list, with the number of symbols between them, if there are any.
 fn say_row(page: &mut Page, spec: &Spec, front: &[Symbol], left_out: usize, back: &[Symbol]) {
     page.say(b"[");
     for (place, symbol) in front.iter().enumerate() {
@@ -214,7 +214,7 @@ fn say_row(page: &mut Page, spec: &Spec, front: &[Symbol], left_out: usize, back
     page.say(b"]");
 }
 
-/// Says terminals as a list; of a long one the ends, and between them how many stand there.
+/// Appends terminals as a list. Of a long one it appends both ends, with the number of terminals between them.
 fn say_terminals(page: &mut Page, spec: &Spec, terminals: &[Sym]) {
     let (front, left_out, back) = ends(terminals);
     page.say(b"[");
@@ -233,7 +233,7 @@ fn say_terminals(page: &mut Page, spec: &Spec, terminals: &[Sym]) {
     page.say(b"]");
 }
 
-/// Says the name of a symbol as a string.
+/// Appends the name of a symbol as a string.
 fn say_symbol(page: &mut Page, spec: &Spec, symbol: Symbol) {
     let mut name = page.beside();
     name.say_symbol(spec, symbol);

@@ -1,4 +1,4 @@
-//! Groups of conflicts put into words.
+//! The texts for groups of conflicts.
 use crate::ambiguity::Ambiguity;
 use crate::cut::{say_large, say_symbols};
 use crate::headings::say_heading;
@@ -13,7 +13,7 @@ use ly_page::Page;
 use ly_resolve::Conflict;
 use std::alloc::Global;
 
-/// Says a group of conflicts.
+/// Appends a group of conflicts.
 pub(crate) fn say_told(
     alloc: Global,
     page: &mut Page,
@@ -44,7 +44,7 @@ pub(crate) fn say_told(
     Ok(())
 }
 
-/// Says that only merging makes a conflict, where each of its rules is possible, and how to settle it.
+/// Appends that a conflict comes from merging alone, where each of its rules is possible, and how to settle it.
 fn say_merged(
     alloc: Global,
     page: &mut Page,
@@ -66,7 +66,7 @@ fn say_merged(
     Ok(())
 }
 
-/// Says a string of symbols at which both actions are possible, and the shortest tokens of it.
+/// Appends a string of symbols at which both actions are possible, and its shortest tokens.
 fn say_spot(page: &mut Page, spec: &Spec, conflict: &Conflict, spot: &Spot<'_>) {
     page.say(b"    example:");
     say_symbols(page, spec, spot.string);
@@ -83,14 +83,14 @@ fn say_spot(page: &mut Page, spec: &Spec, conflict: &Conflict, spot: &Spot<'_>) 
     }
 }
 
-/// Says the dot, and the terminal behind it.
+/// Appends the dot and the terminal after it.
 fn say_ahead(page: &mut Page, spec: &Spec, conflict: &Conflict) {
     page.say(b" . ");
     page.say_terminal(spec, conflict.terminal);
     page.say(b"\n");
 }
 
-/// Says that a conflict is between two rules that are the same.
+/// Appends that a conflict is between two rules that are the same.
 fn say_same(page: &mut Page, conflict: &Conflict) {
     if let Some(rule) = reduced_rival(conflict) {
         say_numbered(page, b"    Rule ", rule as u64, b" and rule ");
@@ -99,7 +99,7 @@ fn say_same(page: &mut Page, conflict: &Conflict) {
     }
 }
 
-/// Says a sentence with two trees, or that none was found.
+/// Appends a sentence with two trees, or that none was found.
 fn say_sentence(
     alloc: Global,
     page: &mut Page,
@@ -115,7 +115,7 @@ fn say_sentence(
     }
 }
 
-/// Says how many groups of conflicts are left untold, if any are.
+/// Appends how many groups of conflicts are left out, if any.
 pub(crate) fn say_untold(page: &mut Page, count: usize) {
     if count > 0 {
         page.say(b"\n");
@@ -128,7 +128,7 @@ pub(crate) fn say_untold(page: &mut Page, count: usize) {
     }
 }
 
-/// Whether a nonterminal is among symbols.
+/// Whether there is a nonterminal among symbols.
 fn has_nonterminal(symbols: &[Symbol]) -> bool {
     for symbol in symbols {
         if let Symbol::Nonterminal(_) = symbol {

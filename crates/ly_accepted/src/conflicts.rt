@@ -1,4 +1,4 @@
-//! The conflicts: what is done, why precedence doesn't settle it, and an example at which both actions are possible.
+//! Conflicts: what the parser does, why precedence doesn't settle them, and a counterexample.
 ghost use Rattle.std.specs.Prelude.{◌≡◌, ◌<◌, ℕ, Contains, IfOk, length};
 ghost use Rattle.ly_resolve.specs.Conflicts as spec;
 ghost use Rattle.ly_resolve.specs.Values.{conflict_from, IsInside};
@@ -26,24 +26,25 @@ use ly_report::ConflictCounts;
 use ly_resolve::{Action, Conflict, ConflictKind};
 use std::alloc::Global;
 
-/// How much is looked at for all examples together, at most: demands, and symbols behind nonterminals.
+/// The budget for all counterexamples together, in demands and symbols that are looked at.
 const LOOKS: usize = 1_000_000_000;
 
-/// What conflicts are told by.
+/// What is needed to report conflicts.
 #[derive(Clone, Copy)]
 struct Teller<'a> {
-    /// The conflicts, and where examples of them are sought.
+    /// The conflicts, and the searches for counterexamples of them.
     examples: &'a Examples<'a>,
     /// The items of the states.
     cores: &'a Cores<'a>,
-    /// The shortest yields of nonterminals.
+    /// The shortest token strings of nonterminals.
     yields: &'a Yields,
     /// The specification.
     spec: &'a Spec,
 }
 
-/// Says how many conflicts there are, and each with an example; or as JSON the members of an object that say so. Those
-/// of one state that differ in the terminal alone, and that have examples alike, are a group, which is told together.
+/// Appends how many conflicts there are, and each with a counterexample; or the same as members of a JSON object.
+/// Conflicts of one state that differ only in the terminal and have the same kind of counterexample are reported
+/// together as a group.
 pub(crate) fn say_conflicts(
     alloc: Global,
     page: &mut Page,
@@ -83,7 +84,7 @@ pub(crate) fn say_conflicts(
     Ok(())
 }
 
-/// Says groups of conflicts.
+/// Appends groups of conflicts.
 fn say_all(
     alloc: Global,
     page: &mut Page,
@@ -97,7 +98,7 @@ fn say_all(
     Ok(())
 }
 
-/// Says groups of conflicts as a member of a JSON object.
+/// Appends groups of conflicts as a member of a JSON object.
 fn say_json(
     alloc: Global,
     page: &mut Page,
@@ -115,14 +116,14 @@ fn say_json(
     Ok(())
 }
 
-/// Says how many conflicts there are of each kind.
+/// Appends how many conflicts of each kind there are.
 fn say_counts(page: &mut Page, counts: ConflictCounts) {
     let before = b" shift/reduce, ";
     say_numbered(page, b"\nConflicts: ", counts.shift_reduce as u64, before);
     say_numbered(page, b"", counts.reduce_reduce as u64, b" reduce/reduce.\n");
 }
 
-/// Says as JSON which token's precedence settles the most groups, and how many groups more aren't told.
+/// Appends as JSON the token whose precedence settles the most groups, and how many groups are left out.
 fn say_rest(page: &mut Page, spec: &Spec, cure: Option<Cure>, untold: usize) {
     page.say_json_key(b"cure");
     match cure {
@@ -140,7 +141,7 @@ fn say_rest(page: &mut Page, spec: &Spec, cure: Option<Cure>, untold: usize) {
 }
 
 impl Teller<'_> {
-    /// The groups of conflicts as they are told, up to so many.
+    /// The groups of conflicts to report, up to the maximum.
     fn all_told<'g>(
         &self,
         alloc: Global,
@@ -158,7 +159,7 @@ impl Teller<'_> {
         Ok(all)
     }
 
-    /// A group of conflicts, as it is told.
+    /// A group of conflicts with all that is reported about it.
     fn told<'g>(
         &self,
         alloc: Global,
@@ -179,7 +180,7 @@ impl Teller<'_> {
         })
     }
 
-    /// The conflict of an index.
+    /// The conflict with an index.
     fn conflict(&self, index: usize) -> Conflict
         requires { index < length self.now.examples.now.conflicts }
         ensures { IsAt self.now.examples.now index result }
@@ -187,7 +188,7 @@ impl Teller<'_> {
         self.examples.resolved().conflicts().get(index).unwrap()
     }
 
-    /// The terminals of the conflicts of these indices.
+    /// The terminals of the conflicts with these indices.
     fn terminals(&self, alloc: Global, group: &[usize]) -> Result<Vec<Sym>, OutOfMemory>
         requires { (i : ℕ) → Contains group.now i → i < length self.now.examples.now.conflicts }
         ensures { IfOk result (λ terminals. AreTerminalsOf self.now.examples.now group.now terminals.items) }
@@ -199,7 +200,7 @@ impl Teller<'_> {
         Ok(terminals)
     }
 
-    /// What is known of how the conflicts of a group come about, of which this is the first.
+    /// How the conflicts of a group arise, given the first of them.
     fn shown<'g>(
         &self,
         alloc: Global,
@@ -224,7 +225,7 @@ impl Teller<'_> {
         }
     }
 
-    /// What is known of a string behind which both actions of a conflict are possible.
+    /// A counterexample of a conflict, with all that is reported about it.
     fn spot<'g>(
         &self,
         alloc: Global,
@@ -250,7 +251,7 @@ impl Teller<'_> {
         })
     }
 
-    /// How both actions of a conflict come about behind a string.
+    /// How both actions of a conflict arise after a string.
     fn readings(
         &self,
         alloc: Global,
@@ -271,7 +272,7 @@ impl Teller<'_> {
         Ok(Readings::Ways(ways, found))
     }
 
-    /// Where each rule of a conflict is possible, if only merging makes the conflicts of these indices.
+    /// Where each rule of a conflict is possible, if the conflicts with these indices come from merging alone.
     fn merged<'g>(
         &self,
         alloc: Global,
@@ -298,7 +299,7 @@ impl Teller<'_> {
         Ok(Shown::Merged(None))
     }
 
-    /// What the ways to the actions of a conflict are drawn by.
+    /// What is needed to find and print the derivations of a conflict's actions.
     fn drawn<'c>(&'c self, conflict: &'c Conflict) -> Drawn<'c> {
         Drawn {
             cores: self.cores,

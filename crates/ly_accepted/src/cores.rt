@@ -7,47 +7,47 @@ use ly_join::{Grammar, Symbol};
 use ly_lr0::{Item, Lr0};
 use std::alloc::{AllocError, Global};
 
-/// How many symbols of each end of a string are known, at most.
+/// How many symbols of each end of a string are kept at most.
 pub(crate) const END: usize = 100;
 
-/// How many items a kernel may have that is kept beside that of the state before.
+/// The greatest number of items of a kernel that is stored. A larger one is recomputed from the state before.
 const SHORT: usize = 100;
 
-/// How each state is come to, and with which items.
+/// How each state is reached first, and its items.
 #[derive(Drop)]
 pub(crate) struct Cores<'a> {
     /// The automaton.
     lr0: &'a Lr0<'a>,
-    /// Of each state how it is come to first.
+    /// How each state is reached first.
     entries: Vec<Entry>,
 }
 
-/// How a state is come to first.
+/// How a state is reached first.
 #[derive(Drop)]
 struct Entry {
-    /// The state before the last step; none before the first state.
+    /// The state before the last step; `None` for the first state.
     from: Option<StateNo>,
     /// How many steps there are.
     depth: usize,
-    /// The state behind the first of them, as many as are known.
+    /// The state after the first steps, as many as are kept.
     early: StateNo,
-    /// The items behind the last one; nothing where there are many, and those of the state before are kept.
+    /// The items after the last step. `None` if there are many; then those of the state before are stored.
     kernel: Option<Vec<Item>>,
 }
 
-/// The least string that leads to a state; of a long one the ends.
+/// The shortest string that leads to a state. Of a long one only both ends are kept.
 #[derive(Drop)]
 pub(crate) struct Prefix {
-    /// Its first symbols; all of them, where none is left out.
+    /// Its first symbols, or all of them if none is left out.
     pub(crate) front: Vec<Symbol>,
-    /// How many are left out behind these.
+    /// How many symbols are left out after these.
     pub(crate) left_out: usize,
     /// Its last symbols.
     pub(crate) back: Vec<Symbol>,
 }
 
 impl<'a> Cores<'a> {
-    /// Those of an automaton's states.
+    /// The cores of an automaton's states.
     pub(crate) fn of(alloc: Global, lr0: &'a Lr0<'a>) -> Result<Cores<'a>, AllocError> {
         let mut entries = Vec::with_capacity(alloc, lr0.states())?;
         for _ in 0..lr0.states() {
@@ -75,7 +75,7 @@ impl<'a> Cores<'a> {
         self.lr0
     }
 
-    /// The items of a state, in the order in which they were found; none of a number that no state has.
+    /// The items of a state, in the order in which they were found. Empty if there is no such state.
     pub(crate) fn items(&self, alloc: Global, state: StateNo) -> Result<Vec<Item>, AllocError> {
         match self.kernel(state) {
             Some(kernel) => closed(alloc, self.lr0, kernel),
@@ -83,13 +83,13 @@ impl<'a> Cores<'a> {
         }
     }
 
-    /// The kernel of a state, where it is kept.
+    /// The kernel of a state, if it is stored.
     fn kernel(&self, state: StateNo) -> Option<&[Item]> {
         let kernel = self.entries.get(state.0 as usize)?.kernel.as_ref()?;
         Some(kernel)
     }
 
-    /// The kernel of a state, from the items of the state before; nothing where these aren't kept.
+    /// The kernel of a state, from the items of the state before. Empty if these aren't stored.
     fn kernel_again(&self, alloc: Global, state: StateNo) -> Result<Vec<Item>, AllocError> {
         let mut again = Vec::new(alloc);
         let from = self
@@ -110,7 +110,7 @@ impl<'a> Cores<'a> {
         Ok(again)
     }
 
-    /// The least string that leads to a state.
+    /// The shortest string that leads to a state.
     pub(crate) fn prefix(&self, alloc: Global, state: StateNo) -> Result<Prefix, AllocError> {
         let (depth, early) = match self.entries.get(state.0 as usize) {
             Some(entry) => (entry.depth, entry.early),
@@ -131,7 +131,7 @@ impl<'a> Cores<'a> {
         })
     }
 
-    /// The symbols of the last steps to a state, so many at most.
+    /// The symbols of the last steps to a state, at most this many.
     fn last_steps(
         &self,
         alloc: Global,
@@ -152,7 +152,7 @@ impl<'a> Cores<'a> {
         Ok(symbols)
     }
 
-    /// Takes the steps that leave a state.
+    /// Takes the steps from a state.
     fn leave(&mut self, alloc: Global, from: StateNo) -> Result<(), AllocError> {
         let (depth, early) = match self.entries.get(from.0 as usize) {
             Some(entry) => (entry.depth, entry.early),
@@ -178,7 +178,8 @@ impl<'a> Cores<'a> {
 }
 
 impl Entry {
-    /// Takes a step to the state of a number, the first one, from one that so many steps lead to.
+    /// Takes a step to the state with a number, if it is the first one to it. The step is from a state that this many
+    /// steps lead to.
     fn enter(&mut self, number: StateNo, from: StateNo, depth: usize, early: StateNo) {
         if self.from.is_none() {
             self.from = Some(from);
@@ -187,8 +188,8 @@ impl Entry {
         }
     }
 
-    /// Adds an item behind a step from a state, if that is the first one. The kernel isn't kept if it has more items
-    /// than so many.
+    /// Adds an item after a step from a state, if that is the first step. The kernel isn't stored if it has more than
+    /// `most` items.
     fn add(&mut self, from: StateNo, item: Item, most: usize) -> Result<(), AllocError> {
         let mut is_long = false;
         if self.from == Some(from)
@@ -204,7 +205,7 @@ impl Entry {
     }
 }
 
-/// An item with its dot behind the next symbol.
+/// An item with its dot moved over the next symbol.
 fn behind(item: Item) -> Item {
     Item {
         dot: item.dot.saturating_add(1),
@@ -212,7 +213,7 @@ fn behind(item: Item) -> Item {
     }
 }
 
-/// The items that a kernel closes to, its own first.
+/// The closure of a kernel: its own items first.
 fn closed(alloc: Global, lr0: &Lr0<'_>, kernel: &[Item]) -> Result<Vec<Item>, AllocError> {
     let grammar = lr0.reduced().grammar();
     let mut items = Vec::from_slice(alloc, kernel)?;
@@ -236,7 +237,7 @@ fn closed(alloc: Global, lr0: &Lr0<'_>, kernel: &[Item]) -> Result<Vec<Item>, Al
     Ok(items)
 }
 
-/// Enters the nonterminal behind the dot of an item, if there is one.
+/// Adds the nonterminal after the dot of an item, if there is one.
 fn enter(grammar: &Grammar, item: Item, entered: &mut IndexSet<u32>) -> Result<(), AllocError> {
     if let Some(Symbol::Nonterminal(left)) = behind_dot(grammar, item) {
         entered.insert(left.0)?;
@@ -244,7 +245,7 @@ fn enter(grammar: &Grammar, item: Item, entered: &mut IndexSet<u32>) -> Result<(
     Ok(())
 }
 
-/// The rules of a nonterminal; none of a number that no nonterminal has.
+/// The rules of a nonterminal. Empty if there is no such nonterminal.
 fn rules_of<'l>(lr0: &'l Lr0<'_>, left: Sym) -> &'l [usize] {
     if left.0 > lr0.reduced().grammar().accept().0 {
         return &[];

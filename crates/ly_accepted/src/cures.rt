@@ -1,4 +1,4 @@
-//! Which token's precedence settles the most conflicts.
+//! The token whose precedence settles the most conflicts.
 use crate::decided::{last_terminal, precedence_of, rank_of};
 use crate::groups::Group;
 use crate::surveying::say_numbered;
@@ -8,7 +8,7 @@ use ly_page::Page;
 use ly_resolve::{Conflict, ConflictKind, Conflicts};
 use std::alloc::Global;
 
-/// How many groups a precedence settles at least that is said.
+/// The least number of groups that a suggested precedence settles.
 const LEAST: usize = 2;
 
 /// A token whose precedence settles groups of conflicts.
@@ -16,11 +16,11 @@ const LEAST: usize = 2;
 pub(crate) struct Cure {
     /// The token.
     pub(crate) terminal: Sym,
-    /// How many groups are settled.
+    /// How many groups it settles.
     pub(crate) settled: usize,
 }
 
-/// The token whose precedence settles the most groups of conflicts, if it is more than one.
+/// The token whose precedence settles the most groups of conflicts, if it settles more than one.
 pub(crate) fn best_cure(
     alloc: Global,
     spec: &Spec,
@@ -51,7 +51,7 @@ pub(crate) fn best_cure(
     Ok(best)
 }
 
-/// Says how many of so many groups a token's precedence settles.
+/// Appends how many of the groups a token's precedence settles.
 pub(crate) fn say_cure(page: &mut Page, spec: &Spec, cure: Cure, groups: usize) {
     page.say(b"A precedence for ");
     page.say_terminal(spec, cure.terminal);
@@ -72,7 +72,7 @@ fn cure_of(spec: &Spec, conflicts: &Conflicts, group: &Group) -> Option<Sym> {
     cure
 }
 
-/// The token that is the only one without a precedence of those that a conflict is settled by.
+/// The only token without a precedence among the two that settle a conflict.
 fn needed_for(spec: &Spec, conflict: &Conflict) -> Option<Sym> {
     if conflict.kind == ConflictKind::ReduceReduce || conflict.terminal.0 == 0 {
         return None;

@@ -1,10 +1,10 @@
-//! Long rows of symbols, whose middle is counted and not said.
+//! Long rows of symbols: the middle is only counted.
 use crate::cores::{END, Prefix};
 use ly_base::Sym;
 use ly_join::{Spec, Symbol};
 use ly_page::Page;
 
-/// The ends of a row, and how much stands between them: of a short one all of it, and nothing.
+/// Both ends of a row, and how many elements are between them. A short row is all in its first end.
 pub(crate) fn ends<T>(row: &[T]) -> (&[T], usize, &[T]) {
     let left_out = row.len().saturating_sub(2 * END);
     if left_out == 0 {
@@ -15,7 +15,7 @@ pub(crate) fn ends<T>(row: &[T]) -> (&[T], usize, &[T]) {
     (front, left_out, back)
 }
 
-/// Says symbols, a space before each.
+/// Appends symbols, a space before each.
 pub(crate) fn say_symbols(page: &mut Page, spec: &Spec, symbols: &[Symbol]) {
     let (front, left_out, back) = ends(symbols);
     page.say_symbols(spec, front);
@@ -23,14 +23,14 @@ pub(crate) fn say_symbols(page: &mut Page, spec: &Spec, symbols: &[Symbol]) {
     page.say_symbols(spec, back);
 }
 
-/// Says the string that leads to a state, a space before each symbol.
+/// Appends the string that leads to a state, a space before each symbol.
 pub(crate) fn say_prefix(page: &mut Page, spec: &Spec, prefix: &Prefix) {
     page.say_symbols(spec, &prefix.front);
     say_left_out(page, prefix.left_out);
     page.say_symbols(spec, &prefix.back);
 }
 
-/// Says terminals, a space before each.
+/// Appends terminals, a space before each.
 pub(crate) fn say_terminals(page: &mut Page, spec: &Spec, terminals: &[Sym]) {
     let (front, left_out, back) = ends(terminals);
     say_each(page, spec, front);
@@ -38,7 +38,7 @@ pub(crate) fn say_terminals(page: &mut Page, spec: &Spec, terminals: &[Sym]) {
     say_each(page, spec, back);
 }
 
-/// Says each of terminals, a space before it.
+/// Appends each terminal, a space before it.
 fn say_each(page: &mut Page, spec: &Spec, terminals: &[Sym]) {
     for terminal in terminals {
         page.say(b" ");
@@ -46,7 +46,7 @@ fn say_each(page: &mut Page, spec: &Spec, terminals: &[Sym]) {
     }
 }
 
-/// Says how many symbols are left out, if any are.
+/// Appends how many symbols are left out, if any.
 pub(crate) fn say_left_out(page: &mut Page, count: usize) {
     if count > 0 {
         page.say(b" .. ");
@@ -66,7 +66,7 @@ const THOUSANDS: [u64; 7] = [
     1,
 ];
 
-/// Says a number, with a comma behind each three digits from the end.
+/// Appends a number, with a comma between groups of three digits.
 pub(crate) fn say_large(page: &mut Page, number: u64) {
     let mut begun = false;
     for unit in THOUSANDS {

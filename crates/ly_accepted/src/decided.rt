@@ -1,4 +1,5 @@
-//! Which precedences decide something: where a shift meets a reduction, and both have one.
+//! Which precedences decide something: those in a state where a terminal can be shifted and a rule can be reduced on
+//! it, and both have a precedence.
 ghost use Rattle.std.specs.Prelude.{◌<◌, length};
 ghost use Rattle.ly_lookahead.specs.Lookaheads.{AreLookaheads};
 
@@ -14,11 +15,11 @@ use std::alloc::Global;
 /// What precedences decide.
 #[derive(Drop)]
 pub(crate) struct Decided {
-    /// Whether the precedence of each terminal meets that of a rule.
+    /// For each terminal whether its precedence is compared with that of a rule.
     terminals: Vec<bool>,
-    /// Whether the `%prec` of each rule settles a shift otherwise than the last terminal of its body does.
+    /// For each rule whether its `%prec` gives a different result than the last terminal of its body would.
     rules: Vec<bool>,
-    /// Whether a rule whose precedence is declared at each place does so.
+    /// For each level whether the precedence of a rule with this level is compared.
     levels: Vec<bool>,
 }
 
@@ -41,7 +42,7 @@ impl Decided {
         Ok(decided)
     }
 
-    /// Marks what meets in the states.
+    /// Marks the comparisons in all states.
     fn mark_all(&mut self, spec: &Spec, lr0: &Lr0<'_>, sets: &Lookaheads)
         requires { AreLookaheads lr0.now sets.now }
     {
@@ -50,7 +51,7 @@ impl Decided {
         }
     }
 
-    /// Whether the precedence of a terminal decides something, or that of a rule that has it from the same declaration.
+    /// Whether the precedence of a terminal decides something, or that of a rule with the same declaration.
     pub(crate) fn by_terminal(&self, spec: &Spec, terminal: Sym) -> bool {
         let number = terminal.0 as usize;
         if is_marked(&self.terminals, number) {
@@ -67,7 +68,7 @@ impl Decided {
         is_marked(&self.rules, rule)
     }
 
-    /// Marks what meets in a state.
+    /// Marks the comparisons in a state.
     fn mark_state(&mut self, spec: &Spec, lr0: &Lr0<'_>, sets: &Lookaheads, state: StateNo)
         requires state { state.0 < length lr0.now.states }
         requires sets { AreLookaheads lr0.now sets.now }
@@ -87,7 +88,7 @@ impl Decided {
         }
     }
 
-    /// Marks what the precedences of a terminal and a rule decide that meet.
+    /// Marks what a comparison of a terminal and a rule decides.
     fn mark_meeting(&mut self, spec: &Spec, terminal: Sym, rule: usize) {
         let Some(of_terminal) = rank_of(spec, terminal) else {
             return;
@@ -106,17 +107,17 @@ impl Decided {
 /// How a shift against a reduction is settled.
 #[derive(Clone, Copy, PartialEq, Eq)]
 enum Settled {
-    /// It is a conflict.
+    /// It isn't: it is a conflict.
     Not,
     /// By the shift.
     Shift,
     /// By the reduction.
     Reduce,
-    /// By neither.
+    /// By an error.
     Error,
 }
 
-/// How a shift of a terminal that has a precedence is settled against a reduction.
+/// How the shift of a terminal with a precedence is settled against a reduction.
 fn outcome(rule: Option<Precedence>, terminal: Precedence) -> Settled {
     let Some(rule) = rule else {
         return Settled::Not;
@@ -139,7 +140,7 @@ pub(crate) fn rank_of(spec: &Spec, terminal: Sym) -> Option<Precedence> {
     *spec.precedences().get(terminal.0 as usize)?
 }
 
-/// The precedence that a rule has without its `%prec`, if it has one: that of its last terminal.
+/// The precedence that a rule has without its `%prec`, if any: that of its last terminal.
 fn last_rank(spec: &Spec, rule: usize) -> Option<Precedence> {
     rank_of(spec, last_terminal(spec, rule)?)
 }
@@ -159,7 +160,7 @@ pub(crate) fn precedence_of(spec: &Spec, rule: usize) -> Option<Precedence> {
     spec.notes().get(rule)?.precedence
 }
 
-/// How many places the declarations of a specification's precedences have.
+/// The number of levels that the precedences of a specification have.
 fn levels_of(spec: &Spec) -> usize {
     let mut levels = 0;
     for ranked in spec.precedences() {
@@ -175,7 +176,7 @@ pub(crate) fn is_marked(marks: &[bool], number: usize) -> bool {
     marks.get(number) == Some(&true)
 }
 
-/// Marks a number. One that has no mark is passed over.
+/// Marks a number. A number without a mark is ignored.
 fn mark(marks: &mut Vec<bool>, number: usize) {
     if let Some(place) = marks.get_mut(number) {
         *place = true;

@@ -1,9 +1,9 @@
-//! Doubts as values: what may not be meant, and where it stands.
+//! Warnings as values: what may not be meant, and its location.
 use crate::patterns::Surprise;
 use ly_base::{Location, Sym};
 use ly_yaccread::SymbolName;
 
-/// Which of both files.
+/// One of the two files.
 #[derive(Clone, Copy, Debug, PartialEq, Eq)]
 pub(crate) enum Side {
     /// The lex file.
@@ -12,14 +12,14 @@ pub(crate) enum Side {
     Yacc,
 }
 
-/// Something that may not be meant.
+/// A warning.
 #[derive(Drop)]
 pub(crate) struct Doubt<'a> {
-    /// The file in which it stands.
+    /// The file that it is about.
     pub(crate) side: Side,
-    /// Where it stands; nowhere, where others are counted alone.
+    /// Its location. `None` for warnings that only count others.
     pub(crate) at: Option<Location>,
-    /// What it is.
+    /// What it is about.
     pub(crate) kind: DoubtKind<'a>,
 }
 
@@ -30,40 +30,40 @@ pub(crate) enum DoubtKind<'a> {
     UnsetCondition(&'a [u8]),
     /// No rule is active in this condition.
     IdleCondition(&'a [u8]),
-    /// A pattern means something else than it may seem to.
+    /// A pattern means something else than it seems to.
     Surprise {
         /// What does.
         surprise: Surprise,
-        /// The line in which it stands.
+        /// The line with the pattern.
         line: &'a [u8],
-        /// How many bytes of the line stand before it.
+        /// The offset in the line.
         offset: usize,
     },
     /// A line among the rules begins with a blank.
     IndentedLine,
     /// A rule of the lex file never matches.
     UnmatchedRule(Hiding),
-    /// This literal is returned, and the yacc file doesn't name it.
+    /// This literal is returned, but the yacc file doesn't name it.
     UnnamedLiteral(u8),
-    /// No text has this rule.
+    /// No text uses this rule.
     UselessRule(usize),
-    /// No state reduces by this rule.
+    /// This rule is never reduced.
     UnreducedRule(usize),
-    /// This rule has no action, and loses the trees of its other symbols.
+    /// This rule has no action, so the trees of its symbols other than the first are lost.
     LosingRule(usize),
-    /// This terminal stands in no rule.
+    /// No rule uses this terminal.
     UnusedTerminal(Sym),
-    /// So many terminals more stand in no rule.
+    /// This many more terminals aren't used.
     MoreUnused(usize),
     /// No rule of the lex file returns this terminal.
     UnreturnedTerminal(Sym),
-    /// So many terminals more are returned by no rule.
+    /// This many more terminals aren't returned.
     MoreUnreturned(usize),
-    /// This token is declared before.
+    /// This token is declared twice.
     DeclaredAgain {
-        /// It.
+        /// The token.
         symbol: &'a SymbolName,
-        /// The line on which it is declared first.
+        /// The line of its first declaration.
         first: u64,
     },
     /// The precedence of this terminal decides nothing.
@@ -72,13 +72,13 @@ pub(crate) enum DoubtKind<'a> {
     IdlePrec(usize),
 }
 
-/// What takes all that a rule of the lex file could match.
+/// What matches all strings of a rule of the lex file instead of it.
 #[derive(Drop)]
 pub(crate) enum Hiding {
-    /// Earlier rules; which of them was too much to look at.
+    /// Earlier rules. Which ones was too much work to find out.
     Earlier,
-    /// The rule has the empty string alone.
+    /// The rule matches only the empty string.
     EmptyAlone,
-    /// The rules that begin on these lines, which rise.
+    /// The rules that begin on these lines, in ascending order.
     Lines(Vec<u64>),
 }

@@ -1,4 +1,4 @@
-//! Doubts put into words, and their names.
+//! The texts of warnings, and their names.
 use crate::bodies::body_of;
 use crate::doubt::{Doubt, DoubtKind, Hiding, Side};
 use crate::patterns::Surprise;
@@ -9,7 +9,7 @@ use ly_join::{Grammar, Symbol};
 use ly_page::{Named, Page};
 use ly_yaccread::SymbolName;
 
-/// How many rules are named that take what another one could, at most.
+/// How many rules that match the strings of another one are named at most.
 const NAMED: usize = 5;
 
 /// The file of a side.
@@ -20,7 +20,7 @@ pub(crate) fn file_of<'a>(files: &Accepted<'a>, side: Side) -> Named<'a> {
     }
 }
 
-/// Says a doubt on a line: the file, where it stands there, and what it is. Of a pattern its line follows.
+/// Appends a warning on its own line: the file, the location, and the text. For a pattern the line follows.
 pub(crate) fn say_doubt(page: &mut Page, files: &Accepted<'_>, doubt: &Doubt<'_>) {
     let file = file_of(files, doubt.side);
     match doubt.at {
@@ -33,12 +33,12 @@ pub(crate) fn say_doubt(page: &mut Page, files: &Accepted<'_>, doubt: &Doubt<'_>
     say_kind(page, files, &doubt.kind);
     page.say(b"\n");
     if let DoubtKind::Surprise { line, offset, .. } = &doubt.kind {
-        // The line by itself, so that it isn't sought from the front of the file.
+        // The line is passed by itself, so that it isn't searched from the start of the file.
         page.say_excerpt(Named::new(file.name, line), locate(line, *offset));
     }
 }
 
-/// Says what may not be meant.
+/// Appends the text of a warning.
 pub(crate) fn say_kind(page: &mut Page, files: &Accepted<'_>, kind: &DoubtKind<'_>) {
     match kind {
         DoubtKind::UnsetCondition(name) => say_about(page, b"no action sets the condition ", name),
@@ -64,13 +64,13 @@ pub(crate) fn say_kind(page: &mut Page, files: &Accepted<'_>, kind: &DoubtKind<'
     }
 }
 
-/// Says words, and a name behind them.
+/// Appends a text and a name after it.
 fn say_about(page: &mut Page, words: &[u8], name: &[u8]) {
     page.say(words);
     page.say(name);
 }
 
-/// Says what may not be meant of a rule of the grammar.
+/// Appends the text of a warning about a rule of the grammar.
 fn say_of_rule(page: &mut Page, files: &Accepted<'_>, kind: &DoubtKind<'_>) {
     match kind {
         DoubtKind::UselessRule(rule) => {
@@ -117,7 +117,7 @@ fn is_roundabout(grammar: &Grammar, rule: usize) -> bool {
     }
 }
 
-/// Says what may not be meant of a terminal, or of so many more.
+/// Appends the text of a warning about a terminal, or about this many more.
 fn say_of_terminal(page: &mut Page, files: &Accepted<'_>, kind: &DoubtKind<'_>) {
     let spec = files.spec;
     match kind {
@@ -162,7 +162,7 @@ fn say_of_terminal(page: &mut Page, files: &Accepted<'_>, kind: &DoubtKind<'_>) 
     }
 }
 
-/// Says why a rule of the lex file never matches.
+/// Appends why a rule of the lex file never matches.
 fn say_hiding(page: &mut Page, hiding: &Hiding) {
     page.say(b"this rule never matches: ");
     match hiding {
@@ -174,7 +174,7 @@ fn say_hiding(page: &mut Page, hiding: &Hiding) {
     }
 }
 
-/// Says by their lines which rules take all that a rule could.
+/// Appends, by their lines, the rules that match all strings of another rule.
 fn say_rules(page: &mut Page, lines: &[u64]) {
     let count = lines.len();
     page.say(if count == 1 {
@@ -203,7 +203,7 @@ fn say_rules(page: &mut Page, lines: &[u64]) {
     });
 }
 
-/// The name of a doubt, which stays as it is.
+/// The name of a warning. Names don't change between versions.
 pub(crate) fn name_of(kind: &DoubtKind<'_>) -> &'static [u8] {
     match kind {
         DoubtKind::UnsetCondition(_) => b"UnsetCondition",
