@@ -1,7 +1,7 @@
-//! A sentence with two trees that take the two actions of a conflict, sought from the conflict on outwards: two
-//! readings go on at once behind its place, and get rules around them, until both are of one nonterminal and have come
-//! to the same tokens (in the manner of Isradisaikul and Myers 2015). What is found is asked of `ly_examples` before it
-//! is said.
+//! Searches for a sentence with two trees that take the two actions of a conflict. The search goes outwards from the
+//! conflict: two readings read on after the conflict point and get rules around them, until both are of one nonterminal
+//! and have read the same tokens (in the manner of Isradisaikul and Myers 2015). The search isn't proved;
+//! `ly_counterexamples` checks what it finds.
 ghost use Rattle.std.specs.Prelude.{◌≡◌, IfOk};
 ghost use Rattle.ly_resolve.specs.Values.{conflict_from, IsInside};
 ghost use Rattle.ly_accepted.specs.Told.{IsFoundIn};
@@ -21,14 +21,14 @@ use ly_lr0::{Item, Lr0};
 use ly_resolve::{Action, Conflict, ConflictKind};
 use std::alloc::{AllocError, Global};
 
-/// How many pairs of readings of whole texts are looked at for a conflict, at most.
+/// How many pairs of readings of whole texts are looked at for a conflict at most.
 const MOST_WHOLE: usize = 2_000;
 
-/// How many pairs of other readings are looked at for a conflict, at most.
+/// How many pairs of other readings are looked at for a conflict at most.
 const MOST: usize = 6_000;
 
-/// How many steps are made for all sentences together, at most: what is looked at or copied, of which a pair takes some
-/// more, and so does a derived symbol.
+/// How many steps are made for all sentences together at most. A step is something looked at or copied. Each pair and
+/// each derived symbol costs some more.
 const STEPS: usize = 1_000_000_000;
 
 /// A sentence with two trees.
@@ -36,33 +36,33 @@ const STEPS: usize = 1_000_000_000;
 pub(crate) struct Ambiguity {
     /// Its tokens.
     pub(crate) sentence: Vec<Sym>,
-    /// The rules of the first tree, each in front of those below it.
+    /// The rules of the first tree, each before those below it.
     pub(crate) one: Vec<usize>,
-    /// The rules of the second tree, each in front of those below it.
+    /// The rules of the second tree, each before those below it.
     pub(crate) other: Vec<usize>,
 }
 
-/// What sentences are sought by.
+/// Searches for sentences with two trees.
 #[derive(Drop)]
 pub(crate) struct Finder<'a> {
-    /// The conflicts, and what leads backwards to states and waits for nonterminals.
+    /// The conflicts, and the backward edges of the automaton.
     pub(crate) examples: &'a Examples<'a>,
-    /// The automaton, which knows the rules of each nonterminal.
+    /// The automaton, which has the rules of each nonterminal.
     pub(crate) lr0: &'a Lr0<'a>,
     /// The items of its states.
     pub(crate) cores: &'a Cores<'a>,
     /// The grammar.
     pub(crate) grammar: &'a Grammar,
-    /// The shortest yields of nonterminals.
+    /// The shortest token strings of nonterminals.
     pub(crate) yields: &'a Yields,
     /// How many steps may still be made.
     steps: usize,
-    /// How much searches for examples may still look at.
+    /// The budget for counterexamples that is left.
     pub(crate) patience: Patience,
 }
 
 impl<'a> Finder<'a> {
-    /// What sentences of a grammar with conflicts are sought by.
+    /// Prepares searches for sentences of a grammar with conflicts.
     pub(crate) fn new(
         examples: &'a Examples<'a>,
         cores: &'a Cores<'a>,
@@ -82,8 +82,8 @@ impl<'a> Finder<'a> {
         }
     }
 
-    /// A sentence with two trees, which take the two actions of a conflict. It is sought first behind the ways to both
-    /// at a string, from the start on, and then from the conflict on outwards.
+    /// Searches for a sentence with two trees that take the two actions of a conflict. It first goes on from the
+    /// derivations of both after one string, from the start on, and then outwards from the conflict.
     pub(crate) fn find(
         &mut self,
         alloc: Global,
@@ -111,7 +111,7 @@ impl<'a> Finder<'a> {
         Ok(found)
     }
 
-    /// Goes on with a search for a sentence of a conflict, over so many pairs at most.
+    /// Continues a search for a sentence of a conflict over at most this many pairs.
     fn search(
         &self,
         alloc: Global,
@@ -134,7 +134,7 @@ impl<'a> Finder<'a> {
         Ok(None)
     }
 
-    /// Adds the pair of whole texts that two ways to the same string begin.
+    /// Adds the pair of whole texts that two derivations after the same string begin.
     fn begin_whole(
         &self,
         alloc: Global,
@@ -160,7 +160,7 @@ impl<'a> Finder<'a> {
         Ok(search.push(self.yields, pair)?)
     }
 
-    /// Adds the pairs with which a search begins.
+    /// Adds the first pairs of a search.
     fn begin(
         &self,
         alloc: Global,
@@ -190,7 +190,7 @@ impl<'a> Finder<'a> {
         Item { rule, dot }
     }
 
-    /// Adds the pair with which a search begins: both items are in the state.
+    /// Adds the first pair of a search: both items are in the state.
     fn begin_with(
         &self,
         alloc: Global,

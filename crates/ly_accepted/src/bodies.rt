@@ -1,4 +1,4 @@
-//! What stands in the bodies of rules. Of a number that no rule has it is nothing.
+//! The bodies of rules. A number that no rule has yields nothing.
 use ly_join::{Grammar, Symbol};
 use ly_lr0::Item;
 
@@ -10,12 +10,12 @@ pub(crate) fn body_of(grammar: &Grammar, rule: usize) -> &[Symbol] {
     }
 }
 
-/// What stands behind so many symbols of a rule's body.
+/// The symbols of a rule's body after the first `passed` ones.
 pub(crate) fn rest_of(grammar: &Grammar, rule: usize, passed: usize) -> &[Symbol] {
     body_of(grammar, rule).get(passed..).unwrap_or_default()
 }
 
-/// The symbol behind the dot of an item, if there is one.
+/// The symbol after the dot of an item, if there is one.
 pub(crate) fn behind_dot(grammar: &Grammar, item: Item) -> Option<Symbol> {
     body_of(grammar, item.rule).get(item.dot).copied()
 }

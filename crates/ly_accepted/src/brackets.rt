@@ -1,4 +1,4 @@
-//! The rules that are under way behind a string of symbols, drawn with brackets.
+//! Draws the rules that are under way after a string of symbols with brackets.
 use crate::bodies::{behind_dot, body_of, rest_of};
 use crate::cores::END;
 use crate::cut::say_left_out;
@@ -8,48 +8,48 @@ use ly_lr0::Item;
 use ly_page::Page;
 use std::alloc::{AllocError, Global};
 
-/// How trees and rules under way are said: with brackets around the rules that have more than one symbol, or with
-/// brackets around all rules, and the names of their left sides before them.
+/// How trees and rules under way are printed: with brackets around the rules that have more than one symbol, or with
+/// brackets around all rules, each after the name of its left side.
 #[derive(Clone, Copy, PartialEq, Eq)]
 pub(crate) enum Style {
-    /// With brackets alone.
+    /// With brackets only.
     Brackets,
     /// With names.
     Names,
 }
 
-/// A rule under way, and what stands before the bracket behind its dot.
+/// A rule under way, and what precedes the bracket after its dot.
 #[derive(Clone, Copy)]
 struct Under {
     /// The rule.
     item: Item,
-    /// How many symbols stand before the bracket.
+    /// How many symbols precede the bracket.
     before: usize,
 }
 
-/// A part of what is drawn.
+/// An element of a drawing.
 #[derive(Clone, Copy)]
 enum Piece {
     /// A symbol.
     Symbol(Symbol),
-    /// The beginning of a bracket, and the left side before it, where that is said.
+    /// An opening bracket, and the left side before it, if that is printed.
     Open(Option<Sym>),
-    /// The end of a bracket.
+    /// A closing bracket.
     Close,
 }
 
-/// What is drawn on one side of the dot.
+/// One side of the dot in a drawing.
 #[derive(Drop)]
 struct Side {
-    /// Its parts.
+    /// Its elements.
     pieces: Vec<Piece>,
     /// How many of them are symbols.
     symbols: usize,
 }
 
-/// Draws the rules of a way: a bracket where one begins below another, the symbols before the dots, and at the end a
-/// dot and what stands behind it in each rule, from the inmost one on. Of no way nothing is said.
-/// Of many symbols on a side of the dot the middle is counted alone, and the brackets that begin there aren't said.
+/// Draws the rules of a derivation: a bracket for each rule that begins below another one, the symbols before the dots,
+/// then a dot, and what follows it in each rule, from the inmost one on. An empty derivation prints nothing. On a side
+/// with many symbols the middle is only counted, and brackets that begin there aren't printed.
 pub(crate) fn say_way(
     alloc: Global,
     page: &mut Page,
@@ -87,8 +87,8 @@ pub(crate) fn say_way(
     Ok(())
 }
 
-/// What stands behind the dots of the rules under way, the inmost one first. In each but that one the symbol behind the
-/// dot is the rule within. So many symbols stand before the dot.
+/// The symbols after the dots of the rules under way, the inmost rule first. In each other rule, the symbol after the
+/// dot is the left side of the rule within. This many symbols precede the dot.
 fn rests_of(
     alloc: Global,
     spec: &Spec,
@@ -110,13 +110,13 @@ fn rests_of(
     Ok(side)
 }
 
-/// Whether what stands behind so many symbols of a row is said: that isn't in the middle of a long one.
+/// Whether what follows this many symbols of a row is printed: it isn't in the middle of a long one.
 fn is_said(behind: usize, symbols: usize) -> bool {
     behind < END || behind >= symbols.saturating_sub(END)
 }
 
 impl Side {
-    /// Nothing so far.
+    /// An empty side.
     fn new(alloc: Global) -> Side {
         Side {
             pieces: Vec::new(alloc),
@@ -131,7 +131,7 @@ impl Side {
         Ok(())
     }
 
-    /// Adds the symbol behind an item's dot, if there is one.
+    /// Adds the symbol after an item's dot, if there is one.
     fn pass(&mut self, spec: &Spec, item: Item) -> Result<(), AllocError> {
         match behind_dot(spec.grammar(), item) {
             Some(symbol) => self.add(symbol),
@@ -139,7 +139,7 @@ impl Side {
         }
     }
 
-    /// Adds the beginning of the bracket around what stands behind an item's dot, if it gets one.
+    /// Adds the opening bracket around what follows an item's dot, if it gets one.
     fn open(&mut self, spec: &Spec, item: Item, style: Style) -> Result<(), AllocError> {
         if !is_bracketed_in(spec, item, style) {
             return Ok(());
@@ -152,7 +152,7 @@ impl Side {
         Ok(())
     }
 
-    /// Adds what stands behind so many symbols of a rule's body; of rule 0 nothing.
+    /// Adds the symbols of a rule's body after the first `passed` ones; of rule 0 nothing.
     fn add_rest(&mut self, spec: &Spec, rule: usize, passed: usize) -> Result<(), AllocError> {
         if rule > 0 {
             for symbol in rest_of(spec.grammar(), rule, passed) {
@@ -162,8 +162,8 @@ impl Side {
         Ok(())
     }
 
-    /// Says its parts, a space before each symbol and bracket that doesn't begin a bracket. Answers whether the
-    /// beginning of a bracket was said last.
+    /// Appends the elements, with a space before each symbol and each opening bracket that doesn't follow an opening
+    /// bracket. Returns whether the last element printed is an opening bracket.
     fn say(&self, page: &mut Page, spec: &Spec) -> bool {
         let (mut behind, mut opened) = (0, false);
         for piece in &self.pieces {
@@ -183,7 +183,7 @@ impl Side {
     }
 }
 
-/// Says a part. Answers whether it is the beginning of a bracket, and is told whether the last one was.
+/// Appends an element. `opened` is whether the element before is an opening bracket. Returns whether this one is.
 fn say_piece(page: &mut Page, spec: &Spec, piece: Piece, opened: bool) -> bool {
     if let Piece::Close = piece {
         page.say(b"]");
@@ -203,8 +203,8 @@ fn say_piece(page: &mut Page, spec: &Spec, piece: Piece, opened: bool) -> bool {
     matches!(piece, Piece::Open(_))
 }
 
-/// Whether what stands behind the dot of an item gets brackets: with names always, and else where it is a part of
-/// another rule than rule 0, and not all of it.
+/// Whether what follows the dot of an item gets brackets. With names it always does. Otherwise it does if the rule has
+/// more than one symbol and isn't rule 0.
 fn is_bracketed_in(spec: &Spec, item: Item, style: Style) -> bool {
     style == Style::Names || item.rule > 0 && body_of(spec.grammar(), item.rule).len() > 1
 }

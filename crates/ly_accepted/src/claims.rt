@@ -1,4 +1,4 @@
-//! The claims that are looked at on the way from an action back to the start, each on a beginning of one string.
+//! The claims on the way from an action back to the start. Each is on a prefix of one string.
 use crate::bodies::behind_dot;
 use crate::cores::Cores;
 use indexmap::{IndexMap, IndexSet};
@@ -8,55 +8,55 @@ use ly_join::Symbol;
 use ly_lr0::Item;
 use std::alloc::{AllocError, Global};
 
-/// How many claims are looked at, at most, to find how an action comes about.
+/// How many claims are looked at, at most, to find how an action arises.
 pub(crate) const MOST: usize = 50_000;
 
-/// How many items of states are gone through, at most, for that.
+/// How many items of states are looked at, at most, for that.
 const MOST_ITEMS: usize = 5_000_000;
 
-/// A claim on a beginning of the string.
+/// A claim on a prefix of the string.
 #[derive(Clone, Copy, PartialEq, Eq, Hash)]
 pub(crate) struct Claimed {
-    /// How many symbols the beginning has.
+    /// The length of the prefix.
     pub(crate) length: usize,
-    /// What is claimed of it.
+    /// The claim.
     pub(crate) claim: Claim,
 }
 
-/// A rule that begins behind a beginning of the string.
+/// A rule that begins after a prefix of the string.
 #[derive(Clone, Copy, PartialEq, Eq, Hash)]
 pub(crate) struct Opening {
-    /// How many symbols the beginning has.
+    /// The length of the prefix.
     pub(crate) length: usize,
     /// The left side of the rule.
     pub(crate) left: Sym,
-    /// Whether it is claimed with any terminal.
+    /// Whether the claim allows any terminal.
     pub(crate) in_core: bool,
 }
 
-/// The claims that were found on the way back to the start.
+/// The claims found on the way back to the start.
 #[derive(Drop)]
 pub(crate) struct Search {
-    /// Each with the place of the one that is true by it.
+    /// Each claim with the index of the one that it implies.
     pub(crate) found: IndexMap<Claimed, usize>,
-    /// The openings of those that were looked at.
+    /// The openings of the claims that were looked at.
     opened: IndexSet<Opening>,
-    /// The core that was asked for last.
+    /// The core that was looked up last.
     last: Option<Core>,
-    /// How many items of states were gone through.
+    /// How many items of states were looked at.
     items: usize,
 }
 
-/// The items of a state that wait for nonterminals.
+/// The items of a state that have a nonterminal after their dot.
 #[derive(Drop)]
 struct Core {
     /// The state.
     state: StateNo,
-    /// How many items it has, with those that wait for none.
+    /// How many items the state has, including those without a nonterminal after their dot.
     count: usize,
     /// The nonterminals.
     lefts: IndexSet<u32>,
-    /// For each of them the items, in the order in which they were found.
+    /// For each of them its items, in the order in which they were found.
     waiting: Vec<Vec<Item>>,
 }
 
@@ -79,7 +79,7 @@ impl Core {
         Ok(core)
     }
 
-    /// Adds an item that waits for a nonterminal.
+    /// Adds an item that has a nonterminal after its dot.
     fn add(&mut self, alloc: Global, left: Sym, item: Item) -> Result<(), AllocError> {
         if self.lefts.insert(left.0)? {
             self.waiting.push(Vec::new(alloc))?;
@@ -92,7 +92,7 @@ impl Core {
         Ok(())
     }
 
-    /// The items that wait for a nonterminal.
+    /// The items that have a nonterminal after their dot.
     fn waiting(&self, left: Sym) -> &[Item] {
         match self.lefts.get_index_of(&left.0) {
             Some(place) => match self.waiting.get(place) {
@@ -115,7 +115,7 @@ impl Search {
         }
     }
 
-    /// The claim at a place; none behind so many that the search ends.
+    /// The claim at an index; `None` once the search has looked at too much.
     pub(crate) fn claimed(&self, place: usize) -> Option<Claimed> {
         if self.found.len() > MOST || self.items > MOST_ITEMS {
             return None;
@@ -124,8 +124,8 @@ impl Search {
         Some(*claimed)
     }
 
-    /// The items of a state that wait for a nonterminal. Claims on one beginning mostly follow one another, so the core
-    /// of the last one is kept.
+    /// The items of a state that have a nonterminal after their dot. Claims on one prefix mostly follow one another, so
+    /// the last core is cached.
     pub(crate) fn waiting(
         &mut self,
         alloc: Global,
@@ -148,7 +148,7 @@ impl Search {
         }
     }
 
-    /// Whether a claim depends on an opening that was met before. A new one is met here.
+    /// Whether a claim depends on an opening that was met before. A new opening is added.
     pub(crate) fn opens_again(&mut self, opening: Option<Opening>) -> Result<bool, AllocError> {
         let Some(opening) = opening else {
             return Ok(false);
@@ -160,8 +160,8 @@ impl Search {
         Ok(again)
     }
 
-    /// Adds claims by which the one at a place is true, up to the one on the start, and answers whether that is among
-    /// them and new.
+    /// Adds claims that imply the one at an index, up to the one on the start. Returns whether that one is among them
+    /// and new.
     pub(crate) fn has_start(
         &mut self,
         claims: &[Claimed],
@@ -179,7 +179,7 @@ impl Search {
         Ok(false)
     }
 
-    /// The items of the claims from the last one back to the first, each found from the next.
+    /// The items of the claims from the last one back to the first. Each claim was found from the next one.
     pub(crate) fn way_back(&self, alloc: Global) -> Result<Vec<Item>, OutOfMemory> {
         let mut way = Vec::new(alloc);
         let mut place = self.found.len().saturating_sub(1);
@@ -200,7 +200,7 @@ impl Search {
 }
 
 impl Claimed {
-    /// Whether it is the one on the start that is always true.
+    /// Whether it is the claim on the start that is always true.
     pub(crate) fn is_start(&self) -> bool {
         self.length == 0 && self.claim == Claim::InCore(Item { rule: 0, dot: 0 })
     }
