@@ -1,4 +1,4 @@
-//! Locations of offsets of a text, which are asked for in ascending order.
+//! Converts offsets of a text to locations. This is fast if the offsets come in ascending order.
 use crate::surveying::Accepted;
 use ly_base::Location;
 use std::alloc::{AllocError, Global};

@@ -133,7 +133,7 @@ fn find_mark_fault(
     })
 }
 
-/// Why a text is rejected and the offset of the error, if it is rejected.
+/// Why a text is rejected, and the offset of the error, if it is rejected.
 fn refusal(
     alloc: Global,
     text: &[u8],

@@ -26,11 +26,13 @@ const NO_PAIR: &str =
 
 const NO_LINES: &str = "error: the argument '--lines' cannot be used with '--places'\n";
 
-/// Reads the arguments, the first of which is the program's name: `tokens LEX [TEXT] [--json] [--where]`, `tokens
-/// --tables TABLES [TEXT] [--json] [--where]`, `build LEX YACC TABLES [--report FILE] [--format 1|2] [--expect COUNT]
-/// [--where]`, `run TABLES [TEXT] [--lines] [--json] [--places] [--where]`, `try LEX YACC [TEXT] [--json] [--places]
-/// [--where]`, `check TABLES [--json] [--where]` or `explain LEX YACC [--json] [--states FILE] [--graph FILE]
-/// [--strict] [--expect COUNT]`, or this with `--yacc YACC` in place of both files. `--places` implies `--json`.
+/// Reads the arguments, the first of which is the program's name: `tokens LEX [TEXT] [--json] [--where]`,
+/// `tokens --tables TABLES [TEXT] [--json] [--where]`,
+/// `build LEX YACC TABLES [--report FILE] [--format 1|2] [--expect COUNT] [--where]`,
+/// `run TABLES [TEXT] [--lines] [--json] [--places] [--where]`,
+/// `try LEX YACC [TEXT] [--json] [--places] [--where]`, `check TABLES [--json] [--where]` or
+/// `explain LEX YACC [--json] [--states FILE] [--graph FILE] [--strict] [--expect COUNT]`, or this with `--yacc YACC`
+/// in place of both files. `--places` implies `--json`.
 ///
 /// Returns `Help` if a help text or the version is requested. Returns `Bad` if `clap` rejects the arguments for another
 /// reason, if `--format` is neither 1 nor 2, if `--expect` has no number, if `--lines` comes with `--places`, or if
