@@ -34,7 +34,7 @@ IsTrueOf M c (Some answer.At) = (g : List Symbol) × IsExample M.grammar c g
 IsTrueOf M c (Some answer.Merged) = (g : List Symbol) → IsExample M.grammar c g → ⊥
 IsTrueOf M c (Some answer.Unknown) = HasMoreDemands M c most_demands
 
--- the conflict of this index
+-- the conflict with this index
 abbrev pub IsConflictAt : Resolved → ℕ → Conflict → Type 0
 IsConflictAt r i c = slice_get r.conflicts i ≡ Some c
 

@@ -53,7 +53,7 @@ pub(crate) struct Finder<'a> {
     pub(crate) cores: &'a Cores<'a>,
     /// The grammar.
     pub(crate) grammar: &'a Grammar,
-    /// The shortest yields of nonterminals.
+    /// The shortest token strings of nonterminals.
     pub(crate) yields: &'a Yields,
     /// The number of steps that are left.
     steps: usize,

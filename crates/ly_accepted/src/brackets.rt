@@ -35,7 +35,7 @@ enum Piece {
     Symbol(Symbol),
     /// The start of a bracket, with the left side before it if names are printed.
     Open(Option<Sym>),
-    /// The end of a bracket.
+    /// A closing bracket.
     Close,
 }
 

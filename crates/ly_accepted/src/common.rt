@@ -40,7 +40,7 @@ pub(crate) enum Answer {
     At,
     /// There is none: merging states makes the conflict.
     Merged,
-    /// None was found.
+    /// The search gave up.
     Unknown,
 }
 

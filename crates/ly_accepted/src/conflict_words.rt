@@ -128,7 +128,7 @@ pub(crate) fn say_untold(page: &mut Page, count: usize) {
     }
 }
 
-/// Whether a nonterminal is among symbols.
+/// Whether there is a nonterminal among symbols.
 fn has_nonterminal(symbols: &[Symbol]) -> bool {
     for symbol in symbols {
         if let Symbol::Nonterminal(_) = symbol {

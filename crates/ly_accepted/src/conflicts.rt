@@ -38,7 +38,7 @@ struct Teller<'a> {
     examples: &'a Examples<'a>,
     /// The items of the states.
     cores: &'a Cores<'a>,
-    /// The shortest yields of nonterminals.
+    /// The shortest token strings of nonterminals.
     yields: &'a Yields,
     /// The specification.
     spec: &'a Spec,

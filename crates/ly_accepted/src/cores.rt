@@ -110,7 +110,7 @@ impl<'a> Cores<'a> {
         Ok(again)
     }
 
-    /// The least string that leads to a state.
+    /// The shortest string that leads to a state.
     pub(crate) fn prefix(&self, alloc: Global, state: StateNo) -> Result<Prefix, AllocError> {
         let (depth, early) = match self.entries.get(state.0 as usize) {
             Some(entry) => (entry.depth, entry.early),
@@ -152,7 +152,7 @@ impl<'a> Cores<'a> {
         Ok(symbols)
     }
 
-    /// Takes the steps that leave a state.
+    /// Takes the steps from a state.
     fn leave(&mut self, alloc: Global, from: StateNo) -> Result<(), AllocError> {
         let (depth, early) = match self.entries.get(from.0 as usize) {
             Some(entry) => (entry.depth, entry.early),

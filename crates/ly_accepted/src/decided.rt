@@ -112,7 +112,7 @@ enum Settled {
     Shift,
     /// By the reduction.
     Reduce,
-    /// By neither.
+    /// By an error.
     Error,
 }
 

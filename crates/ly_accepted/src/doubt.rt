@@ -47,7 +47,7 @@ pub(crate) enum DoubtKind<'a> {
     UnnamedLiteral(u8),
     /// This rule occurs in no tree of the start symbol.
     UselessRule(usize),
-    /// No state reduces by this rule.
+    /// This rule is never reduced.
     UnreducedRule(usize),
     /// This rule has no action, so the trees of its other symbols are lost.
     LosingRule(usize),

@@ -13,7 +13,7 @@ use std::alloc::Global;
 /// A string of symbols, and the data to find how an action arises after it.
 #[derive(Drop)]
 pub(crate) struct Drawing<'a> {
-    /// What is known of the grammar.
+    /// The useful rules of the grammar, with what is known of its symbols.
     reduced: &'a Reduced<'a>,
     /// The grammar.
     grammar: &'a Grammar,

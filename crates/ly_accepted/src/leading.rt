@@ -24,7 +24,7 @@ pub(crate) fn symbol_to(lr0: &Lr0<'_>, state: StateNo) -> Option<Symbol> {
     }
 }
 
-/// The states from which a symbol leads to one of these.
+/// The states with a transition over a symbol to one of these.
 pub(crate) fn states_before(
     alloc: Global,
     examples: &Examples<'_>,

@@ -51,7 +51,7 @@ enum Stand {
     Piece,
     /// A byte inside a bracket expression.
     Brackets,
-    /// Another byte of a piece.
+    /// Another byte of an atom.
     Within,
 }
 

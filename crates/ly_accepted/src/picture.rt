@@ -1,4 +1,4 @@
-//! The parser's automaton as a picture, in the language of Graphviz's `dot`.
+//! The parser's automaton as a graph in the language of Graphviz's `dot`.
 ghost use Rattle.std.specs.Prelude.{◌<◌, length};
 
 use crate::cores::Cores;

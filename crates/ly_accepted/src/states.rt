@@ -27,7 +27,7 @@ struct Teller<'a> {
     resolved: &'a Resolved<'a>,
     /// The lookaheads of the complete rules.
     lookaheads: &'a Lookaheads,
-    /// The tables, for the default reductions.
+    /// The tables, which have the default reductions.
     tables: &'a Tables,
     /// The items of the states, and the strings that lead to them.
     cores: &'a Cores<'a>,

@@ -12,7 +12,7 @@ use ly_resolve::Conflict;
 pub(crate) struct Told<'g> {
     /// The first conflict. The others differ from it only in the terminal.
     pub(crate) conflict: Conflict,
-    /// The terminals of all of them.
+    /// The terminals of all conflicts.
     pub(crate) terminals: Vec<Sym>,
     /// The string that leads to their state.
     pub(crate) prefix: Prefix,

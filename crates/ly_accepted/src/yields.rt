@@ -15,7 +15,7 @@ const MOST: usize = 400;
 /// For each nonterminal the first rule of its shortest derivation.
 #[derive(Drop)]
 pub(crate) struct Yields {
-    /// The rules, with the lengths of the yields.
+    /// The rules, with the lengths of the strings.
     shortest: Vec<Option<Shortest>>,
 }
 

@@ -1,5 +1,5 @@
--- The faults of answering: which of them tell those of generating, their numbers and names, and what they say of the
--- devices.
+-- The errors of `answer`: how they follow from those of generation, their numbers and names, and what they imply for
+-- the reader and the writer.
 use Rattle.std.specs.Prelude.{◌≡◌, ◌≢◌, ◌⊎◌, ℕ, List, Option}
 use Rattle.ly_engine.specs.declared.answer_fault.AnswerFault.{AnswerFault}
 use Rattle.ly_engine.specs.declared.answer_fault.AnswerFault.TheVariants.{Gen, Text}
@@ -9,26 +9,26 @@ use Rattle.ly_generate.specs.GenFault.{gen_name, gen_number}
 use Rattle.ly_generate.specs.declared.gen_fault.GenFault.{GenFault}
 use Rattle.ly_generate.specs.declared.gen_fault.GenFault.TheVariants as gen
 
--- want of memory stays so, and any other fault refuses the files
+-- out of memory stays out of memory, and any other error rejects the files
 abbrev pub Becomes : GenFault → AnswerFault → Type 0
 Becomes fault e = ((fault ≡ gen.OutOfMemory) × (e ≡ Text OutOfMemory)) ⊎ ((fault ≢ gen.OutOfMemory) × (e ≡ Gen fault))
 
--- a fault's number: its part's; a device that fails and want of memory have none
+-- an error's number: that of its part; a device that fails and out of memory have none
 abbrev pub answer_number : AnswerFault → Option ℕ
 answer_number (Gen fault) = gen_number fault
 answer_number (Text fault) = text.text_fault_number fault
 
--- a fault's name: its part's
+-- an error's name: that of its part
 abbrev pub answer_name : AnswerFault → List ℕ
 answer_name (Gen fault) = gen_name fault
 answer_name (Text fault) = text.text_fault_name fault
 
--- nothing was read: the files are refused
+-- nothing was read: the files are rejected
 abbrev pub IsBeforeReading : AnswerFault → Type 0
 IsBeforeReading (Gen fault) = Unit {0}
 IsBeforeReading (Text fault) = ⊥
 
--- nothing was written: any fault but a failed write
+-- nothing was written: any error but a failed write
 abbrev pub IsBeforeWriting : AnswerFault → Type 0
 IsBeforeWriting (Gen fault) = Unit {0}
 IsBeforeWriting (Text fault) = text.IsBeforeWriting fault

@@ -6,20 +6,20 @@ use ly_drive::TextFault;
 use ly_generate::GenFault;
 use thiserror::Error;
 
-/// Why there is no answer to a text under a lex file and a yacc file.
+/// Why `answer` failed.
 #[derive(Debug, Drop, Error)]
 pub enum AnswerFault {
-    /// The files are refused. Nothing was read or written.
+    /// The files are rejected. Nothing was read or written.
     #[error("{0}")]
     Gen(GenFault),
-    /// The text has no answer, or not all of it was written. Want of memory while tables are made is this too: nothing
-    /// was read then. The tables are never at fault.
+    /// The text has no result, or its output wasn't written completely. Out of memory while the tables are made is
+    /// reported here too; nothing was read then. `FaultyTables` never occurs.
     #[error("{0}")]
     Text(TextFault),
 }
 
 impl AnswerFault {
-    /// The number that the fault is printed with; a device that fails and want of memory have none.
+    /// The number that is printed for the error; `None` for a device that fails and for out of memory.
     pub fn number(&self) -> Option<u8>
         ensures { result ≡ answer_number self.now }
     {
@@ -29,7 +29,7 @@ impl AnswerFault {
         }
     }
 
-    /// The name that the fault is printed with.
+    /// The name that is printed for the error.
     pub fn name(&self) -> &'static str
         ensures { result.now ≡ answer_name self.now }
     {

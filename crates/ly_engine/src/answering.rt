@@ -18,12 +18,12 @@ use ly_generate::{Report, file_tables};
 use ly_print::{AnswerForm, Sink, Source};
 use std::alloc::Global;
 
-/// Answers the text that a reader gives by a lex file and a yacc file (POSIX, XCU lex and yacc), and writes the answer
-/// in a form. Nothing is read before the tables are made, and at most 4,096 bytes at a time; nothing is written before
-/// the outcome is known, and nothing is asked of the reader after it is, so only at a tree the reader is known to be at
-/// its end, and a read that fails was one that had to be made.
+/// Parses the text that a reader returns, with a lex file and a yacc file (POSIX, XCU lex and yacc), and writes the
+/// output in a form. Nothing is read before the tables are made, and at most 4,096 bytes are read at a time. Nothing is
+/// written before the outcome is known, and nothing is read after it is known. So only a tree means that the reader is
+/// at its end, and a read that fails was needed.
 ///
-/// Its faults are those of `AnswerFault`.
+/// Its errors are those of `AnswerFault`.
 pub fn answer<R: Source, W: Sink>(
     alloc: Global,
     lex: &[u8],

@@ -14,21 +14,21 @@ use ly_report::ConflictCounts;
 use ly_tables::{FormatFault, TableSet, write_tables};
 use std::alloc::Global;
 
-/// What is built of a lex file and a yacc file.
+/// What `build` makes of a lex file and a yacc file.
 #[derive(Debug, Drop)]
 pub struct Built {
     /// The bytes of the table file.
     pub tables: Vec<u8>,
-    /// How many conflicts there are of each kind.
+    /// How many conflicts of each kind there are.
     pub conflicts: ConflictCounts,
-    /// The bytes of the report, where it is wanted: the rules that are removed, and the conflicts.
+    /// The bytes of the report, if requested: the removed rules, and the conflicts.
     pub report: Option<Vec<u8>>,
 }
 
-/// The bytes of the table file of a lex file and a yacc file (POSIX, XCU lex and yacc) in a version: what a driver
-/// answers by it is what they say of a text.
+/// Makes the bytes of the table file of a lex file and a yacc file (POSIX, XCU lex and yacc), in a version. A driver
+/// that uses it gives for each text the result that the files specify.
 ///
-/// A limit above that of the version counts as that. Its faults are those of `GenFault`.
+/// A limit above that of the version is lowered to it. Its errors are those of `GenFault`.
 pub fn generate(
     alloc: Global,
     lex: &[u8],
@@ -47,11 +47,11 @@ pub fn generate(
     Ok(tables?)
 }
 
-/// The table file of a lex file and a yacc file, as `generate` gives it; how many conflicts there are; and their
-/// report, as `generate_report` writes it, where it is wanted. A report has a line for each conflict, so it can be much
-/// longer than the table file.
+/// Makes the table file of a lex file and a yacc file like `generate`, counts the conflicts and, if requested, makes
+/// the report that `generate_report` writes. A report has a line for each conflict, so it can be much longer than the
+/// table file.
 ///
-/// A limit above that of the version counts as that. Its faults are those of `GenFault`.
+/// A limit above that of the version is lowered to it. Its errors are those of `GenFault`.
 pub fn build(
     alloc: Global,
     lex: &[u8],

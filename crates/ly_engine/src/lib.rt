@@ -1,13 +1,13 @@
-//! What an embedder names: from the bytes of a lex file and a yacc file to their table file and their report,
-//! `generate`, `build` and `generate_report`; and to the answer to a text, `answer`. A table file is made in one of two
-//! versions, and what has none goes by the second. That tables so made answer what both files say is part of what these
-//! promise (`IsGenerated` of `ly_generate`).
+//! The crate for embedders. `generate`, `build` and `generate_report` make the table file and the report of a lex file
+//! and a yacc file; `answer` parses a text with the two files directly. A table file has one of two versions; what
+//! isn't written to a table file uses the limits of version 2. Generated tables are proved to give the result that the
+//! two files specify (`IsGenerated` of `ly_generate`).
 //!
-//! What an embedder needs beside these is handed on: `tokens` for a lex file alone, `drive` for a table file, and
-//! `Feed` for a text that comes in pieces; and of `ly_generate` its laws, and the steps of the way, for whoever
-//! explains what two files say.
+//! The rest of what an embedder needs is re-exported: `tokens` for a lex file alone, `drive` for a table file, and
+//! `Feed` for a text that arrives in chunks; also the theorems of `ly_generate` and its steps, for tools that explain
+//! two files.
 //!
-//! Left out: files, words and lines of faults, which are the program's.
+//! This crate doesn't open files, parse arguments or print error messages; the program does.
 #![tactic(auto)]
 
 mod answer_fault;

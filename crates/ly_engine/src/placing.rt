@@ -19,11 +19,11 @@ use ly_places::run_placed;
 use ly_print::{Sink, Source};
 use std::alloc::Global;
 
-/// Answers the text that a reader gives by a lex file and a yacc file (POSIX, XCU lex and yacc), and writes the answer
-/// as a line of JSON in which each part has where it begins and ends. Nothing is read before the tables are made; then
-/// the text is read whole, and nothing is written before the outcome is known.
+/// Parses the text that a reader returns, with a lex file and a yacc file (POSIX, XCU lex and yacc), and writes the
+/// result as a line of JSON with the span of each part. Nothing is read before the tables are made. Then the text is
+/// read completely, and nothing is written before the outcome is known.
 ///
-/// Its faults are those of `AnswerFault`, and of the text neither `FaultyTables` nor `TooLong`.
+/// Its errors are those of `AnswerFault`, but `FaultyTables` and `TooLong` of the text never occur.
 pub fn answer_placed<R: Source, W: Sink>(
     alloc: Global,
     lex: &[u8],

@@ -16,11 +16,11 @@ use ly_generate::{Report, file_parser};
 use ly_print::{Sink, write_whole};
 use std::alloc::Global;
 
-/// Writes the report of the specification that a lex file and a yacc file say together (POSIX, XCU yacc, "Conflicts"):
-/// the rules that are removed, and the conflicts. It is true where nowhere two actions are asked for. Nothing is
-/// written before the whole report is known.
+/// Writes the report of a lex file and a yacc file (POSIX, XCU yacc, "Conflicts"): the removed rules, and the
+/// conflicts. Returns true if no state has two possible actions on one terminal, before precedence is applied. Nothing
+/// is written before the whole report is known.
 ///
-/// A limit above that of version 2 of the table file counts as that. Its faults are those of `ReportingFault`.
+/// A limit above that of version 2 of the table file is lowered to it. Its errors are those of `ReportingFault`.
 pub fn generate_report<W: Sink>(
     alloc: Global,
     lex: &[u8],
@@ -45,7 +45,7 @@ pub fn generate_report<W: Sink>(
     ensures untouched { (fault : GenFault) → result ≡ Err (ReportingFault.Files fault) → writer.new ≡ writer.old }
 {
     let parser = file_parser(alloc, lex, yacc, limits, Report::Wanted)?;
-    // by the call's contract it is there, since it is wanted
+    // by the call's contract the report exists, since it is requested
     let text = parser.report.unwrap();
     write_whole(writer, &text)?;
     Ok(parser.conflict_free)

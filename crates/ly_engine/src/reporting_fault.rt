@@ -5,16 +5,16 @@ use ly_generate::GenFault;
 use ly_print::WriteFault;
 use thiserror::Error;
 
-/// Why the report of a lex file and a yacc file isn't written.
+/// Why the report of a lex file and a yacc file wasn't written.
 #[derive(Debug, Drop, Error)]
 pub enum ReportingFault {
-    /// The files are refused, or memory ran out before their report was known. Nothing was written.
+    /// The files are rejected, or memory ran out before the report was known. Nothing was written.
     #[error("{0}")]
     Files(GenFault),
-    /// The writer failed in this call, and just the first `written` bytes of the report went out.
+    /// The writer failed in this call. Exactly the first `written` bytes of the report were written.
     #[error("the report could not be written after {written} bytes")]
     Write {
-        /// How many bytes went out.
+        /// How many bytes were written.
         written: usize,
     },
 }

@@ -1,5 +1,5 @@
--- Examples of conflicts: strings of symbols at which both actions are possible (Knuth 1965). Strings of symbols have
--- their last symbol first.
+-- Counterexamples of conflicts: strings of symbols at which both actions are possible (Knuth 1965). Strings have their
+-- last symbol first.
 use Rattle.std.specs.Prelude.{◌≡◌, ℕ, List, [], Some, map, reverse, slice_get}
 use Rattle.ly_join.specs.Grammar.{Grammar, Symbol, symbol_of, terminal}
 use Rattle.ly_grammar.specs.Items.{IsNextSymbol, Merges, Valid}
@@ -11,19 +11,20 @@ use Rattle.ly_examples.specs.Demands.{HasMoreDemands}
 use Rattle.ly_examples.specs.declared.example.Example as code
 use Rattle.ly_examples.specs.declared.example.Example.TheVariants.{At, Merged, Unknown}
 
--- The action is possible at the very string before the terminal, no strings being merged: a shift where an item that is
--- valid there has the terminal behind its dot, a reduction where the rule, complete, is valid there with it.
+-- The action is possible at this very string before the terminal, without merging. A shift is possible if an item that
+-- is valid there has the terminal after its dot. A reduction is possible if the rule is complete and valid there with
+-- the terminal.
 abbrev pub IsPossible : Grammar → List Symbol → ℕ → Action → Type 0
 IsPossible G g t shift = IsNextSymbol G g (terminal t)
 IsPossible G g t (reduce p) = (before : List Symbol) × Valid G g p before [] t
 IsPossible G g t error = ⊥
 
--- what stands against the rule of a conflict: the shift, or the reduction that is chosen
+-- the rival of a conflict's rule: the shift, or the reduction that is chosen
 abbrev pub rival : Kind → Action → Action
 rival shift_reduce choice = shift
 rival reduce_reduce choice = choice
 
--- An example of a conflict: a string with the core of its prefix at which its rule is possible, and its rival.
+-- A counterexample of a conflict: a string with the core of its prefix at which its rule and its rival are possible.
 pub record IsExample (G : Grammar) (c : Conflict) (g : List Symbol) : Type 0 where
   pub merges : Merges G c.prefix g
   pub rule : IsPossible G g c.terminal (reduce c.rule)
@@ -34,14 +35,14 @@ pub record IsPlaceOf (G : Grammar) (c : Conflict) (a : Action) (g : List Symbol)
   pub merges : Merges G c.prefix g
   pub possible : IsPossible G g c.terminal a
 
--- What is answered of a conflict: an example of it; or that there is none, since only strings that are merged ask for
--- both actions; or that more demands follow from it than a number.
+-- What a search returns for a conflict: a counterexample; or that there is none, since the conflict comes from merging
+-- alone; or that more than this many demands follow from its first one.
 abbrev pub IsAnswer : Lr0Automaton → Conflict → ℕ → code.Example → Type 0
 IsAnswer M c bound (At string) = IsExample M.grammar c (reverse (map symbol_of string.items))
 IsAnswer M c bound Merged = (g : List Symbol) → IsExample M.grammar c g → ⊥
 IsAnswer M c bound Unknown = HasMoreDemands M c bound
 
--- the conflict of an index has no example
+-- the conflict with this index has no counterexample
 abbrev pub HasNoExample : Resolved → ℕ → Type 0
 HasNoExample r i = (c : Conflict) × (slice_get r.conflicts i ≡ Some c)
     × ((g : List Symbol) → IsExample r.automaton.grammar c g → ⊥)

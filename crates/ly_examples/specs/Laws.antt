@@ -16,25 +16,25 @@ use Rattle.ly_examples.specs.Openings.{Opens}
 use Rattle.ly_examples.specs.declared.claim.Claim.TheVariants.{Settled}
 use Rattle.ly_examples.specs.declared.claim.Demand.{Demand}
 
--- a conflict has an example exactly where from the demand on its examples one follows that claims nothing more
+-- a conflict has a counterexample exactly if from its first demand one follows with nothing left to claim
 abbrev pub ExamplesFollow : Type 0
 ExamplesFollow = (M : Lr0Automaton) (c : Conflict) (d : Demand) → IsLr0Automaton M → Opens M c d
     → ((g : List Symbol) × IsExample M.grammar c g)
     ↔ ((e : Demand) × Follows M c.terminal d e × (e.first ≡ Settled) × (e.second ≡ Settled)
     × (h : List Symbol) × Reaches (goto_of M) 0 h e.state.0)
 
--- each conflict has a demand on its examples
+-- each conflict has a first demand
 abbrev pub ConflictsOpen : Type 0
 ConflictsOpen = (M : Lr0Automaton) (judge : Judge) (c : Conflict) → IsLr0Automaton M → IsConflict M.grammar judge c
     → (d : Demand) × Opens M c d
 
--- a shift against a reduction has an example: merging makes no such conflict
+-- a shift/reduce conflict always has a counterexample: merging makes no such conflict
 abbrev pub ShiftsHaveExamples : Type 0
 ShiftsHaveExamples = (G : Grammar) (judge : Judge) (c : Conflict) → IsConflict G judge c → c.kind ≡ shift_reduce
     → (g : List Symbol) × IsExample G c g
 
--- In an automaton that has the rules of a lex file's scanner, some string of at least one byte leads to a rule exactly
--- where the rule wins at some place of some text.
+-- In a DFA with the rules of a lex file's scanner, some string of at least one byte leads to a rule exactly if the rule
+-- wins somewhere in some text.
 abbrev pub MatchedWin : Type 0
 MatchedWin = (lex : List ℕ) (file : LexFile) (A B : Scanner) → LexText lex file → IsSubsetScanner file A
     → HaveSameRules A B → (i : ℕ) → IsMatched B i ↔ Wins file i

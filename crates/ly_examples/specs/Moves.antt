@@ -1,5 +1,5 @@
--- The moves by which a parser comes to a tree, and what two trees say of a conflict (Knuth 1965: a parse from the left
--- is a rightmost derivation in reverse). Strings of symbols have their last symbol first, as stacks have.
+-- The moves of a parser that builds a tree, and how two trees take both actions of a conflict (Knuth 1965: a parse from
+-- the left is a rightmost derivation in reverse). Strings of symbols have their last symbol first, like stacks.
 use Rattle.std.specs.Prelude.{◌≡◌, ◌≢◌, ℕ, List, [], ◌∷◌, ◌++◌, reverse, Option, Some, None}
 use Rattle.ly_base.specs.Trees.{Tree, Trees, leaf, node, none, more}
 use Rattle.ly_join.specs.Grammar.{Grammar, IsRule, GrammarRule, Symbol, nonterminal, terminal}
@@ -10,23 +10,23 @@ use Rattle.ly_resolve.specs.Resolved.{Resolved}
 use Rattle.ly_examples.specs.Examples.{rival}
 use Rattle.ly_examples.specs.Sentences.{HasTwoTrees}
 
--- What a parser does: it shifts a terminal, or reduces by a rule.
+-- A move of a parser: it shifts a terminal, or reduces by a rule.
 pub data Move : Type 0 where
   shifts : ℕ → Move
   reduces : ℕ → Move
 
 abbrev mutual
-  -- the moves by which a tree is built, from its leaves up and from the left
+  -- the moves that build a tree, from its leaves up and from the left
   pub moves_of : Tree → List Move
   moves_of (leaf t) = shifts t.terminal ∷ []
   moves_of (node p ts) = moves_among ts ++ reduces p ∷ []
 
-  -- the moves by which trees are built, one after another
+  -- the moves that build trees, one after another
   pub moves_among : Trees → List Move
   moves_among none = []
   moves_among (more t ts) = moves_of t ++ moves_among ts
 
--- the moves of a parser that accepts a tree: behind it the end is shifted
+-- the moves of a parser that accepts a tree: after it the end is shifted
 abbrev pub parse_of : Tree → List Move
 parse_of d = moves_of d ++ shifts 0 ∷ []
 
@@ -36,22 +36,22 @@ shifted [] = []
 shifted (shifts t ∷ moves) = t ∷ shifted moves
 shifted (reduces p ∷ moves) = shifted moves
 
--- The moves lead from a string of symbols to another: a terminal that is shifted goes onto it, and the left side of a
--- rule takes the place of its body on top of it.
+-- The moves lead from a string of symbols to another one. A shifted terminal is pushed, and the left side of a rule
+-- replaces the rule's body on top.
 abbrev pub Lead : Grammar → List Symbol → List Move → List Symbol → Type 0
 Lead G g [] h = g ≡ h
 Lead G g (shifts t ∷ moves) h = Lead G (terminal t ∷ g) moves h
 Lead G g (reduces p ∷ moves) h = (r : GrammarRule) × (below : List Symbol) × IsRule G p r
     × (g ≡ reverse r.body ++ below) × Lead G (nonterminal r.left ∷ below) moves h
 
--- the move that an action is before a terminal; an error is none
+-- the move that an action before a terminal is; an error is none
 abbrev pub move_before : ℕ → Action → Option Move
 move_before t shift = Some (shifts t)
 move_before t (reduce p) = Some (reduces p)
 move_before t error = None
 
--- Two parses take both actions of a conflict. The same moves lead both to a string with the core of its prefix, before
--- its terminal; there the one does what stands against its rule, and the other reduces by it.
+-- Two parses take both actions of a conflict. The same moves lead both to a string with the core of the conflict's
+-- prefix, before its terminal. There the one takes the rival of the conflict's rule, and the other reduces by the rule.
 pub record TakeBoth (r : Resolved) (c : Conflict) (one other : List Move) : Type 0 where
   pub before : List Move
   pub string : List Symbol
@@ -68,7 +68,7 @@ pub record TakeBoth (r : Resolved) (c : Conflict) (one other : List Move) : Type
   pub first_next : shifted (move ∷ behind) ≡ c.terminal ∷ left
   pub second_next : shifted beyond ≡ c.terminal ∷ left
 
--- The terminals are a sentence by two trees, which have these rules and take both actions of the conflict.
+-- The terminals are a sentence with two trees, which have these rules and take both actions of the conflict.
 pub record IsAmbiguousAt (r : Resolved) (c : Conflict) (one other : List ℕ) (sentence : List ℕ) : Type 0 where
   pub trees : HasTwoTrees r.spec.grammar one other sentence
   pub actions : TakeBoth r c (parse_of trees.first.tree) (parse_of trees.second.tree)

@@ -1,4 +1,4 @@
--- The demand on the examples of a conflict.
+-- The first demand of a search: the one that a conflict's counterexamples meet.
 use Rattle.std.specs.Prelude.{◌≡◌, ◌≤◌, ℕ, List, length}
 use Rattle.ly_join.specs.Grammar.{Grammar, IsRule, GrammarRule, Symbol, terminal}
 use Rattle.ly_grammar.specs.Items.{IsNextSymbol}
@@ -10,7 +10,7 @@ use Rattle.ly_examples.specs.declared.claim.Claim.{Claim}
 use Rattle.ly_examples.specs.declared.claim.Claim.TheVariants.{Settled, With}
 use Rattle.ly_examples.specs.declared.claim.Demand.{Demand}
 
--- The claim is that the rule, complete, is valid with the terminal.
+-- The claim is that the rule is complete and valid with the terminal.
 pub record ClaimsWhole (G : Grammar) (p : ℕ) (c : Claim) : Type 0 where
   pub some : 1 ≤ p
   pub rule : GrammarRule
@@ -19,13 +19,13 @@ pub record ClaimsWhole (G : Grammar) (p : ℕ) (c : Claim) : Type 0 where
   pub end : dot ≡ length rule.body
   pub claim : c ≡ With (record { rule = p; dot = dot })
 
--- What is claimed for an action at strings with the core of a prefix.
+-- The claim for an action at strings with the core of a prefix.
 abbrev pub ClaimsAction : Grammar → List Symbol → ℕ → Action → Claim → Type 0
 ClaimsAction G prefix t shift c = (c ≡ Settled) × IsNextSymbol G prefix (terminal t)
 ClaimsAction G prefix t (reduce p) c = ClaimsWhole G p c
 ClaimsAction G prefix t error c = ⊥
 
--- The demand is the one on examples of a conflict.
+-- The demand is the first one of the search for a counterexample of a conflict.
 pub record Opens (M : Lr0Automaton) (c : Conflict) (d : Demand) : Type 0 where
   pub leads : Reaches (goto_of M) 0 c.prefix d.state.0
   pub first : ClaimsWhole M.grammar c.rule d.first

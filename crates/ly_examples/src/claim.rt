@@ -1,10 +1,10 @@
 use ly_base::StateNo;
 use ly_lr0::Item;
 
-/// What is claimed of a string that leads to a state.
+/// A claim about a string that leads to a state.
 #[derive(Clone, Copy, Debug, PartialEq, Eq, Hash)]
 pub enum Claim {
-    /// Nothing that the state doesn't say.
+    /// True of every string that leads to the state.
     Settled,
     /// The item is valid at the string with some lookahead.
     InCore(Item),
@@ -12,13 +12,13 @@ pub enum Claim {
     With(Item),
 }
 
-/// What a string has to be: one that leads to the state, of which both claims are true.
+/// A node of the search. It asks for a string that leads to the state and for which both claims are true.
 #[derive(Clone, Copy, Debug, PartialEq, Eq, Hash)]
 pub struct Demand {
     /// The state.
     pub state: StateNo,
-    /// What is claimed for the rule of the conflict.
+    /// The claim for the rule of the conflict.
     pub first: Claim,
-    /// What is claimed for what stands against it.
+    /// The claim for the rule's rival.
     pub second: Claim,
 }

@@ -26,23 +26,23 @@ use ly_resolve::{Action, Conflict, ConflictKind, Resolved};
 use std::alloc::Global;
 use std::marker::Model;
 
-/// Whether both actions of a conflict are possible somewhere.
+/// Whether a string exists at which both actions of a conflict are possible.
 #[derive(Debug, Drop)]
 pub enum Example {
-    /// At this string of symbols they are, its first symbol first.
+    /// They are possible at this string of symbols. Its first symbol comes first.
     At(Vec<Symbol>),
-    /// At no string: only merging made the conflict.
+    /// No string exists: the conflict comes from merging alone.
     Merged,
-    /// There are more demands than were allowed.
+    /// Unknown: the search found more demands than were allowed.
     Unknown,
 }
 
-/// Where examples of conflicts are sought.
+/// Searches for counterexamples of the conflicts of a grammar.
 #[derive(Drop)]
 pub struct Examples<'a> {
     /// The conflicts.
     resolved: &'a Resolved<'a>,
-    /// Their automaton, as the search goes back over it.
+    /// Their automaton with its backward edges.
     ground: Ground<'a>,
 }
 
@@ -59,9 +59,9 @@ impl<'a> Model for Examples<'a> {
 }
 
 impl<'a> Examples<'a> {
-    /// Where examples of these conflicts are sought.
+    /// Prepares searches for counterexamples of these conflicts.
     ///
-    /// `OutOfMemory` comes where a growth was refused.
+    /// Returns `OutOfMemory` if an allocation fails.
     pub fn new(alloc: Global, resolved: &'a Resolved<'a>) -> Result<Examples<'a>, OutOfMemory>
         ensures { IfOk result (λ e. e ≡ resolved.now) }
     {
@@ -76,7 +76,7 @@ impl<'a> Examples<'a> {
         self.resolved
     }
 
-    /// The conflict of an index, if there is one.
+    /// The conflict with an index, if there is one.
     pub fn conflict(&self, index: usize) -> Option<Conflict>
         ensures these { IfSome result (λ c. slice_get self.now.conflicts index
             ≡ Some (conflict_from self.now.automaton c)) }
@@ -86,7 +86,7 @@ impl<'a> Examples<'a> {
         self.resolved.conflicts().get(index)
     }
 
-    /// The states from which transitions lead to a state.
+    /// The states with transitions to a state.
     pub fn predecessors(&self, state: StateNo) -> &[StateNo]
         requires { state.0 < length self.now.automaton.states }
         ensures { (q : state_numbers.StateNo) → Contains result.now q
@@ -95,7 +95,7 @@ impl<'a> Examples<'a> {
         self.ground.predecessors.of(state.0 as usize)
     }
 
-    /// The items that wait for a nonterminal: they have it behind the dot, and their rules are kept.
+    /// The items that have a nonterminal after their dot. Only items of rules that are kept count.
     pub fn waiting(&self, left: Sym) -> &[Item]
         requires { left.0 ≤ self.now.automaton.grammar.accept }
         ensures { (i : items.Item) → Contains result.now i
@@ -104,10 +104,10 @@ impl<'a> Examples<'a> {
         self.ground.waiting.of(left.0 as usize)
     }
 
-    /// Whether it is found, over so many demands each and before the patience is over, that none of the conflicts of
-    /// these indices has an example.
+    /// Returns true if the search proves that none of the conflicts with these indices has a counterexample. Each
+    /// search may find at most this many demands, and none begins once the budget is used up.
     ///
-    /// `OutOfMemory` comes where a growth was refused.
+    /// Returns `OutOfMemory` if an allocation fails.
     pub fn none_has_one(
         &self,
         alloc: Global,
@@ -131,9 +131,9 @@ impl<'a> Examples<'a> {
         Ok(true)
     }
 
-    /// An example of a conflict, which is sought over so many demands. What is looked at is taken off the patience.
+    /// Searches for a counterexample of a conflict over at most this many demands. The work is taken off the budget.
     ///
-    /// `OutOfMemory` comes where a growth was refused.
+    /// Returns `OutOfMemory` if an allocation fails.
     pub fn of(
         &self,
         alloc: Global,
@@ -160,10 +160,10 @@ impl<'a> Examples<'a> {
         }
     }
 
-    /// A string of symbols at which the rule of a conflict is possible, which is sought over so many demands; none
-    /// where there are more. What is looked at is taken off the patience.
+    /// Searches for a string of symbols at which the rule of a conflict is possible, over at most this many demands.
+    /// Returns `None` if there are more. The work is taken off the budget.
     ///
-    /// `OutOfMemory` comes where a growth was refused.
+    /// Returns `OutOfMemory` if an allocation fails.
     pub fn of_rule(
         &self,
         alloc: Global,
@@ -185,10 +185,10 @@ impl<'a> Examples<'a> {
         self.string_of(alloc, conflict, demand, bound, patience)
     }
 
-    /// A string of symbols at which what stands against the rule of a conflict is possible, which is sought over so
-    /// many demands; none where there are more. What is looked at is taken off the patience.
+    /// Searches for a string of symbols at which the rival of a conflict's rule is possible, over at most this many
+    /// demands. Returns `None` if there are more. The work is taken off the budget.
     ///
-    /// `OutOfMemory` comes where a growth was refused.
+    /// Returns `OutOfMemory` if an allocation fails.
     pub fn of_choice(
         &self,
         alloc: Global,
@@ -211,8 +211,8 @@ impl<'a> Examples<'a> {
         self.string_of(alloc, conflict, demand, bound, patience)
     }
 
-    /// A string of symbols that meets a demand before the terminal of a conflict, which is sought over so many demands;
-    /// none where there is none or there are more.
+    /// Searches for a string of symbols that meets a demand before the terminal of a conflict, over at most this many
+    /// demands. Returns `None` if there is none or there are more demands.
     fn string_of(
         &self,
         alloc: Global,
@@ -248,7 +248,7 @@ impl<'a> Examples<'a> {
         self.resolved.spec()
     }
 
-    /// The demand on the examples of a conflict.
+    /// The demand that a conflict's counterexamples meet.
     fn demand(&self, conflict: &Conflict) -> Demand
         requires inside { IsInside self.now.automaton conflict.now }
         requires conflict { Contains self.now.conflicts (conflict_from self.now.automaton conflict.now) }
@@ -264,8 +264,7 @@ impl<'a> Examples<'a> {
         }
     }
 
-    /// What is claimed for what stands against the rule of a conflict. A shift is possible wherever the state is led
-    /// to.
+    /// The claim for the rival of a conflict's rule. A shift is possible at every string that leads to the state.
     fn rival(&self, conflict: &Conflict) -> Claim
         requires { Contains self.now.conflicts (conflict_from self.now.automaton conflict.now) }
         ensures { ClaimsRival self.now.automaton (conflict_from self.now.automaton conflict.now) result }

@@ -1,4 +1,4 @@
-//! Which bytes stand first in matches of rules that return their first byte.
+//! Finds the first bytes of the matches of rules that return their first byte.
 ghost use Rattle.std.specs.Prelude.{◌≡◌, ◌<◌, ◌↔◌, length, option_map, IfOk, IsTrue, OnOk};
 ghost use Rattle.ly_subset.specs.Automaton.{IsAutomaton};
 ghost use Rattle.ly_examples.specs.Private.FirstBytes.{AreEdgesAdded, AreFirstBefore, AreMoves, BeginsMarked, HasFirst};
@@ -13,7 +13,7 @@ use ly_sets::SetMatrix;
 use ly_subset::Dfa;
 use std::alloc::Global;
 
-/// Of all bytes those that stand first in a match of a rule that returns its first byte.
+/// Returns the bytes that begin a match of a rule that returns its first byte.
 pub(crate) fn first_bytes(
     alloc: Global,
     actions: &[ScanAction],
@@ -31,7 +31,7 @@ pub(crate) fn first_bytes(
     Ok(bytes)
 }
 
-/// Marks the bytes that lead from a state to a marked one.
+/// Marks the bytes that lead from a state to a marked state.
 fn mark_bytes(bytes: &mut Marks, dfa: &Dfa, state: u32, leading: &Marks)
     requires whole { IsAutomaton dfa.now }
     requires state { state < length dfa.now.rules }
@@ -44,7 +44,7 @@ fn mark_bytes(bytes: &mut Marks, dfa: &Dfa, state: u32, leading: &Marks)
     }
 }
 
-/// Whether a byte leads from a state to a marked one.
+/// Whether a byte leads from a state to a marked state.
 fn leads(dfa: &Dfa, state: u32, byte: u8, leading: &Marks) -> bool
     requires { state < length dfa.now.rules }
     ensures { IsTrue result ↔ BeginsMarked leading.now dfa.now state byte }
@@ -67,7 +67,7 @@ fn leading_states(alloc: Global, actions: &[ScanAction], dfa: &Dfa) -> Result<Ma
     rows_with_zero(alloc, states, &sets)
 }
 
-/// The numbers of the rows that have 0.
+/// The numbers of the rows that contain 0.
 fn rows_with_zero(alloc: Global, rows: usize, sets: &SetMatrix) -> Result<Marks, OutOfMemory>
     requires rows { rows ≡ length sets.now.sets }
     requires width { sets.now.width ≡ 1 }
@@ -82,7 +82,7 @@ fn rows_with_zero(alloc: Global, rows: usize, sets: &SetMatrix) -> Result<Marks,
     Ok(marks)
 }
 
-/// A graph with an edge wherever a class leads from a state to another.
+/// The graph with an edge from a state to each state that a class leads to.
 fn moves(alloc: Global, dfa: &Dfa) -> Result<Graph, OutOfMemory>
     ensures { IfOk result (AreMoves dfa.now) }
 {
@@ -93,7 +93,7 @@ fn moves(alloc: Global, dfa: &Dfa) -> Result<Graph, OutOfMemory>
     Ok(graph)
 }
 
-/// Adds an edge from a state to each that a class leads to.
+/// Adds an edge from a state to each state that a class leads to.
 fn add_moves(graph: &mut Graph, dfa: &Dfa, state: u32) -> Result<(), OutOfMemory>
     requires nodes { graph.old.nodes ≡ length dfa.now.rules }
     requires state { state < length dfa.now.rules }
@@ -107,7 +107,7 @@ fn add_moves(graph: &mut Graph, dfa: &Dfa, state: u32) -> Result<(), OutOfMemory
     Ok(())
 }
 
-/// For each state a row, which has 0 where the state's rule returns its first byte.
+/// A row for each state. It contains 0 if the state's rule returns its first byte.
 fn first_states(alloc: Global, actions: &[ScanAction], dfa: &Dfa) -> Result<SetMatrix, OutOfMemory>
     ensures { IfOk result (AreFirstBefore actions.now dfa.now (length dfa.now.rules)) }
 {

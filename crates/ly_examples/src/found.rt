@@ -8,18 +8,18 @@ use ly_join::Symbol;
 use std::alloc::{AllocError, Global};
 use std::marker::Model;
 
-/// From which demand another one was found.
+/// How a demand was found.
 #[derive(Clone, Copy)]
 pub(crate) struct Link {
-    /// The place of that demand.
+    /// The index of the demand from which it was found.
     pub(crate) from: usize,
-    /// The symbol that was popped, if one was.
+    /// The symbol that was popped, if any.
     pub(crate) symbol: Option<Symbol>,
-    /// How many symbols were popped up to here.
+    /// How many symbols were popped up to this demand.
     pub(crate) popped: usize,
 }
 
-/// Demands, each once, in the order in which they were found.
+/// The demands found so far, each once, in the order in which they were found.
 #[derive(Drop)]
 pub(crate) struct Found {
     /// The demands.
@@ -55,7 +55,7 @@ impl Found {
         self.demands.len()
     }
 
-    /// The demand at a place.
+    /// The demand at an index.
     pub(crate) fn at(&self, place: usize) -> Demand
         requires { place < length self.now }
         ensures { slice_get self.now place ≡ Some result }
@@ -63,14 +63,14 @@ impl Found {
         *self.demands.get_index(place).unwrap()
     }
 
-    /// Whether a demand was found.
+    /// Whether a demand was found already.
     pub(crate) fn contains(&self, demand: &Demand) -> bool
         ensures { IsTrue result ↔ Contains self.now demand.now }
     {
         self.demands.contains(demand)
     }
 
-    /// Adds a demand that wasn't found.
+    /// Adds a new demand.
     pub(crate) fn push(&mut self, demand: Demand) -> Result<(), AllocError>
         requires { Contains self.old demand → ⊥ }
         ensures { OnOk result (self.new ≡ self.old ++ demand ∷ []) }

@@ -1,4 +1,4 @@
-//! What leads backwards through an automaton: whence its states are come to, and what waits for its nonterminals.
+//! The backward edges of an automaton: the predecessors of its states, and the items that wait for its nonterminals.
 ghost use Rattle.std.specs.Prelude.{◌≡◌, ◌<◌, ◌+◌, length, map, All, Contains, IfOk, OnOk};
 ghost use Rattle.ly_join.specs.Grammar.{symbol_of};
 ghost use Rattle.ly_grammar.specs.Private.Search.{HasNumberBelow};
@@ -14,29 +14,29 @@ use ly_join::Symbol;
 use ly_lr0::{Item, Lr0, Transition};
 use std::alloc::Global;
 
-/// An automaton, with what leads to its states and what waits for its nonterminals.
+/// An automaton with its backward edges.
 #[derive(Drop)]
 pub(crate) struct Ground<'a> {
     /// The automaton.
     pub(crate) lr0: &'a Lr0<'a>,
-    /// For each state those from which transitions lead to it.
+    /// For each state the states with transitions to it.
     pub(crate) predecessors: Lists<StateNo>,
-    /// For each nonterminal the items that wait for it: they have it behind the dot.
+    /// For each nonterminal the items that have it after their dot.
     pub(crate) waiting: Lists<Item>,
-    /// For each state how long its prefix is.
+    /// For each state the length of its prefix, the shortest string that leads to it.
     pub(crate) lengths: Vec<usize>,
-    /// For each nonterminal how many symbols stand in bodies from it on.
+    /// For each nonterminal how many symbols the bodies have from it on.
     weights: Vec<usize>,
 }
 
 impl Ground<'_> {
-    /// How many symbols are looked at to find what a demand climbs to, at most.
+    /// An upper bound on how many symbols are looked at to find the demands that a demand climbs to.
     pub(crate) fn weight(&self, demand: Demand) -> usize {
         self.weight_of(demand.first)
             .saturating_add(self.weight_of(demand.second))
     }
 
-    /// How many symbols are looked at to find the claims by which one is true, at most.
+    /// An upper bound on how many symbols are looked at to find the claims that imply a claim.
     fn weight_of(&self, claim: Claim) -> usize {
         let Claim::With(item) = claim else {
             return 0;
@@ -53,7 +53,7 @@ impl Ground<'_> {
     }
 }
 
-/// What is looked for in an automaton.
+/// Makes the backward edges of an automaton.
 pub(crate) fn ground_of<'a>(alloc: Global, lr0: &'a Lr0<'a>) -> Result<Ground<'a>, OutOfMemory>
     ensures automaton { IfOk result (λ g. g.lr0.now ≡ lr0.now) }
     ensures ground { IfOk result IsGround }
@@ -71,7 +71,7 @@ pub(crate) fn ground_of<'a>(alloc: Global, lr0: &'a Lr0<'a>) -> Result<Ground<'a
     })
 }
 
-/// For each state those from which transitions lead to it, in their order.
+/// For each state the states with transitions to it, in ascending order.
 fn predecessors_of(alloc: Global, lr0: &Lr0<'_>) -> Result<Lists<StateNo>, OutOfMemory>
     ensures predecessors { IfOk result (ArePredecessors lr0.now) }
     ensures lawful { IsLr0Automaton lr0.now }
@@ -83,7 +83,7 @@ fn predecessors_of(alloc: Global, lr0: &Lr0<'_>) -> Result<Lists<StateNo>, OutOf
     Ok(predecessors)
 }
 
-/// Adds a state to the predecessors of those to which its transitions lead.
+/// Adds a state to the predecessors of the states that its transitions lead to.
 fn push_predecessor(
     predecessors: &mut Lists<StateNo>,
     lr0: &Lr0<'_>,
@@ -99,7 +99,7 @@ fn push_predecessor(
     Ok(())
 }
 
-/// Adds a state to the predecessors of those to which transitions lead.
+/// Adds a state to the predecessors of the targets of transitions.
 fn push_to_each(
     predecessors: &mut Lists<StateNo>,
     predecessor: StateNo,
@@ -114,7 +114,7 @@ fn push_to_each(
     Ok(())
 }
 
-/// For each nonterminal the items that wait for it, of the rules that are kept.
+/// For each nonterminal the items that have it after their dot. Only items of rules that are kept count.
 fn waiting_of(alloc: Global, lr0: &Lr0<'_>) -> Result<Lists<Item>, OutOfMemory>
     ensures { IfOk result (AreWaiting lr0.now.grammar) }
 {
@@ -129,7 +129,7 @@ fn waiting_of(alloc: Global, lr0: &Lr0<'_>) -> Result<Lists<Item>, OutOfMemory>
     Ok(waiting)
 }
 
-/// Adds the items of a rule that wait for a nonterminal.
+/// Adds the items of a rule that have a nonterminal after their dot.
 fn push_waiting(waiting: &mut Lists<Item>, body: &[Symbol], rule: usize) -> Result<(), OutOfMemory>
     requires { All (HasNumberBelow (length waiting.old)) (map symbol_of body.now) }
     ensures { OnOk result (AreWaitingAdded waiting.old waiting.new (map symbol_of body.now) rule (length body.now)) }
@@ -142,7 +142,7 @@ fn push_waiting(waiting: &mut Lists<Item>, body: &[Symbol], rule: usize) -> Resu
     Ok(())
 }
 
-/// For each nonterminal how many symbols stand in bodies from it on.
+/// For each nonterminal how many symbols the bodies have from it on.
 fn weights_of(alloc: Global, lr0: &Lr0<'_>) -> Result<Vec<usize>, OutOfMemory> {
     let grammar = lr0.reduced().grammar();
     let mut weights = vec![in alloc; 0; grammar.accept().0 as usize + 1]?;
@@ -159,7 +159,7 @@ fn weights_of(alloc: Global, lr0: &Lr0<'_>) -> Result<Vec<usize>, OutOfMemory> {
     Ok(weights)
 }
 
-/// For each state how long its prefix is.
+/// For each state the length of its prefix.
 fn lengths_of(alloc: Global, lr0: &Lr0<'_>) -> Result<Vec<usize>, OutOfMemory>
     ensures { IfOk result (λ lengths. length lengths.items ≡ length lr0.now.states) }
 {
@@ -168,8 +168,8 @@ fn lengths_of(alloc: Global, lr0: &Lr0<'_>) -> Result<Vec<usize>, OutOfMemory>
     Ok(lengths)
 }
 
-/// Sets how long the prefix of each state is: by one symbol longer than that of the first state that leads to it. They
-/// are 0 before, as that of state 0 is, to which none leads.
+/// Sets the length of each state's prefix: that of the state's first predecessor plus one. All lengths are 0 before.
+/// State 0 keeps 0, as no transition leads to it.
 fn set_lengths(lr0: &Lr0<'_>, lengths: &mut [usize])
     ensures { length lengths.new ≡ length lengths.old }
 {
@@ -181,7 +181,7 @@ fn set_lengths(lr0: &Lr0<'_>, lengths: &mut [usize])
     }
 }
 
-/// Sets how long the prefixes of the states are to which transitions lead, where it is 0.
+/// Sets the prefix lengths of the targets of transitions whose length is still 0.
 fn set_targets(transitions: &[Transition], behind: usize, lengths: &mut [usize])
     ensures { length lengths.new ≡ length lengths.old }
 {

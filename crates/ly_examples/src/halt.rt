@@ -4,12 +4,12 @@ ghost use Rattle.ly_examples.specs.declared.halt.Halt.TheVariants.{OutOfMemory};
 use ly_base::OutOfMemory as NoMemory;
 use std::alloc::AllocError;
 
-/// Why a search ends without an answer.
+/// Why a search ends without a result.
 #[derive(Drop)]
 pub(crate) enum Halt {
-    /// There are more demands than were allowed.
+    /// The search found more demands than were allowed.
     TooMany,
-    /// A growth was refused.
+    /// Out of memory.
     OutOfMemory,
 }
 

@@ -1,19 +1,19 @@
 ghost use Rattle.ly_examples.specs.Laws.{ConflictsOpen, ExamplesFollow, MatchedWin, ShiftsHaveExamples};
 
-/// A conflict has an example exactly where from the demand on its examples one follows that claims nothing more, and
-/// each conflict has such a demand.
+/// A conflict has a counterexample exactly if from its first demand one follows with nothing left to claim. Each
+/// conflict has a first demand.
 pub fn examples_follow()
     ensures follow { ExamplesFollow }
     ensures opens { ConflictsOpen }
 {}
 
-/// A shift against a reduction has an example: merging makes no such conflict.
+/// A shift/reduce conflict always has a counterexample: merging makes no such conflict.
 pub fn shifts_have_examples()
     ensures { ShiftsHaveExamples }
 {}
 
-/// In an automaton that has the rules of a lex file's scanner, some string of at least one byte leads to a rule exactly
-/// where the rule wins at some place of some text.
+/// In a DFA with the rules of a lex file's scanner, some string of at least one byte leads to a rule exactly if the
+/// rule wins somewhere in some text.
 pub fn matched_rules_win()
     ensures { MatchedWin }
 {}

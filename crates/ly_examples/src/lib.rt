@@ -1,29 +1,32 @@
-//! What is found out about two files that are accepted, as values: examples of their conflicts, and what is of no use
-//! in them. `ly_accepted` puts it into words.
+//! Analyses two accepted files: counterexamples of their conflicts, and what is of no use in them. The results are
+//! values; `ly_conflicts` and `ly_lints` print them.
 //!
-//! A conflict's prefix is the least string that leads to its state, and often only one of the two actions is possible
-//! there: lookaheads are merged. An example is a string of the same core at which the rule, complete, is valid with
-//! the terminal, and so is what stands against it (`IsExample`, Knuth 1965). `Examples::of` seeks one backwards from
-//! the state, over demands (`Demand`): a state, and two claims on items there. Popping a symbol moves the dots of both;
-//! a rule with nothing before its dot is valid because of an item that waits for its left side, and there the terminal
-//! begins what stands behind, or is handed up. Where no example is, only merging made the conflict.
-//! `Examples::of_rule` and `Examples::of_choice` seek one for each action by itself, and `Examples::none_has_one` asks
-//! many conflicts at once. What leads back is looked up: the states from which transitions lead to one, and the items
-//! that wait for a nonterminal (`Examples::predecessors`, `Examples::waiting`).
+//! A conflict is found in a state, and often only one of its two actions is possible for the shortest string that leads
+//! there, because LALR(1) merges lookaheads. A counterexample is a string with the same core at which both are
+//! possible: the rule is complete and valid with the terminal, and so is its rival (`IsExample`, Knuth 1965).
+//! `Examples::of` searches for one backwards from the state. The nodes of the search are demands (`Demand`): a state,
+//! and two claims on items there. Popping a symbol moves the dots of both items back over it. An item with nothing
+//! before its dot is valid because another item has the rule's left side after its dot, so the search climbs to that
+//! item. There the terminal begins what follows the left side, or is inherited. If no counterexample exists, the
+//! conflict comes from merging alone.
 //!
-//! `unmatched_rules` lists the rules of the lex file that never match (`NeverMatches`): they win at no place of any
-//! text (`MatchedWin`). `unreduced_rules` lists the useful rules of the grammar by which nothing is reduced
-//! (`NeverReduces`), `unused_terminals` the tokens and literals that stand in no rule (`IsUnused`), and
-//! `unreturned_terminals` those that come of no match (`IsUnreturned`). Each goes once over what it asks about: the
-//! states, the rows, the rules; from which states a string leads to a rule that returns its first byte is one pass
-//! along the moves.
+//! `Examples::of_rule` and `Examples::of_choice` search for a string for one of the two actions, and
+//! `Examples::none_has_one` asks for many conflicts at once. The backward edges are looked up: the states with
+//! transitions to a state, and the items with a nonterminal after their dot (`Examples::predecessors`,
+//! `Examples::waiting`).
 //!
-//! `conflicting_sentence` says of the rules of two trees whether these are trees of one sentence that take both
-//! actions of a conflict (`IsAmbiguousAt`). It makes the moves of a parser on the way to each, those of a rightmost
-//! derivation in reverse: both begin with the same ones, which lead to the state of the conflict, and part there.
+//! `unmatched_rules` lists the rules of the lex file that never match (`NeverMatches`): they win nowhere in any text
+//! (`MatchedWin`). `unreduced_rules` lists the useful rules of the grammar that are never reduced (`NeverReduces`).
+//! `unused_terminals` lists the tokens and literals that no rule uses (`IsUnused`), and `unreturned_terminals` those
+//! that the scanner never returns (`IsUnreturned`). Each is one pass over the states, rows or rules. One more pass
+//! along the transitions of the DFA finds the states from which a string leads to a rule that returns its first byte.
 //!
-//! Left out: which conflicts there are, which rules are removed, what is told of them, that no shorter string is an
-//! example, and where sentences with two trees are sought.
+//! `conflicting_sentence` checks whether the rules of two trees are those of one sentence whose parses take both
+//! actions of a conflict (`IsAmbiguousAt`). It makes the moves of a parser for each tree, a rightmost derivation in
+//! reverse. Both begin with the same moves, which lead to the state of the conflict, and differ there.
+//!
+//! This crate doesn't find conflicts or removed rules, doesn't print, doesn't search for ambiguous sentences, and
+//! doesn't prove that a counterexample is the shortest one.
 #![tactic(auto)]
 
 mod claim;

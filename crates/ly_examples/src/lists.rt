@@ -3,7 +3,7 @@ ghost use Rattle.std.specs.Prelude.{◌≡◌, ◌<◌, ◌++◌, [], ◌∷◌,
 use std::alloc::{AllocError, Global};
 use std::marker::Model;
 
-/// For each number below a count a list.
+/// A list for each number below a count.
 #[derive(Drop)]
 pub(crate) struct Lists<T> {
     /// The lists.
@@ -19,7 +19,7 @@ impl<T> Model for Lists<T> {
 }
 
 impl<T: Copy> Lists<T> {
-    /// So many empty lists.
+    /// This many empty lists.
     pub(crate) fn new(alloc: Global, count: usize) -> Result<Lists<T>, AllocError>
         ensures { IfOk result (λ w. w ≡ replicate count []) }
     {
@@ -30,7 +30,7 @@ impl<T: Copy> Lists<T> {
         Ok(Lists { lists })
     }
 
-    /// Adds to the list of a number.
+    /// Adds a value to the list of a number.
     pub(crate) fn push(&mut self, number: usize, value: T) -> Result<(), AllocError>
         requires { number < length self.old }
         ensures { OnOk result (self.new ≡

@@ -20,7 +20,7 @@ impl Model for Marks {
 }
 
 impl Marks {
-    /// So many numbers, none of them marked.
+    /// This many numbers, none of them marked.
     pub(crate) fn new(alloc: Global, count: usize) -> Result<Self, AllocError>
         ensures { IfOk result (AreMarked count (λ n. ⊥)) }
     {
@@ -29,7 +29,7 @@ impl Marks {
         })
     }
 
-    /// Marks a number. One that isn't below the count is passed over.
+    /// Marks a number. A number that isn't below the count is ignored.
     pub(crate) fn set(&mut self, number: usize)
         ensures { AreAdded (λ n. n ≡ number) self.old self.new }
     {

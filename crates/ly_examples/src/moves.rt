@@ -1,4 +1,4 @@
-//! The moves of a parser on the way to a tree, which is told by its rules.
+//! The moves of a parser that builds a tree, which is given by its rules.
 ghost use Rattle.std.specs.Prelude.{◌≡◌, ◌∷◌, ◌++◌, [], map, IfOk, MatchOption, OnOk};
 ghost use Rattle.ly_join.specs.Grammar.{symbol_of};
 ghost use Rattle.ly_examples.specs.Moves.{shifts};
@@ -9,25 +9,25 @@ use ly_base::Sym;
 use ly_join::{Grammar, Symbol};
 use std::alloc::{AllocError, Global};
 
-/// What a parser does.
+/// A move of a parser.
 #[derive(Clone, Copy, Debug, PartialEq, Eq)]
 pub(crate) enum Move {
-    /// It shifts a terminal.
+    /// Shift a terminal.
     Shift(Sym),
-    /// It reduces by the rule of this number.
+    /// Reduce by the rule with this number.
     Reduce(usize),
 }
 
-/// What is ahead on the way to a tree.
+/// What is left to do to build a tree.
 #[derive(Clone, Copy)]
 enum Ahead {
     /// A move that is known.
     Known(Move),
-    /// A nonterminal, which a rule is still to replace.
+    /// A nonterminal that a rule has yet to replace.
     Open(Sym),
 }
 
-/// The moves of a parser on the way to the tree whose leftmost derivation has these rules, if there is one.
+/// Returns the moves of a parser that builds the tree whose leftmost derivation has these rules, if there is one.
 pub(crate) fn moves_by(
     alloc: Global,
     grammar: &Grammar,
@@ -58,7 +58,8 @@ pub(crate) fn moves_by(
     }
 }
 
-/// Makes the moves that are known, and takes the nonterminal behind them, if there is one.
+/// Makes the moves that are known, up to the next nonterminal, and removes and returns that nonterminal, if there is
+/// one.
 fn next_left(ahead: &mut Vec<Ahead>, moves: &mut Vec<Move>) -> Result<Option<Sym>, AllocError>
     ensures { IfOk result (IsPassed (next_of ahead.old.items) (next_of ahead.new.items)
         (moves_from moves.old.items) (moves_from moves.new.items)) }
@@ -72,7 +73,7 @@ fn next_left(ahead: &mut Vec<Ahead>, moves: &mut Vec<Move>) -> Result<Option<Sym
     Ok(None)
 }
 
-/// Puts a body in front of what is ahead.
+/// Puts a body before what is left to do.
 fn push_body(alloc: Global, ahead: &mut Vec<Ahead>, body: &[Symbol]) -> Result<(), AllocError>
     ensures { OnOk result (next_of ahead.new.items
         ≡ map (λ x. ahead_of (symbol_of x)) body.now ++ next_of ahead.old.items) }
@@ -86,7 +87,7 @@ fn push_body(alloc: Global, ahead: &mut Vec<Ahead>, body: &[Symbol]) -> Result<(
 }
 
 impl Ahead {
-    /// What a symbol of a body is ahead.
+    /// What a symbol of a body leaves to do.
     fn of(symbol: Symbol) -> Ahead
         ensures { ahead_from result ≡ ahead_of (symbol_of symbol) }
     {

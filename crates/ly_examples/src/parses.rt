@@ -1,4 +1,4 @@
-//! Parses by their moves: what they shift, how far two of them are the same, and the string and the state that moves
+//! Parses as lists of moves: what they shift, how many moves two of them share, and the string and the state that moves
 //! lead to.
 ghost use Rattle.std.specs.Prelude.{◌≡◌, ◌≢◌, ◌≤◌, ◌<◌, ◌↔◌, ◌∷◌, ◌++◌, ℕ, IfOk, List, MatchBool, MatchOption, []};
 ghost use Rattle.std.specs.Prelude.{length, option_map, slice_get};
@@ -29,7 +29,7 @@ pub(crate) fn shifted(alloc: Global, moves: &[Move]) -> Result<Vec<Sym>, AllocEr
     Ok(terminals)
 }
 
-/// The terminal that moves shift first, if they shift one.
+/// The first terminal that moves shift, if any.
 pub(crate) fn next_shifted(moves: &[Move]) -> Option<Sym>
     ensures { IsNext (moves_from moves.now) (option_map (λ t. t.0) result) }
 {
@@ -42,7 +42,7 @@ pub(crate) fn next_shifted(moves: &[Move]) -> Option<Sym>
     None
 }
 
-/// How many moves two parses have in common, from the first on.
+/// How many moves two parses share from the start on.
 pub(crate) fn shared_length(one: &[Move], other: &[Move]) -> usize
     ensures same { (k : ℕ) → k < result → slice_get one.now k ≡ slice_get other.now k }
     ensures within { result ≤ length one.now }
@@ -59,7 +59,7 @@ pub(crate) fn shared_length(one: &[Move], other: &[Move]) -> usize
     one.len()
 }
 
-/// The string that moves lead to, its first symbol first; none where they lead to none.
+/// The string that moves lead to, its first symbol first. `None` if a move is impossible.
 pub(crate) fn string_behind(
     alloc: Global,
     grammar: &Grammar,
@@ -77,7 +77,7 @@ pub(crate) fn string_behind(
     Ok(Some(string))
 }
 
-/// Makes a move at the end of a string, and answers whether it is possible there.
+/// Makes a move at the end of a string. Returns whether it is possible there.
 fn make(grammar: &Grammar, string: &mut Vec<Symbol>, step: Move) -> Result<bool, AllocError>
     ensures { IfOk result (λ possible. MatchBool possible
         ((rest : List made) (h : List symbol) → Lead grammar.now (string_of string.old.items) (move_from step ∷ rest) h
@@ -94,7 +94,7 @@ fn make(grammar: &Grammar, string: &mut Vec<Symbol>, step: Move) -> Result<bool,
     }
 }
 
-/// Puts the left side of a rule in the place of its body at the end of a string, and answers whether it stands there.
+/// Replaces the body of a rule at the end of a string by the rule's left side. Returns whether the body was there.
 fn reduce_by(grammar: &Grammar, string: &mut Vec<Symbol>, number: usize) -> Result<bool, AllocError>
     ensures { IfOk result (λ reduced. MatchBool reduced
         ((rest : List made) (h : List symbol) → Lead grammar.now (string_of string.old.items) (reduces number ∷ rest) h
@@ -113,7 +113,7 @@ fn reduce_by(grammar: &Grammar, string: &mut Vec<Symbol>, number: usize) -> Resu
     Ok(true)
 }
 
-/// The state that a string leads to, its first symbol first; none where it leads to none.
+/// The state that a string leads to, its first symbol first. `None` if there is no such state.
 pub(crate) fn state_behind(lr0: &Lr0<'_>, string: &[Symbol]) -> Option<StateNo>
     requires { IsLr0Automaton lr0.now }
     ensures { MatchOption result (ReachesNone lr0.now (string_of string.now))

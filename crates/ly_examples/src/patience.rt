@@ -1,7 +1,8 @@
-/// How much searches for examples may still look at: demands, and symbols behind those that nonterminals stand for.
+/// How much work is left for searches for counterexamples. A unit is a demand found, or a symbol looked at that follows
+/// a nonterminal in a body.
 ///
-/// A search that is under way is ended whatever it takes, since its answer is exact: what it looks at is taken off, and
-/// whoever seeks many examples stops where nothing is left.
+/// A search that has begun is always finished, since its result is exact. Its work is taken off the budget, and a
+/// caller with many searches stops once nothing is left.
 #[derive(Clone, Copy, Debug, PartialEq, Eq)]
 pub struct Patience {
     /// How much is left.
@@ -9,7 +10,7 @@ pub struct Patience {
 }
 
 impl Patience {
-    /// Patience for so much.
+    /// A budget of this size.
     pub fn new(left: usize) -> Patience {
         Patience { left }
     }
@@ -19,7 +20,7 @@ impl Patience {
         self.left == 0
     }
 
-    /// Takes off so much, as far as it is there.
+    /// Takes this much off, or all that is left if that is less.
     pub fn take(&mut self, count: usize) {
         self.left = self.left.saturating_sub(count);
     }

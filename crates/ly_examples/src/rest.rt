@@ -8,7 +8,7 @@ use ly_base::Sym;
 use ly_grammar::Reduced;
 use ly_join::Symbol;
 
-/// Whether a terminal begins what symbols yield.
+/// Whether a terminal begins a string that symbols yield.
 pub(crate) fn begins(reduced: &Reduced<'_>, symbols: &[Symbol], terminal: Sym) -> bool
     requires terminal { terminal.0 < reduced.now.grammar.terminals }
     requires within { All (HasNumberTo reduced.now.grammar.accept) (map symbol_of symbols.now) }
@@ -26,7 +26,7 @@ pub(crate) fn begins(reduced: &Reduced<'_>, symbols: &[Symbol], terminal: Sym) -
     false
 }
 
-/// Whether symbols have a tree without tokens.
+/// Whether all of these symbols are nullable.
 pub(crate) fn are_nullable(reduced: &Reduced<'_>, symbols: &[Symbol]) -> bool
     requires { All (HasNumberTo reduced.now.grammar.accept) (map symbol_of symbols.now) }
     ensures { IsTrue result ↔ IsNullable reduced.now.grammar (map symbol_of symbols.now) }
@@ -39,7 +39,7 @@ pub(crate) fn are_nullable(reduced: &Reduced<'_>, symbols: &[Symbol]) -> bool
     true
 }
 
-/// Whether a terminal begins what a symbol yields.
+/// Whether a terminal begins a string that a symbol yields.
 fn symbol_begins(reduced: &Reduced<'_>, symbol: Symbol, terminal: Sym) -> bool
     requires terminal { terminal.0 < reduced.now.grammar.terminals }
     requires within { HasNumberTo reduced.now.grammar.accept (symbol_of symbol) }
@@ -51,7 +51,7 @@ fn symbol_begins(reduced: &Reduced<'_>, symbol: Symbol, terminal: Sym) -> bool
     }
 }
 
-/// Whether a symbol has a tree without tokens.
+/// Whether a symbol is nullable.
 fn passes(reduced: &Reduced<'_>, symbol: Symbol) -> bool
     requires { HasNumberTo reduced.now.grammar.accept (symbol_of symbol) }
     ensures { IsTrue result ↔ IsNullable reduced.now.grammar (symbol_of symbol ∷ []) }

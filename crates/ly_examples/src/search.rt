@@ -1,4 +1,4 @@
-//! The search for a string that meets a demand: breadth first over demands, by how many symbols were popped.
+//! The search for a string that meets a demand: breadth first over demands, by the number of popped symbols.
 ghost use Rattle.std.specs.Prelude.{◌≡◌, ◌<◌, ◌≤◌, ◌++◌, ◌∷◌, [], ℕ, None, Some, Contains, IfOk, IsErrOf, OnOk, length};
 ghost use Rattle.std.specs.Prelude.{map, option_map, reverse, slice_get, true};
 ghost use Rattle.ly_join.specs.Grammar.{symbol_of};
@@ -20,36 +20,36 @@ use ly_base::{OutOfMemory, Sym};
 use ly_join::Symbol;
 use std::alloc::{AllocError, Global};
 
-/// How many symbols a demand that is found is worth, by the time that it takes.
+/// The cost of a demand that is found, in symbols looked at. The two take about the same time.
 const FOUND: usize = 10;
 
-/// What is sought.
+/// What a search looks for.
 #[derive(Clone, Copy)]
 pub(crate) struct Sought<'a> {
-    /// Where.
+    /// The automaton with its backward edges.
     pub(crate) ground: &'a Ground<'a>,
     /// The terminal of the conflict.
     pub(crate) terminal: Sym,
-    /// How many demands there may be.
+    /// The greatest number of demands.
     pub(crate) bound: usize,
 }
 
-/// A search under way.
+/// The state of a search.
 #[derive(Drop)]
 pub(crate) struct Search {
-    /// The demands that were found, in this order.
+    /// The demands, in the order in which they were found.
     found: Found,
-    /// How each but the first was found.
+    /// How each demand but the first was found.
     links: Vec<Link>,
-    /// How many of the first were climbed from.
+    /// How many of the demands, from the first on, were climbed from.
     climbed: usize,
-    /// How many of the first were popped from.
+    /// How many of the demands, from the first on, were popped from.
     popped: usize,
-    /// The place of a demand that is met by the shortest string so far.
+    /// The index of the demand that the shortest string so far goes through.
     best: Option<usize>,
 }
 
-/// The shortest string that meets a demand, its first symbol first. What is looked at is taken off the patience.
+/// The shortest string that meets a demand, its first symbol first. The work is taken off the budget.
 pub(crate) fn shortest(
     alloc: Global,
     sought: &Sought<'_>,
@@ -70,7 +70,7 @@ pub(crate) fn shortest(
 }
 
 impl Search {
-    /// A search that has found its first demand.
+    /// A search with its first demand.
     fn new(alloc: Global, sought: &Sought<'_>, demand: Demand) -> Result<Search, Halt>
         requires ground { IsGround sought.now.ground.now }
         requires terminal { sought.now.terminal.0 < (automaton_of sought.now).grammar.terminals }
@@ -94,7 +94,7 @@ impl Search {
         })
     }
 
-    /// The shortest string that meets the first demand, which is sought to the end.
+    /// Searches to the end, and returns the shortest string that meets the first demand.
     fn finish(
         &mut self,
         alloc: Global,
@@ -115,7 +115,7 @@ impl Search {
         }
     }
 
-    /// Climbs from the next demand from which that wasn't done, or pops where there is none.
+    /// Climbs from the next demand. If all were climbed from, pops a symbol from the next one.
     fn advance(
         &mut self,
         alloc: Global,
@@ -145,7 +145,7 @@ impl Search {
         Ok(())
     }
 
-    /// Whether a shorter string than the best so far may meet the demand at a place.
+    /// Whether a string through the demand at an index may be shorter than the shortest one so far.
     fn may_serve(&self, sought: &Sought<'_>, place: usize) -> bool
         requires underway { IsUnderway sought.now self.now }
         requires place { place < length self.now.found }
@@ -157,7 +157,7 @@ impl Search {
         }
     }
 
-    /// How long a string is at least that is found by way of the demand at a place.
+    /// The least length of a string through the demand at an index.
     fn length(&self, sought: &Sought<'_>, place: usize) -> usize
         requires search { IsSearch sought.now self.now }
         requires place { place < length self.now.found }
@@ -167,7 +167,7 @@ impl Search {
             .saturating_add(sought.ground.lengths[state])
     }
 
-    /// How many symbols were popped up to a place.
+    /// How many symbols were popped up to the demand at an index.
     fn popped_to(&self, place: usize) -> usize {
         match place.checked_sub(1) {
             Some(before) => match self.links.get(before) {
@@ -178,7 +178,8 @@ impl Search {
         }
     }
 
-    /// Adds what the demand at a place climbs to. Where it claims nothing more it is the best.
+    /// Adds the demands that the demand at an index climbs to. If it has nothing left to claim, it becomes the best
+    /// one.
     fn climb(
         &mut self,
         alloc: Global,
@@ -214,7 +215,7 @@ impl Search {
         Ok(())
     }
 
-    /// Adds what is left of the demand at a place where a symbol is popped.
+    /// Adds the demands that the demand at an index leads to by popping a symbol.
     fn pop(
         &mut self,
         alloc: Global,
@@ -246,7 +247,7 @@ impl Search {
         Ok(())
     }
 
-    /// Adds a demand, if it wasn't found before.
+    /// Adds a demand, unless it was found before.
     fn add(&mut self, sought: &Sought<'_>, demand: Demand, link: Link) -> Result<(), Halt>
         requires search { IsSearch sought.now self.old }
         requires step { (d : demands.Demand) × (slice_get self.old.found link.from ≡ Some d)
@@ -283,8 +284,8 @@ impl Search {
         Ok(())
     }
 
-    /// The string by way of the demand at a place, where that claims nothing more: the prefix of its state, and then
-    /// the symbols that were popped.
+    /// The string through the demand at an index that has nothing left to claim: the prefix of its state, then the
+    /// popped symbols.
     fn string(
         &self,
         alloc: Global,

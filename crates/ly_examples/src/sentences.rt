@@ -1,4 +1,4 @@
-//! Sentences with two trees, each of which is told by its rules, that take both actions of a conflict.
+//! Sentences with two trees, given by their rules, that take both actions of a conflict.
 ghost use Rattle.std.specs.Prelude.{◌≡◌, ◌↔◌, IfOk, IsTrue, MatchOption, Some, option_map};
 ghost use Rattle.ly_resolve.specs.Values.{action_from, conflict_from, IsInside, kind_from};
 ghost use Rattle.ly_examples.specs.Examples.{rival as rival_of};
@@ -13,11 +13,11 @@ use ly_base::{OutOfMemory, Sym};
 use ly_resolve::{Action, Conflict, ConflictKind, Resolved};
 use std::alloc::{AllocError, Global};
 
-/// The sentence that has two trees, by the rules of each, those of its leftmost derivation in order, if they take both
-/// actions of a conflict at its place: the first what stands against its rule, and the second that rule. None where
-/// these are not two trees of one sentence, or don't take both actions.
+/// Returns the sentence that has two trees, if their parses take both actions of a conflict at its place. Each tree is
+/// given by the rules of its leftmost derivation in order. The first tree takes the rival of the conflict's rule, the
+/// second one the rule. Returns `None` if these are not two trees of one sentence, or don't take both actions.
 ///
-/// `OutOfMemory` comes where a growth was refused.
+/// Returns `OutOfMemory` if an allocation fails.
 pub fn conflicting_sentence(
     alloc: Global,
     resolved: &Resolved<'_>,
@@ -42,7 +42,7 @@ pub fn conflicting_sentence(
     if shifted(alloc, &second)? != sentence {
         return Ok(None);
     }
-    // a parser that accepts shifts the end behind them
+    // a parser that accepts shifts the end last
     first.push(Move::Shift(Sym(0)))?;
     second.push(Move::Shift(Sym(0)))?;
     if !take_both(alloc, resolved, conflict, &first, &second)? {
@@ -92,7 +92,7 @@ fn take_both(
     }
 }
 
-/// Whether the first move is what stands against the rule of a conflict, and the second reduces by that rule.
+/// Whether the first move is the rival of a conflict's rule, and the second one reduces by that rule.
 fn are_actions(conflict: &Conflict, first: Move, second: Move) -> bool
     ensures { IsTrue result ↔ ((move_before conflict.now.terminal.0
         (rival_of (kind_from conflict.now.kind) (action_from conflict.now.choice)) ≡ Some (move_from first))
@@ -104,7 +104,7 @@ fn are_actions(conflict: &Conflict, first: Move, second: Move) -> bool
     }
 }
 
-/// The move that stands against the rule of a conflict; an error is none.
+/// The move of the rival of a conflict's rule. An error is no move.
 fn rival(conflict: &Conflict) -> Option<Move>
     ensures { option_map move_from result ≡ move_before conflict.now.terminal.0
         (rival_of (kind_from conflict.now.kind) (action_from conflict.now.choice)) }

@@ -1,4 +1,4 @@
-//! From demands to those that meet them.
+//! The steps from a demand to the demands that imply it.
 ghost use Rattle.std.specs.Prelude.{◌≡◌, ◌↔◌, ◌⊎◌, ◌+◌, ◌<◌, drop, length, Contains, IfOk, IsTrue, OnOk, Some};
 ghost use Rattle.ly_join.specs.Grammar.{symbol_of, IsRule, GrammarRule};
 ghost use Rattle.ly_examples.specs.Demands.{ClimbsTo, IsBefore, IsBegun, IsClimb, IsPop, PopsTo};
@@ -30,7 +30,7 @@ pub(crate) struct Pop {
     pub(crate) demand: Demand,
 }
 
-/// The demands on the same string by which one is met: one of its claims is so by another claim.
+/// The demands on the same string that imply a demand: one of its claims is replaced by a claim that implies it.
 pub(crate) fn climbs(
     alloc: Global,
     ground: &Ground<'_>,
@@ -59,7 +59,7 @@ pub(crate) fn climbs(
     Ok(demands)
 }
 
-/// The claims by which one is true at strings that lead to a state, where its item has nothing before the dot.
+/// The claims that imply a claim at strings that lead to a state, if the claim's item has nothing before its dot.
 fn claims_above(
     alloc: Global,
     ground: &Ground<'_>,
@@ -88,8 +88,8 @@ fn claims_above(
     Ok(claims)
 }
 
-/// Adds the claims by which a rule with nothing before its dot is valid with a terminal: of each item that waits for
-/// its left side, where the terminal begins what stands behind that, or is handed up.
+/// Adds the claims that make a rule with nothing before its dot valid with a terminal. There is one for each item that
+/// has the rule's left side after its dot, if the terminal begins what follows, or is inherited.
 fn push_claims(
     ground: &Ground<'_>,
     terminal: Sym,
@@ -110,7 +110,7 @@ fn push_claims(
     Ok(())
 }
 
-/// Adds the claims on an item by which the symbol behind its dot is followed by a terminal.
+/// Adds the claims on an item for which a terminal follows the symbol after its dot.
 fn push_claims_on(
     reduced: &Reduced<'_>,
     terminal: Sym,
@@ -133,7 +133,7 @@ fn push_claims_on(
     Ok(())
 }
 
-/// The symbols behind one.
+/// The symbols after an index.
 fn behind(body: &[Symbol], place: usize) -> &[Symbol]
     requires { place < length body.now }
     ensures { result.now ≡ drop (place + 1) body.now }
@@ -141,7 +141,7 @@ fn behind(body: &[Symbol], place: usize) -> &[Symbol]
     &body[place + 1..]
 }
 
-/// Whether a rule with nothing before its dot is in the core of a state.
+/// Whether the item of a rule with nothing before its dot is in the core of a state.
 pub(crate) fn is_begun(ground: &Ground<'_>, state: StateNo, rule: usize) -> bool
     requires state { state.0 < length ground.now.lr0.now.states }
     requires kept { (r : GrammarRule) × IsRule ground.now.lr0.now.grammar rule r }
@@ -151,7 +151,7 @@ pub(crate) fn is_begun(ground: &Ground<'_>, state: StateNo, rule: usize) -> bool
     rule == 0 && state.0 == 0 || ground.lr0.goto(state, Symbol::Nonterminal(left)).is_some()
 }
 
-/// The demands on strings without their last symbol by which one is met, with these symbols.
+/// The demands on strings without their last symbol that imply a demand, with the symbols.
 pub(crate) fn pops(
     alloc: Global,
     ground: &Ground<'_>,
@@ -182,7 +182,7 @@ pub(crate) fn pops(
     Ok(found)
 }
 
-/// A demand with the claims on strings without their last symbol by which both of its own are true.
+/// The demand on strings without their last symbol that implies both claims of a demand.
 fn both_popped(ground: &Ground<'_>, demand: Demand, symbol: Symbol) -> Option<Demand>
     requires first { IsKeptClaim ground.now.lr0.now.grammar demand.first }
     requires second { IsKeptClaim ground.now.lr0.now.grammar demand.second }
@@ -198,7 +198,7 @@ fn both_popped(ground: &Ground<'_>, demand: Demand, symbol: Symbol) -> Option<De
     })
 }
 
-/// The claim on strings without their last symbol by which one is true.
+/// The claim on strings without their last symbol that implies a claim.
 fn popped(ground: &Ground<'_>, claim: Claim, symbol: Symbol) -> Option<Claim>
     requires { IsKeptClaim ground.now.lr0.now.grammar claim }
     ensures { (c : claim_values.Claim) → PopsTo ground.now.lr0.now.grammar (symbol_of symbol) claim c
@@ -211,7 +211,7 @@ fn popped(ground: &Ground<'_>, claim: Claim, symbol: Symbol) -> Option<Claim>
     }
 }
 
-/// The item whose dot is before the symbol, where that stands before the dot of an item.
+/// The item with the dot moved back over a symbol, if that symbol precedes the dot.
 fn before(ground: &Ground<'_>, item: Item, symbol: Symbol) -> Option<Item>
     requires { IsKeptItem ground.now.lr0.now.grammar item }
     ensures { (i : items.Item) → IsBefore ground.now.lr0.now.grammar (symbol_of symbol) item i ↔ (result ≡ Some i) }

@@ -10,9 +10,10 @@ use ly_base::{OutOfMemory, RuleNo};
 use ly_subset::Dfa;
 use std::alloc::Global;
 
-/// The rules of a lex file that never match, rising: no string of at least one byte leads to them from any start.
+/// The rules of a lex file that never match, in ascending order: no string of at least one byte leads to them from any
+/// start.
 ///
-/// `OutOfMemory` comes where a growth was refused.
+/// Returns `OutOfMemory` if an allocation fails.
 pub fn unmatched_rules(alloc: Global, rules: usize, dfa: &Dfa) -> Result<Vec<usize>, OutOfMemory>
     requires { IsBreadthFirst dfa.now }
     ensures listed { IfOk result (λ found. AreRising (NeverMatches dfa.now rules) found.items) }
@@ -28,7 +29,7 @@ pub fn unmatched_rules(alloc: Global, rules: usize, dfa: &Dfa) -> Result<Vec<usi
     Ok(found)
 }
 
-/// Of so many rules those that match.
+/// Which of this many rules match.
 pub(crate) fn matched_rules(alloc: Global, rules: usize, dfa: &Dfa) -> Result<Marks, OutOfMemory>
     requires { IsBreadthFirst dfa.now }
     ensures matched { IfOk result (AreMarked rules (IsMatched dfa.now)) }
@@ -42,7 +43,7 @@ pub(crate) fn matched_rules(alloc: Global, rules: usize, dfa: &Dfa) -> Result<Ma
     Ok(matched)
 }
 
-/// How many states an automaton has. More than a u32 counts are too many.
+/// How many states a DFA has. A number that exceeds a u32 is reported as out of memory.
 pub(crate) fn count_states(dfa: &Dfa) -> Result<u32, OutOfMemory>
     ensures count { IfOk result (λ n. n ≡ length dfa.now.rules) }
     ensures whole { IsAutomaton dfa.now }
@@ -50,7 +51,7 @@ pub(crate) fn count_states(dfa: &Dfa) -> Result<u32, OutOfMemory>
     u32::try_from(dfa.len()).map_err(|_| OutOfMemory)
 }
 
-/// Marks the rules to which one byte leads from a state.
+/// Marks the rules that one byte leads to from a state.
 fn mark_next(matched: &mut Marks, dfa: &Dfa, state: u32)
     requires { state < length dfa.now.rules }
     ensures { AreAdded (LeadsAtOnce dfa.now state) matched.old matched.new }
@@ -62,7 +63,7 @@ fn mark_next(matched: &mut Marks, dfa: &Dfa, state: u32)
     }
 }
 
-/// The rule of the state to which a class leads from another one, if there is one.
+/// The rule of the state that a class leads to from another state, if there is one.
 fn rule_behind(dfa: &Dfa, state: u32, class: usize) -> Option<RuleNo>
     requires state { state < length dfa.now.rules }
     requires class { class < dfa.now.classes }

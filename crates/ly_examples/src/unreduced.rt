@@ -1,4 +1,4 @@
-//! The rules of a grammar by which nothing is reduced.
+//! The rules of a grammar that are never reduced.
 ghost use Rattle.std.specs.Prelude.{◌≡◌, length, IfOk};
 ghost use Rattle.ly_examples.specs.Doubts.{AreRising, IsReducedBy, NeverReduces};
 ghost use Rattle.ly_examples.specs.Private.Marks.{AreAdded, AreMarked};
@@ -9,10 +9,10 @@ use ly_base::{OutOfMemory, StateNo};
 use ly_resolve::{Action, Resolved, TerminalAction};
 use std::alloc::Global;
 
-/// The useful rules by which nothing is reduced at any string of symbols before any terminal, rising: precedence and
-/// conflicts have taken all of their reductions.
+/// The useful rules that are reduced at no string of symbols before any terminal, in ascending order. They lose each
+/// reduction to precedence or in a conflict.
 ///
-/// `OutOfMemory` comes where a growth was refused.
+/// Returns `OutOfMemory` if an allocation fails.
 pub fn unreduced_rules(alloc: Global, resolved: &Resolved<'_>) -> Result<Vec<usize>, OutOfMemory>
     ensures { IfOk result (λ found. AreRising (NeverReduces resolved.now) found.items) }
 {
@@ -27,7 +27,7 @@ pub fn unreduced_rules(alloc: Global, resolved: &Resolved<'_>) -> Result<Vec<usi
     Ok(found)
 }
 
-/// Of all rules those by which something is reduced.
+/// The rules that are reduced somewhere.
 fn reduced_rules(alloc: Global, resolved: &Resolved<'_>) -> Result<Marks, OutOfMemory>
     ensures { IfOk result (AreMarked (length resolved.now.spec.grammar.rules) (IsReducedBy resolved.now)) }
 {
@@ -39,7 +39,7 @@ fn reduced_rules(alloc: Global, resolved: &Resolved<'_>) -> Result<Marks, OutOfM
     Ok(reduced)
 }
 
-/// Marks the rules by which entries of a row reduce.
+/// Marks the rules that the entries of a row reduce by.
 fn mark_reductions(reduced: &mut Marks, row: &[TerminalAction])
     ensures { AreAdded (ReducesIn row.now) reduced.old reduced.new }
 {

@@ -15,10 +15,10 @@ use ly_join::{Spec, TerminalName};
 use ly_subset::Dfa;
 use std::alloc::Global;
 
-/// The tokens and literals that come of no match of a rule of the lex file, rising: no rule that returns the token
-/// matches, and no match of a rule that returns its first byte begins with the literal's.
+/// The tokens and literals that no match of the lex file returns, in ascending order. No rule that returns the token
+/// matches, and no match of a rule that returns its first byte begins with the literal's byte.
 ///
-/// `OutOfMemory` comes where a growth was refused.
+/// Returns `OutOfMemory` if an allocation fails.
 pub fn unreturned_terminals(alloc: Global, spec: &Spec, dfa: &Dfa) -> Result<Vec<Sym>, OutOfMemory>
     requires { IsBreadthFirst dfa.now }
     ensures { IfOk result (λ found. AreRising (IsUnreturned spec.now dfa.now) (map (λ t. t.0) found.items)) }
@@ -32,7 +32,7 @@ pub fn unreturned_terminals(alloc: Global, spec: &Spec, dfa: &Dfa) -> Result<Vec
     unmarked_terminals(alloc, spec, &returned)
 }
 
-/// Marks the terminals that marked rules return themselves.
+/// Marks the terminals that the actions of marked rules name.
 fn mark_own(returned: &mut Marks, actions: &[ScanAction], matched: &Marks)
     ensures { AreAdded (λ t. (i : ℕ) × (i < length actions.now) × ReturnsItself actions.now matched.now i t)
         returned.old returned.new }

@@ -1,4 +1,4 @@
-//! The tokens and literals that stand in no rule.
+//! The tokens and literals that no rule uses.
 ghost use Rattle.std.specs.Prelude.{◌≡◌, ◌↔◌, map, Contains, IfOk, IsTrue};
 ghost use Rattle.ly_join.specs.Grammar.{symbol_of, terminal as terminal_of};
 ghost use Rattle.ly_join.specs.Terminals.{terminal_from};
@@ -11,9 +11,9 @@ use ly_base::{OutOfMemory, Sym};
 use ly_join::{Spec, Symbol, TerminalName};
 use std::alloc::Global;
 
-/// The tokens and literals that stand in no body of a rule, rising.
+/// The tokens and literals that are in no body of a rule, in ascending order.
 ///
-/// `OutOfMemory` comes where a growth was refused.
+/// Returns `OutOfMemory` if an allocation fails.
 pub fn unused_terminals(alloc: Global, spec: &Spec) -> Result<Vec<Sym>, OutOfMemory>
     ensures { IfOk result (λ found. AreRising (IsUnused spec.now) (map (λ t. t.0) found.items)) }
 {
@@ -35,7 +35,7 @@ fn mark_body(used: &mut Marks, body: &[Symbol])
     }
 }
 
-/// The tokens and literals that aren't marked, rising.
+/// The tokens and literals that aren't marked, in ascending order.
 pub(crate) fn unmarked_terminals(
     alloc: Global,
     spec: &Spec,

@@ -1,4 +1,4 @@
--- When an explanation says that two files are accepted.
+-- When a report says that two files are accepted.
 use Rattle.std.specs.Prelude.{◌≢◌, ℕ, List, MatchOption, codes}
 use Rattle.ly_base.specs.Limits.{Sizes}
 use Rattle.ly_join.specs.Grammar.{Grammar}
@@ -11,7 +11,7 @@ use Rattle.ly_report.specs.declared.counts.ConflictCounts.{ConflictCounts}
 use Rattle.ly_accepted.specs.Findings.{AreFoundIn}
 use Rattle.ly_accepted.specs.declared.surveying.Explanation.{Explanation}
 
--- The bytes of both files say a specification within the limits, whose tables can be made, and which has so many
+-- The bytes of both files define a specification within the limits, whose tables can be made, with these numbers of
 -- conflicts.
 pub record IsWellFormed (limits : Sizes) (lex yacc : List ℕ) (counts : ConflictCounts) : Type 0 where
   pub spec : Spec
@@ -20,17 +20,17 @@ pub record IsWellFormed (limits : Sizes) (lex yacc : List ℕ) (counts : Conflic
   pub fit : IsFit limits spec useful
   pub are_counts : AreCounts spec counts
 
--- It says that they are accepted and how many conflicts there are, where they are well formed; and else there is a
--- fault that refuses them.
+-- If the files are accepted, the report says so and has the numbers of conflicts. Otherwise there is an error with
+-- which they are rejected.
 abbrev pub IsExplained : Sizes → List ℕ → List ℕ → Explanation → Type 0
 IsExplained limits lex yacc e = MatchOption e.findings
     ((fault : GenFault) × (fault ≢ OutOfMemory) × IsRefusedFor limits lex yacc fault)
     (λ found. IsWellFormed limits lex yacc found.conflicts)
 
--- a lex file without rules, which stands for one that isn't there
+-- a lex file without rules, in place of a missing one
 abbrev pub no_rules : List ℕ
 no_rules = codes "%%\n"
 
--- it says that files of a specification are accepted, whose tables can be made
+-- the report says that files with this specification are accepted, and its tables can be made
 abbrev pub IsFitFor : Sizes → Spec → Explanation → Type 0
 IsFitFor limits s e = ((useful : Grammar) × IsFit limits s useful) × AreFoundIn s e

@@ -25,25 +25,25 @@ use ly_resolve::{Resolved, resolve};
 use ly_subset::Dfa;
 use std::alloc::Global;
 
-/// Two files, and what they say.
+/// Two files as they were read.
 #[derive(Clone, Copy)]
 struct Read<'a> {
     /// The lex file.
     lex: Named<'a>,
     /// The yacc file.
     yacc: Named<'a>,
-    /// What the lex file says.
+    /// The lex file as it was read.
     file: &'a LexFile,
-    /// What both say together.
+    /// The specification of both files.
     spec: &'a Spec,
-    /// The smallest scanner.
+    /// The minimal DFA of the scanner.
     dfa: &'a Dfa,
 }
 
-/// Says of a lex file and a yacc file what is wrong, where they are refused, and else what is doubtful, where their
-/// conflicts are, and which rule has which number. They are accepted where `build` accepts them.
+/// Reports the errors of a lex file and a yacc file if they are rejected, and otherwise their warnings, their conflicts
+/// and the numbers of their rules. They are accepted if `build` accepts them.
 ///
-/// A limit above that of version 2 of the table file counts as that. `OutOfMemory` comes where a growth was refused.
+/// A limit above that of version 2 of the table file is lowered to it. Returns `OutOfMemory` if an allocation fails.
 pub fn explain(
     alloc: Global,
     lex: Named<'_>,
@@ -71,7 +71,7 @@ pub fn explain(
     }
 }
 
-/// What is said of two files that are refused for this fault.
+/// The report of two files that are rejected with this error.
 fn said_of_refused(
     alloc: Global,
     lex: Named<'_>,
@@ -90,13 +90,13 @@ fn said_of_refused(
     page.finish()
 }
 
-/// A lex file without rules, which stands for one that isn't there.
+/// A lex file without rules, in place of a missing one.
 const NO_RULES: &[u8] = b"%%\n";
 
-/// Says of a yacc file alone what `explain` says of it beside a lex file, and nothing of any lex file. It is accepted
-/// where it is so beside a lex file without rules.
+/// Reports for a yacc file alone what `explain` reports for it, and nothing about a lex file. It is accepted if it is
+/// accepted with a lex file without rules.
 ///
-/// A limit above that of version 2 of the table file counts as that. `OutOfMemory` comes where a growth was refused.
+/// A limit above that of version 2 of the table file is lowered to it. Returns `OutOfMemory` if an allocation fails.
 pub fn explain_grammar(
     alloc: Global,
     yacc: Named<'_>,
@@ -116,7 +116,7 @@ pub fn explain_grammar(
     explain(alloc, Named::new("", NO_RULES), yacc, limits, wish)
 }
 
-/// What is said of two files that are accepted; a fault where they are refused.
+/// The report of two files if they are accepted. Otherwise their error.
 fn of_accepted(
     alloc: Global,
     lex: Named<'_>,
@@ -149,7 +149,7 @@ fn of_accepted(
     said
 }
 
-/// What is said of two files that say a specification; a fault where no tables are made of it.
+/// The report of two files with a specification, if its tables can be made. Otherwise their error.
 fn of_read(
     alloc: Global,
     read: Read<'_>,
@@ -167,7 +167,7 @@ fn of_read(
     of_automaton(alloc, read, &lr0, wish)
 }
 
-/// What is said of two files that have an automaton; a fault where no tables are made of it.
+/// The report of two files with an automaton, if its tables can be made. Otherwise their error.
 fn of_automaton(
     alloc: Global,
     read: Read<'_>,
@@ -193,7 +193,7 @@ fn of_automaton(
     Ok(told?)
 }
 
-/// What is said of two files that are accepted.
+/// The report of two accepted files.
 fn told(
     alloc: Global,
     read: Read<'_>,

@@ -1,11 +1,11 @@
-//! From a lex file and a yacc file to what is said of them to people, whether they are accepted or not: `explain`; and
-//! from a yacc file alone: `explain_grammar`.
+//! Reports what there is to say about a lex file and a yacc file, accepted or not: `explain`. `explain_grammar` does it
+//! for a yacc file alone, together with an empty lex file.
 //!
-//! Of files that are refused it says each fault that can be told apart (`ly_refused`), and of files that are accepted
-//! what is known of them (`ly_accepted`). `explain` says whether the files are accepted, and how many conflicts they
-//! have (`IsExplained`). How things are worded is tested alone.
+//! For rejected files it reports each independent error (`ly_diagnostics`), for accepted files their warnings and
+//! conflicts (`ly_lints`, `ly_conflicts`). It is proved that the result has the right verdict and number of conflicts
+//! (`IsExplained`). The wording is only tested.
 //!
-//! Left out: files and devices, which are the program's.
+//! This crate doesn't open or write files; the program does.
 #![tactic(auto)]
 
 mod explaining;

@@ -1,4 +1,4 @@
--- Which lex file and yacc file are accepted, and what a refusal says of them.
+-- Which lex files and yacc files are accepted, and what each rejection implies.
 use Rattle.std.specs.Prelude.{length, ◌≡◌, ◌≢◌, ◌≤◌, ℕ, List, [], Err, option_map, slice_get, unwrap_or}
 use Rattle.ly_base.specs.Limits.{Sizes}
 use Rattle.ly_base.specs.Trees.{Tree}
@@ -36,7 +36,7 @@ use Rattle.ly_generate.specs.declared.gen_fault.GenFault.{GenFault}
 use Rattle.ly_generate.specs.declared.gen_fault.GenFault.TheVariants.{Automaton, Endless, Grammar as NoGrammar, Join}
 use Rattle.ly_generate.specs.declared.gen_fault.GenFault.TheVariants.{Lex, OutOfMemory, Positions, States, Yacc}
 
--- The bytes of a lex file and of a yacc file say this specification, and are within the limits of files and scanners.
+-- The bytes of a lex file and a yacc file define this specification, and are within the limits of files and scanners.
 pub record Specifies (limits : Sizes) (lex yacc : List ℕ) (s : Spec) : Type 0 where
   pub file : LexFile
   pub lex_text : LexText lex file
@@ -57,16 +57,16 @@ pub record HasSteadyTables (s : Spec) (useful : Grammar) : Type 0 where
   pub is_machine : IsMachineOf s automaton machine
   pub steady : IsSteady machine
 
--- The useful rules of the specification derive something, have no more cores than a parser may have states, and each
--- run of their tables ends.
+-- The useful rules of the specification derive something, their number of cores is at most the limit of parser states,
+-- and each run of their tables ends.
 pub record IsFit (limits : Sizes) (s : Spec) (useful : Grammar) : Type 0 where
   pub useful_rules : KeepsUseful s.grammar useful
   pub reduced : IsReduced useful
   pub few : HasMoreCores useful limits.parser_states → ⊥
   pub steady : HasSteadyTables s useful
 
--- The run of the specification's tables on these two states makes too many reductions before this terminal, as the
--- first of all such runs.
+-- The run of the specification's tables from these two states makes too many reductions before this terminal. It is the
+-- first such run.
 pub record HasEndlessRun (s : Spec) (below top token : ℕ) : Type 0 where
   pub automaton : parser.Lr0Automaton
   pub is_automaton : parser.IsLr0Automaton automaton
@@ -80,7 +80,7 @@ pub record HasEndlessRun (s : Spec) (below top token : ℕ) : Type 0 where
 abbrev pub terminal_name_in : Spec → ℕ → List ℕ
 terminal_name_in s t = unwrap_or (option_map terminal_name (slice_get s.terminals t)) []
 
--- what a fault says of a specification
+-- what an error implies for a specification
 abbrev pub IsUnfitFor : Sizes → Spec → GenFault → Type 0
 IsUnfitFor limits s (NoGrammar fault) = (fault ≡ StartUnproductive)
     × ((d : Tree) → IsTree s.grammar (nonterminal s.grammar.start) d → ⊥)
@@ -91,7 +91,7 @@ IsUnfitFor limits s (Endless below top token name) = HasEndlessRun s below.0 top
 IsUnfitFor limits s OutOfMemory = Unit {0}
 IsUnfitFor limits s _ = ⊥
 
--- what a fault says of the bytes of the files; want of memory says nothing
+-- what an error implies for the bytes of the files; out of memory implies nothing
 abbrev pub IsRefusedFor : Sizes → List ℕ → List ℕ → GenFault → Type 0
 IsRefusedFor limits lex yacc (Lex fault) = (fault ≢ lex_fault.OutOfMemory)
     × IsRead limits.pattern_weight lex (Err fault) × IsAtMost (length lex) fault

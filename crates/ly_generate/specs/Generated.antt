@@ -1,4 +1,4 @@
--- The table set that a lex file and a yacc file generate.
+-- The table set that is generated from a lex file and a yacc file.
 use Rattle.std.specs.Prelude.{◌≡◌, ◌≤◌, ◌*◌, ℕ, List, length}
 use Rattle.ly_base.specs.Limits.{Sizes}
 use Rattle.ly_base.specs.declared.version.Version.{Version}
@@ -21,7 +21,7 @@ use Rattle.ly_subset.specs.Classes.{AreClasses}
 use Rattle.ly_tables.specs.TableSet.{TableSet}
 use Rattle.ly_tokens.specs.Scanner.{IsSubsetScanner}
 
--- The bytes of two files are these, and say this specification.
+-- These are the bytes of the two files, and they define this specification.
 pub record IsSpecification (limits : Sizes) (lex yacc : List ℕ) (file : LexFile) (s : Spec) (A : Automaton) : Type 0
   where
     pub specifies : Specifies limits lex yacc s
@@ -29,8 +29,8 @@ pub record IsSpecification (limits : Sizes) (lex yacc : List ℕ) (file : LexFil
     pub scanner : IsSubsetScanner file A
     pub few : length A.rules ≤ limits.scanner_states
 
--- The automaton's classes are those of the bytes that the same positions of the file's patterns read, numbered by their
--- least byte, and each condition of the file has its two starts: elsewhere, and where a line begins.
+-- The DFA's classes are those of the bytes that the same positions of the file's patterns read, numbered by their least
+-- byte. Each condition of the file has two starts: elsewhere, and at the start of a line.
 pub record HasFormOf (file : LexFile) (A : Automaton) : Type 0 where
   pub nfa : Nfa
   pub positions : ArePositions (defined file.names) file.rules.items file.conditions nfa
@@ -38,9 +38,9 @@ pub record HasFormOf (file : LexFile) (A : Automaton) : Type 0 where
   pub classes : AreClasses nfa A.class_of A.classes
   pub two_starts : A.starts ≡ 2 * file.conditions
 
--- The files are accepted, and the set is theirs, within the ranges of a version: its scanner is the smallest of the lex
--- file's rules, its states numbered breadth first, its classes and conditions are the file's, and what it answers to
--- any text, in each form, is the specification's answer to it.
+-- The files are accepted, and the set is the one generated from them, within the ranges of a version. Its scanner is
+-- the minimal DFA of the lex file's rules, with states numbered breadth first. Its classes and conditions are the
+-- file's. Its result and output for any text, in each form, are those of the specification.
 pub record IsGenerated (v : Version) (limits : Sizes) (lex yacc : List ℕ) (set : TableSet) : Type 0 where
   pub spec : Spec
   pub specifies : Specifies limits lex yacc spec

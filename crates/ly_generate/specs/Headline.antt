@@ -1,4 +1,4 @@
--- What tables that are generated answer.
+-- What generated tables output.
 use Rattle.std.specs.Prelude.{ℕ, List}
 use Rattle.ly_base.specs.declared.version.Version.{Version}
 use Rattle.ly_feed.specs.TableAnswer.{IsVerdict, TableAnswer}
@@ -22,8 +22,8 @@ use Rattle.ly_tables.specs.Ranges.{IsWithinVersion}
 use Rattle.ly_pack.specs.Steady.{IsSteady}
 use Rattle.ly_tables.specs.TableSet.{machine_of}
 
--- The table set is that of a specification, of the automaton of its useful rules, and of an automaton whose walk agrees
--- with the rules of the lex file; and it is within the ranges of a version.
+-- The table set is made of a specification, of the automaton of its useful rules, and of a DFA whose walk agrees with
+-- the rules of the lex file. It is within the ranges of a version.
 pub record IsGeneratedSet (v : Version) (file : LexFile) (w : Written) (s : Spec) (set : TableSet) : Type 0 where
   pub joined : Joined (scanning_of file) w s
   pub automaton : Lr0Automaton
@@ -37,13 +37,13 @@ pub record IsGeneratedSet (v : Version) (file : LexFile) (w : Written) (s : Spec
   pub within : IsWithinVersion v set
   pub steady : IsSteady (machine_of set)
 
--- Such a table set says of a text what the specification says, and is never at fault.
+-- Such a table set gives for a text the result of the specification, and never an error of the tables.
 abbrev pub TablesAnswerAsSpecified : Type 0
 TablesAnswerAsSpecified = (version : Version) (file : LexFile) (w : Written) (s : Spec) (set : TableSet)
     (g : IsGeneratedSet version file w s set) (text : List ℕ) (v : Verdict) → IsVerdict set text v
     → IsSpecVerdict file s g.automaton.grammar text v
 
--- So its answer to a text is the specification's, in each form.
+-- So its output for a text is the specification's, in each form.
 abbrev pub AnswersAreOfSpecification : Type 0
 AnswersAreOfSpecification = (version : Version) (file : LexFile) (w : Written) (s : Spec) (set : TableSet)
     (g : IsGeneratedSet version file w s set) (form : AnswerForm) (text : List ℕ) (o : Outcome) (answer : List ℕ)

@@ -1,4 +1,4 @@
--- What holds of refusals, as a statement.
+-- What holds of rejections, as a statement.
 use Rattle.std.specs.Prelude.{◌≢◌, ℕ, List}
 use Rattle.ly_base.specs.Limits.{Sizes}
 use Rattle.ly_join.specs.Grammar.{Grammar}
@@ -7,7 +7,7 @@ use Rattle.ly_generate.specs.Accepted.{IsFit, IsRefusedFor, Specifies}
 use Rattle.ly_generate.specs.declared.gen_fault.GenFault.{GenFault}
 use Rattle.ly_generate.specs.declared.gen_fault.GenFault.TheVariants.{OutOfMemory}
 
--- files that are refused for anything but want of memory are not accepted
+-- files that are rejected for anything but out of memory are not accepted
 abbrev pub RefusalIsExact : Type 0
 RefusalIsExact = (limits : Sizes) (lex yacc : List ℕ) (s : Spec) (useful : Grammar) (fault : GenFault)
     → fault ≢ OutOfMemory → IsRefusedFor limits lex yacc fault → Specifies limits lex yacc s → IsFit limits s useful → ⊥

@@ -1,4 +1,4 @@
--- The parser of a specification, and what is said of its conflicts.
+-- The parser of a specification, and its conflicts.
 use Rattle.std.specs.Prelude.{◌≤◌, ◌↔◌, ℕ, Option, Some, None, IsTrue, length}
 use Rattle.std.specs.declared.alloc.Global.{Global}
 use Rattle.std.specs.declared.vec.Vec.{Vec}
@@ -15,14 +15,15 @@ use Rattle.ly_generate.specs.declared.parser.SpecParser.{SpecParser}
 use Rattle.ly_generate.specs.declared.report.Report.{Report}
 use Rattle.ly_generate.specs.declared.report.Report.TheVariants.{Wanted, Unwanted}
 
--- the report of the specification is there exactly where it is wanted
+-- the report of the specification exists exactly if it is requested
 abbrev pub IsReportIf : Report → Spec → Option (Vec ℕ Global) → Type 0
 IsReportIf Wanted s (Some text) = IsReport s text.items
 IsReportIf Unwanted s None = Unit {0}
 IsReportIf _ s _ = ⊥
 
--- The tables are those of the specification's useful rules, which are fit, and every run of theirs ends; the conflicts
--- are counted, it is said whether nowhere two actions are asked for, and the report is there where it is wanted.
+-- The tables are those of the specification's useful rules. The rules are within the limits, and every run of their
+-- tables ends. The conflicts are counted, the flag says whether no state has two possible actions, and the report
+-- exists if it is requested.
 pub record IsParserOf (limits : Sizes) (s : Spec) (report : Report) (p : SpecParser) : Type 0 where
   pub automaton : Lr0Automaton
   pub is_automaton : IsLr0Automaton automaton

@@ -1,4 +1,4 @@
--- What a grammar says of a text by its derivations alone: no machine is spoken of.
+-- What a grammar defines for a text by its derivations alone, without any machine.
 use Rattle.std.specs.Prelude.{◌≡◌, ◌↔◌, ℕ, ◌+◌, ◌<◌, List, ◌∷◌, ◌++◌, AllPairs, Contains, length}
 use Rattle.ly_base.specs.Lexed.{Token}
 use Rattle.ly_base.specs.Limits.{Sizes}
@@ -26,19 +26,19 @@ pub record IsDerivation (G : Grammar) (tokens : List (Token ℕ)) (d : Tree) : T
   pub is_tree : IsTree G (nonterminal G.start) d
   pub yields : yield_of d ≡ tokens
 
--- It is, and they have no other.
+-- The tree is the only derivation of the tokens.
 pub record IsOnlyDerivation (G : Grammar) (tokens : List (Token ℕ)) (d : Tree) : Type 0 where
   pub is : IsDerivation G tokens d
   pub only : (other : Tree) → IsTree G (nonterminal G.start) other → yield_of other ≡ tokens → d ≡ other
 
--- The list rises, and has the terminals that continue a sentence behind these tokens and no others.
+-- The list is in ascending order and has exactly the terminals that continue a sentence after these tokens.
 pub record AreContinuing (G : Grammar) (before : List (Token ℕ)) (ts : List ℕ) : Type 0 where
   pub ordered : AllPairs (λ x y. x < y) ts
   pub are : (t : ℕ) → Contains ts t ↔ Continues G before t
 
--- What derivations say of the tokens of a text, by what comes first in it: they have one derivation, of which this term
--- is built; a token, or the end, is the first that continues no sentence, and these terminals would have; or the tokens
--- begin a sentence, and no rule matches behind them.
+-- What derivations define for the tokens of a text, by what comes first in it. Either the tokens have one derivation,
+-- from which this term is built. Or a token, or the end, is the first that continues no sentence, and these terminals
+-- would have continued one. Or the tokens begin a sentence, and no rule matches after them.
 abbrev pub IsSentenceVerdict : Grammar → (ℕ → Shape) → List ℕ → List (Token ℕ) → End → Verdict → Type 0
 IsSentenceVerdict G shape text tokens e (accepted term) = (e ≡ Clean) × (d : Tree) × IsOnlyDerivation G tokens d
     × (term ≡ build shape d)
@@ -48,20 +48,20 @@ IsSentenceVerdict G shape text tokens e (refused k t ts) = (before behind : List
 IsSentenceVerdict G shape text tokens e (unmatched byte) = (e ≡ Stuck byte) × IsSentencePrefix G tokens
 IsSentenceVerdict G shape text tokens e faulty = ⊥
 
--- what derivations by the useful rules of a specification say of a text
+-- what derivations by the useful rules of a specification define for a text
 abbrev pub IsSaidBySentences : LexFile → Spec → Grammar → List ℕ → Verdict → Type 0
 IsSaidBySentences file s useful text v = (tokens : List (Token ℕ)) × (e : End) × AreTokensOf file s text tokens e
     × IsSentenceVerdict useful (shape_in s) text tokens e v
 
--- Of a text the set that two files generate whose grammar is without conflicts says one thing: what the derivations of
--- the text's tokens say.
+-- If the grammar of two files has no conflicts, the set generated from them has one result for a text: the one that the
+-- derivations of the text's tokens define.
 abbrev pub AnswersSentences : Type 0
 AnswersSentences = (version : Version) (limits : Sizes) (lex yacc : List ℕ) (set : TableSet)
     (g : IsGenerated version limits lex yacc set) → IsConflictFree g.generated.automaton.grammar → (text : List ℕ)
     → (v : Verdict) × IsVerdict set text v × ((u : Verdict) → IsVerdict set text u → v ≡ u)
     × IsSaidBySentences g.specifies.file g.spec g.generated.automaton.grammar text v
 
--- Whatever conflicts there are, the term that such a set answers to a text is built of a derivation of all the text's
+-- Whatever conflicts there are, the term that such a set gives for a text is built from a derivation of all the text's
 -- tokens by the useful rules.
 abbrev pub TreesAreOfTexts : Type 0
 TreesAreOfTexts = (version : Version) (limits : Sizes) (lex yacc : List ℕ) (set : TableSet)

@@ -19,22 +19,22 @@ use ly_yaccread::YaccFault;
 use std::alloc::AllocError;
 use thiserror::Error;
 
-/// Why a lex file and a yacc file aren't accepted. Nothing is handed out then.
+/// Why a lex file and a yacc file are rejected.
 #[derive(Debug, Drop, Error)]
 pub enum GenFault {
-    /// The lex file is refused.
+    /// The lex file is rejected.
     #[error("lex file, {0}")]
     Lex(LexFault),
-    /// The yacc file is refused.
+    /// The yacc file is rejected.
     #[error("yacc file, {0}")]
     Yacc(YaccFault),
-    /// The files make no specification.
+    /// The two files don't fit together.
     #[error("{0}")]
     Join(JoinFault),
-    /// The patterns are too heavy together.
+    /// The patterns together exceed the weight limit.
     #[error("{0}")]
     Positions(PosFault),
-    /// The scanner has too many states before it is made smallest.
+    /// The scanner's DFA has too many states before minimization.
     #[error("{0}")]
     States(SubsetFault),
     /// The start symbol derives no text.
@@ -43,19 +43,19 @@ pub enum GenFault {
     /// The parser has too many states.
     #[error("{0}")]
     Automaton(Lr0Fault),
-    /// A run of the parser's tables makes too many reductions before a token. It is the first such run.
+    /// A run of the parser's tables makes too many reductions before a token is shifted. This is the first such run.
     #[error("a run of the parser makes too many reductions")]
     Endless {
-        /// The state below on the stack.
+        /// The state below the top of the stack.
         below: StateNo,
-        /// The state on top of it.
+        /// The state on top of the stack.
         top: StateNo,
         /// The terminal of the token.
         token: Sym,
-        /// The terminal's printed name.
+        /// The printed name of the terminal.
         name: Vec<u8>,
     },
-    /// A growth was refused.
+    /// Out of memory.
     #[error("out of memory")]
     OutOfMemory,
 }
@@ -63,7 +63,7 @@ pub enum GenFault {
 impl GenFault {
     ghost use Rattle.ly_generate.specs.GenFault.{gen_name, gen_number};
 
-    /// The number that the fault is printed with; want of memory has none.
+    /// The number that is printed for the error; `None` for out of memory.
     pub fn number(&self) -> Option<u8>
         ensures { result ≡ gen_number self.now }
     {
@@ -80,7 +80,7 @@ impl GenFault {
         }
     }
 
-    /// The name that the fault is printed with.
+    /// The name that is printed for the error.
     pub fn name(&self) -> &'static str
         ensures { result.now ≡ gen_name self.now }
     {
@@ -101,7 +101,7 @@ impl GenFault {
 impl GenFault {
     ghost use Rattle.ly_generate.specs.GenFault.{gen_line};
 
-    /// The line at fault of the files with these bytes, where one of them is refused.
+    /// The line of the error, if one of the files with these bytes is rejected. The first line is 1.
     pub fn line(&self, lex: &[u8], yacc: &[u8]) -> Option<u64>
         ensures { result ≡ gen_line self.now lex.now yacc.now }
     {

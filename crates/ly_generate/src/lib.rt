@@ -1,13 +1,16 @@
-//! From a lex file and a yacc file to their table set: `file_tables`. That tables so made answer what both files say is
-//! part of what it promises (`IsGenerated`), by a law (`tables_answer_as_specified`); without conflicts that is what
-//! the derivations of the text's tokens say (`sentences_are_answered`), and with conflicts too a tree is one of all the
-//! text's tokens (`trees_are_of_texts`).
+//! Makes the tables of a lex file and a yacc file: `file_tables`. The result is a `TableSet` value, not bytes.
 //!
-//! The steps of the way are public too. `read_specification` says what both files say together; `specification_parser`
-//! makes the parser of a specification, counts the conflicts and reports them where that is wanted, and `file_parser`
-//! does it for two files. `settle` says what is done in the parser's states, and `parser_tables` makes tables of that.
+//! Its contract (`IsGenerated`) includes the main theorem: for each text the tables give the result that both files
+//! specify (`tables_answer_as_specified`). Without conflicts that is what the derivations of the text's tokens
+//! determine (`sentences_are_answered`). With conflicts, each tree is still a derivation of all tokens of the text
+//! (`trees_are_of_texts`).
 //!
-//! Left out: the bytes of a table file, answers to texts, and the writing of a report.
+//! The steps are public too. `read_specification` reads both files. `specification_parser` makes the parser tables,
+//! counts the conflicts and, on request, makes their report; `file_parser` does the same from two files. All callers
+//! share this one path. `settle` decides the actions of the parser's states, and `parser_tables` makes tables of them.
+//!
+//! This crate doesn't write table files, run tables or write reports. Its code is what is hard to prove about
+//! generation; `ly_engine` adds the bytes and the driver, so a tool that only explains files needs no driver.
 #![tactic(auto)]
 
 mod gen_fault;

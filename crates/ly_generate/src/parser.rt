@@ -27,22 +27,22 @@ use ly_report::{ConflictCounts, push_terminal, report_text};
 use ly_resolve::{Resolved, resolve};
 use std::alloc::Global;
 
-/// The parser of a specification, and what is said of its conflicts.
+/// The parser of a specification, and its conflicts.
 #[derive(Drop)]
 pub struct SpecParser {
-    /// Its tables, of which every run ends.
+    /// The parser's tables. Every run of them ends.
     pub machine: Machine<Dense<TableAction>, Dense<StateNo>>,
-    /// How many conflicts there are of each kind.
+    /// How many conflicts of each kind there are.
     pub conflicts: ConflictCounts,
-    /// Whether nowhere two actions are asked for.
+    /// Whether no state has two possible actions on one terminal, before precedence is applied.
     pub conflict_free: bool,
-    /// The bytes of the report, where it is wanted: the rules that are removed, and the conflicts.
+    /// The bytes of the report, if requested: the removed rules, and the conflicts.
     pub report: Option<Vec<u8>>,
 }
 
-/// The parser of a specification, whose states are within the limits.
+/// Makes the parser of a specification, if its states are within the limits.
 ///
-/// Its faults are `Grammar`, `Automaton`, `Endless` and `OutOfMemory` of `GenFault`.
+/// Its errors are `Grammar`, `Automaton`, `Endless` and `OutOfMemory` of `GenFault`.
 pub fn specification_parser(
     alloc: Global,
     spec: &Spec,
@@ -59,7 +59,7 @@ pub fn specification_parser(
     settled_parser(alloc, &resolved, report)
 }
 
-/// The parser that does what is settled.
+/// Makes the parser from the actions that are settled.
 fn settled_parser(
     alloc: Global,
     resolved: &Resolved<'_>,
@@ -82,9 +82,9 @@ fn settled_parser(
     })
 }
 
-/// The parser of the specification that a lex file and a yacc file say together, for what makes no table file.
+/// Makes the parser of a lex file and a yacc file, for callers that need no table file.
 ///
-/// A limit above that of version 2 of the table file counts as that. Its faults are those of `GenFault`.
+/// A limit above that of version 2 of the table file is lowered to it. Its errors are those of `GenFault`.
 pub fn file_parser(
     alloc: Global,
     lex: &[u8],
@@ -102,7 +102,7 @@ pub fn file_parser(
     specification_parser(alloc, &given.spec, &limits, report)
 }
 
-/// The bytes of a report, where it is wanted.
+/// The bytes of the report, if requested.
 fn report_if(
     alloc: Global,
     resolved: &Resolved<'_>,
@@ -116,9 +116,9 @@ fn report_if(
     }
 }
 
-/// Settles what is done in the states of a specification's automaton.
+/// Decides the actions in the states of a specification's automaton.
 ///
-/// `OutOfMemory` comes where a growth was refused.
+/// Returns `OutOfMemory` if an allocation fails.
 pub fn settle<'a>(
     alloc: Global,
     spec: &'a Spec,
@@ -131,9 +131,9 @@ pub fn settle<'a>(
     resolve(alloc, spec, lr0, &lookaheads)
 }
 
-/// The tables of a parser, of which every run ends.
+/// Makes the tables of a parser. Every run of them ends.
 ///
-/// Its faults are `Endless` and `OutOfMemory` of `GenFault`.
+/// Its errors are `Endless` and `OutOfMemory` of `GenFault`.
 pub fn parser_tables(
     alloc: Global,
     resolved: &Resolved<'_>,

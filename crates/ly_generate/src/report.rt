@@ -1,8 +1,8 @@
-/// Whether the report of a specification is wanted.
+/// Whether to make the report of a specification.
 #[derive(Clone, Copy, Debug, PartialEq, Eq)]
 pub enum Report {
-    /// It is to be made.
+    /// Make the report.
     Wanted,
-    /// It isn't to be made.
+    /// Make no report.
     Unwanted,
 }

@@ -12,21 +12,21 @@ use ly_tokens::subset_scanner;
 use ly_yaccread::read_yacc;
 use std::alloc::Global;
 
-/// What a lex file and a yacc file say together.
+/// A lex file and a yacc file as one specification.
 #[derive(Drop)]
 pub struct Specification {
     /// The lex file.
     pub file: LexFile,
-    /// The grammar, and what the scanner's rules return.
+    /// The grammar, and the terminals that the scanner's rules return.
     pub spec: Spec,
-    /// The scanner, whose states are the sets of positions.
+    /// The scanner's DFA before minimization. Its states are sets of positions.
     pub subsets: Dfa,
 }
 
-/// The specification that a lex file and a yacc file say together, whose scanner is within the limits too.
+/// Reads a lex file and a yacc file as one specification. The DFA of its scanner is within the limits too.
 ///
-/// Its faults are those of `GenFault` that come before a parser is made: `Lex`, `Yacc`, `Join`, `Positions`, `States`
-/// and `OutOfMemory`.
+/// Its errors are those of `GenFault` that precede making a parser: `Lex`, `Yacc`, `Join`, `Positions`, `States` and
+/// `OutOfMemory`.
 pub fn read_specification(
     alloc: Global,
     lex: &[u8],

@@ -24,20 +24,20 @@ use ly_subset::Dfa;
 use ly_tables::TableSet;
 use std::alloc::Global;
 
-/// What two files generate.
+/// The tables that are generated from two files.
 #[derive(Drop)]
 pub struct FileTables {
     /// The table set.
     pub set: TableSet,
-    /// How many conflicts there are of each kind.
+    /// How many conflicts of each kind there are.
     pub conflicts: ConflictCounts,
-    /// The bytes of the report, where it is wanted.
+    /// The bytes of the report, if requested.
     pub report: Option<Vec<u8>>,
 }
 
-/// What a lex file and a yacc file generate (POSIX, XCU lex and yacc), for a table file of a version.
+/// Generates the tables of a lex file and a yacc file (POSIX, XCU lex and yacc), for a version of the table file.
 ///
-/// A limit above that of the version counts as that. Its faults are those of `GenFault`.
+/// A limit above that of the version is lowered to it. Its errors are those of `GenFault`.
 pub fn file_tables(
     alloc: Global,
     lex: &[u8],
@@ -63,7 +63,7 @@ pub fn file_tables(
     made
 }
 
-/// What is made of a specification and of the smallest automaton of its scanner.
+/// Generates the tables of a specification and the minimal DFA of its scanner.
 fn specification_tables(
     alloc: Global,
     file: &LexFile,

@@ -4,15 +4,15 @@ use crate::named::Named;
 use crate::page::Page;
 use ly_base::Location;
 
-/// What stands before each line of a file and what is said under it.
+/// Printed before each line of an excerpt and each indented line below a message.
 pub const MARGIN: &[u8] = b"    ";
 
-/// How many bytes of a line are said.
+/// How many bytes of a line are printed at most.
 const WIDEST: usize = 160;
 
 impl Page {
-    /// The line of a location of a file, or the part of it round the location where it is long, and under it a caret;
-    /// nothing where the line is empty or isn't there.
+    /// Appends the line at a location of a file, and a caret under the location. Of a line of more than 160 bytes it
+    /// appends the part around the location. Appends nothing if the line is empty or doesn't exist.
     pub fn say_excerpt(&mut self, file: Named<'_>, at: Location)
         ensures { SaysMore self.old self.new }
     {
@@ -22,7 +22,7 @@ impl Page {
     }
 }
 
-/// Says the line of a location, or the part of it round the location where it is long, and under it a caret.
+/// Appends the line at a location, or the part of it around the location if it is long, and a caret under the location.
 fn say_lines(page: &mut Page, file: Named<'_>, at: Location) {
     let Some(line) = file.line(at.line) else {
         return;
@@ -50,12 +50,12 @@ fn say_lines(page: &mut Page, file: Named<'_>, at: Location) {
     page.say(b"^\n");
 }
 
-/// How many bytes of its line stand before a location.
+/// How many bytes of its line precede a location.
 fn bytes_before(at: Location) -> usize {
     usize::try_from(at.column.saturating_sub(1)).unwrap_or(usize::MAX)
 }
 
-/// The part of a line that is said, and whether something stands behind it.
+/// The part of a line that is printed, and whether more of the line follows it.
 fn shown_part(line: &[u8], start: usize) -> (&[u8], bool) {
     let behind = line.get(start..).unwrap_or(b"");
     match behind.get(..WIDEST) {
@@ -64,12 +64,13 @@ fn shown_part(line: &[u8], start: usize) -> (&[u8], bool) {
     }
 }
 
-/// Whether a byte is said as it stands.
+/// Whether a byte is printed as it is. Other bytes are printed as `?`.
 fn is_shown(byte: u8) -> bool {
     byte == b'\t' || byte >= b' ' && byte != 127
 }
 
-/// Says as many blanks as so many bytes are wide: tabs stay, and of a character of several bytes the first counts.
+/// Appends the blanks that are as wide as the first bytes of a line. Tabs stay tabs, and of the bytes of a UTF-8
+/// character only the first counts.
 fn say_distance(page: &mut Page, line: &[u8], bytes: usize) {
     for byte in line.iter().take(bytes) {
         match byte {

@@ -8,7 +8,7 @@ use ly_base::OutOfMemory;
 use std::alloc::AllocError;
 
 impl Page {
-    /// What is said on another page, as a JSON string.
+    /// Appends the text of another page as a JSON string.
     pub fn say_json_page(&mut self, page: Page)
         ensures { SaysMore self.old self.new }
     {
@@ -18,7 +18,7 @@ impl Page {
         }
     }
 
-    /// The key of a member of a JSON object, behind another member.
+    /// Appends a comma and the key of a member of a JSON object. Another member precedes it.
     pub fn say_json_key(&mut self, key: &[u8])
         ensures { Says self.old (key_words key.now) self.new }
     {
@@ -27,7 +27,7 @@ impl Page {
         self.say(b"\":");
     }
 
-    /// A number as the member of a JSON object, behind another member.
+    /// Appends a comma and a member of a JSON object whose value is a number. Another member precedes it.
     pub fn say_json_number(&mut self, key: &[u8], number: u64)
         ensures { Says self.old (key_words key.now ++ decimal number) self.new }
     {

@@ -1,7 +1,11 @@
-//! From words, numbers and names to what is said of two files to people: a `Page`, of which a growth that is refused is
-//! told once, at its end. `Named` is a file by the name that its user has for it.
+//! `Page` builds the text of messages for people. Its methods don't return errors: it remembers the first failed
+//! allocation and reports it at the end, in `finish`. `Named` is a file with the name that the user gave for it.
 //!
-//! Left out: what is said.
+//! The contracts see a page as its bytes, or as nothing once an allocation failed, so one clause (`Says`) covers both.
+//! This is a crate of its own so that the crates that print messages don't depend on `ly_engine` and are proved
+//! separately.
+//!
+//! It doesn't decide what to print.
 #![tactic(auto)]
 
 mod excerpt;

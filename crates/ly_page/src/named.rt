@@ -2,7 +2,7 @@ ghost use Rattle.std.specs.Prelude.{◌≡◌};
 ghost use Rattle.std.specs.Option.{option_copied};
 ghost use Rattle.ly_page.specs.Named.{line_at};
 
-/// A file, by the name that its user has for it.
+/// A file with the name that the user gave for it.
 #[derive(Clone, Copy)]
 pub struct Named<'t> {
     /// The name.
@@ -12,7 +12,7 @@ pub struct Named<'t> {
 }
 
 impl<'t> Named<'t> {
-    /// The file of these bytes, by this name.
+    /// The file with this name and these bytes.
     pub fn new(name: &'t str, bytes: &'t [u8]) -> Named<'t>
         ensures name { result.name ≡ name.entry }
         ensures bytes { result.bytes ≡ bytes.entry }
@@ -20,7 +20,8 @@ impl<'t> Named<'t> {
         Named { name, bytes }
     }
 
-    /// The bytes of the line of a number, counted from 1, without its end; none where there is no such line.
+    /// The bytes of the line with a number, without its newline. The first line is 1. Returns `None` if there is no
+    /// such line.
     pub fn line(&self, number: u64) -> Option<&'t [u8]>
         ensures { option_copied result ≡ line_at self.now.bytes.now number }
     {

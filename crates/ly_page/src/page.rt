@@ -19,17 +19,17 @@ use std::fmt::Display;
 use std::io::Write;
 use std::marker::Model;
 
-/// What is said to people, while it is put together. Each method appends what it says of. Once a growth is refused
-/// nothing more is appended, and `finish` tells of it: so whoever says many things asks once.
+/// The text of messages for people, while it is built. Each method appends to it. Once an allocation has failed,
+/// nothing more is appended and `finish` returns an error, so a caller checks for errors once.
 #[derive(Drop)]
 pub struct Page {
     /// The bytes so far.
     text: Vec<u8>,
-    /// Whether all that was said stands there.
+    /// Whether every allocation so far succeeded.
     said: Result<(), OutOfMemory>,
 }
 
-// The bytes so far; nothing where a growth was refused.
+// The bytes so far, or `None` once an allocation failed.
 impl Model for Page {
     ghost use Rattle.std.specs.Prelude.{ℕ, List, Option, Some, None, if◌then◌else◌, is_ok};
 
@@ -49,7 +49,7 @@ impl Page {
         }
     }
 
-    /// The bytes of the page. `OutOfMemory` comes where a growth was refused.
+    /// Returns the bytes of the page, or `OutOfMemory` if an allocation failed.
     pub fn finish(self) -> Result<Vec<u8>, OutOfMemory>
         ensures ok { IfOk result (λ text. self ≡ Some text.items) }
         ensures refused { OnErr result (self ≡ None) }
@@ -59,14 +59,14 @@ impl Page {
         Ok(text)
     }
 
-    /// How many bytes there are, where no growth was refused.
+    /// The number of bytes so far. It means nothing once an allocation failed.
     pub fn len(&self) -> usize
         ensures { IfSome self.now (λ text. result ≡ length text) }
     {
         self.text.len()
     }
 
-    /// Notes a growth that was refused.
+    /// Remembers a failed allocation.
     pub(crate) fn note(&mut self, said: Result<(), AllocError>)
         ensures ok { OnOk said (self.new ≡ self.old) }
         ensures refused { OnErr said (self.new ≡ None) }
@@ -76,7 +76,7 @@ impl Page {
         }
     }
 
-    /// Bytes as they are.
+    /// Appends bytes as they are.
     pub fn say(&mut self, bytes: &[u8])
         ensures { Says self.old bytes.now self.new }
     {
@@ -86,7 +86,7 @@ impl Page {
         }
     }
 
-    /// What is said on another page.
+    /// Appends the text of another page. If an allocation failed there, it counts as failed here.
     pub fn say_page(&mut self, page: Page)
         ensures { SaysMore self.old self.new }
     {
@@ -96,19 +96,19 @@ impl Page {
         }
     }
 
-    /// An empty page, for which room is taken from where it is for this one.
+    /// An empty page with the same allocator.
     pub fn beside(&self) -> Page
         ensures { result ≡ Some [] }
     {
         Page::new(self.allocator())
     }
 
-    /// Where room is taken from.
+    /// The allocator of the page.
     pub(crate) fn allocator(&self) -> Global {
         *self.text.allocator()
     }
 
-    /// A number.
+    /// Appends a number in decimal.
     pub fn say_number(&mut self, number: u64)
         ensures { Says self.old (decimal number) self.new }
     {
@@ -117,7 +117,7 @@ impl Page {
         }
     }
 
-    /// A value as it is printed.
+    /// Appends a value as `Display` prints it.
     pub fn say_words<T: Display>(&mut self, value: &T)
         ensures { SaysPrinted self.old (T.output value.now) self.new }
     {
@@ -127,7 +127,7 @@ impl Page {
         }
     }
 
-    /// A number and what it counts, by its singular or its plural.
+    /// Appends a number and what it counts, in the singular or the plural.
     pub fn say_count(&mut self, count: usize, one: &[u8], many: &[u8])
         ensures { Says self.old (counted count one.now many.now) self.new }
     {
@@ -136,7 +136,7 @@ impl Page {
         self.say(if count == 1 { one } else { many });
     }
 
-    /// A byte as a literal of it is printed.
+    /// Appends a byte in the form of a character literal.
     pub fn say_byte(&mut self, byte: u8)
         ensures { Says self.old (name_of (literal byte)) self.new }
     {
@@ -146,7 +146,7 @@ impl Page {
         }
     }
 
-    /// Bytes as they stand between single quotes.
+    /// Appends bytes in single quotes, escaped.
     pub fn say_quoted(&mut self, bytes: &[u8])
         ensures { Says self.old (quoted_words bytes.now) self.new }
     {
@@ -158,7 +158,7 @@ impl Page {
         self.say(b"'");
     }
 
-    /// Bytes as a JSON string: a text where they are UTF-8, and else each byte as the character of its number.
+    /// Appends bytes as a JSON string: as text if they are UTF-8, else each byte as the character with its number.
     pub fn say_json(&mut self, bytes: &[u8])
         ensures { Says self.old (json_words bytes.now) self.new }
     {
@@ -172,7 +172,7 @@ impl Page {
         }
     }
 
-    /// The name of a file, and a line of it.
+    /// Appends `file:line: `.
     pub fn say_line_of(&mut self, file: Named<'_>, line: u64)
         ensures { Says self.old (line_of file.entry.name.now line) self.new }
     {
@@ -182,7 +182,7 @@ impl Page {
         self.say(b": ");
     }
 
-    /// The name of a file, and a line and a column of it.
+    /// Appends `file:line:column: `.
     pub fn say_location_in(&mut self, file: Named<'_>, at: Location)
         ensures { Says self.old (location_in file.entry.name.now at) self.new }
     {
@@ -194,7 +194,7 @@ impl Page {
         self.say(b": ");
     }
 
-    /// The name of a terminal, as reports have it. A number that no terminal has says nothing.
+    /// Appends the name of a terminal as reports print it. Appends nothing if no terminal has the number.
     pub fn say_terminal(&mut self, spec: &Spec, terminal: Sym)
         ensures { Says self.old (symbol_name spec.now (symbol_at terminal.0)) self.new }
     {
@@ -203,7 +203,7 @@ impl Page {
         }
     }
 
-    /// The name of a terminal that is known by it, as reports have it.
+    /// Appends the name of a terminal that is given by its name, as reports print it.
     pub fn say_terminal_name(&mut self, name: &TerminalName)
         ensures { Says self.old (terminal_name (terminal_from name.now)) self.new }
     {
@@ -213,7 +213,7 @@ impl Page {
         }
     }
 
-    /// The name of a symbol, as reports have it.
+    /// Appends the name of a symbol as reports print it.
     pub fn say_symbol(&mut self, spec: &Spec, symbol: Symbol)
         ensures { Says self.old (symbol_words spec.now (symbol_of symbol)) self.new }
     {
@@ -229,7 +229,7 @@ impl Page {
         }
     }
 
-    /// The names of symbols, a space before each.
+    /// Appends the names of symbols, each after a space.
     pub fn say_symbols(&mut self, spec: &Spec, symbols: &[Symbol])
         ensures { Says self.old (spaced_words spec.now (map symbol_of symbols.now)) self.new }
     {
@@ -239,8 +239,8 @@ impl Page {
         }
     }
 
-    /// The rule of a number, and a dot behind so many symbols of its body if a number of them is given. A number that
-    /// no rule has says nothing.
+    /// Appends the rule with a number, with a dot after the first `dot` symbols of its body if that is given. Appends
+    /// nothing if no rule has the number.
     pub fn say_rule(&mut self, spec: &Spec, rule: usize, dot: Option<usize>)
         ensures { Says self.old (numbered_words spec.now rule dot) self.new }
     {
@@ -251,7 +251,7 @@ impl Page {
         }
     }
 
-    /// The body of a rule, and a dot behind so many symbols of it if a number of them is given.
+    /// Appends the body of a rule, with a dot after its first `dot` symbols if that is given.
     fn say_body(&mut self, spec: &Spec, body: &[Symbol], dot: Option<usize>)
         ensures { Says self.old (body_words spec.now (map symbol_of body.now) dot) self.new }
     {

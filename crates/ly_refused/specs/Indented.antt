@@ -1,18 +1,18 @@
--- The lines among the rules of a lex file that are used for nothing, and aren't empty.
+-- The lines among the rules of a lex file that have no use and aren't empty.
 use Rattle.std.specs.Prelude.{◌≡◌, ◌≢◌, ◌<◌, ℕ, List, [], All, AllPairs, codes}
 use Rattle.std.specs.Str.{IsTrimAscii}
 use Rattle.ly_lexread.specs.Lines.{BeginsWith, kind_of}
 use Rattle.ly_lexread.specs.declared.kind.LineKind.TheVariants.{Unused}
 use Rattle.ly_refused.specs.Lines.{HasMark, IsLine}
 
--- Without the white space round it the line is something, and no comment stands in front.
+-- Without the whitespace around it the line isn't empty, and it doesn't begin with a comment.
 pub record HoldsWords (line : List ℕ) : Type 0 where
   pub words : List ℕ
   pub trimmed : IsTrimAscii line words
   pub some : words ≢ []
   pub no_comment : BeginsWith words (codes "/*") → ⊥
 
--- Line n of the text stands behind one that begins with `%%`. It begins with a blank, and holds words.
+-- Line n of the text is after one that begins with `%%`. It begins with a blank, and contains words.
 pub record IsIndented (text : List ℕ) (n : ℕ) : Type 0 where
   pub line : List ℕ
   pub is : IsLine text n line
@@ -22,7 +22,7 @@ pub record IsIndented (text : List ℕ) (n : ℕ) : Type 0 where
   pub earlier : before < n
   pub mark : HasMark text before
 
--- such are the lines of these numbers, one behind another
+-- the lines with these numbers are such lines, in ascending order
 pub record AreIndented (text : List ℕ) (numbers : List ℕ) : Type 0 where
   pub each : All (IsIndented text) numbers
   pub rising : AllPairs (λ m n. m < n) numbers

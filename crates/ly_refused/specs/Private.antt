@@ -1,2 +1,2 @@
--- What the contracts of private functions cite.
+-- Definitions for the contracts of private functions.
 pub mod Indented

@@ -1,20 +1,20 @@
 use ly_generate::GenFault;
 
-/// What to write instead.
+/// A suggestion for an error.
 #[derive(Drop)]
 pub(crate) enum Advice {
-    /// Nothing is said.
+    /// No suggestion.
     Nothing,
-    /// This.
+    /// Fixed text.
     Words(&'static str),
-    /// This, with names or lines of the file.
+    /// Text with names or lines of the file.
     Made(Vec<u8>),
-    /// A name that is near.
+    /// A similar name.
     Near(Vec<u8>),
 }
 
 impl Advice {
-    /// That behind a fault that has no location.
+    /// The suggestion for an error that has no location.
     pub(crate) fn of_whole(fault: &GenFault) -> Advice {
         match fault {
             GenFault::Positions(_) | GenFault::States(_) => {
@@ -34,7 +34,7 @@ impl Advice {
         }
     }
 
-    /// That behind a fault that a byte-order mark or a CR makes.
+    /// The suggestion for an error that a byte-order mark or a CR causes.
     pub(crate) fn of_marks(byte_order_mark: bool) -> Advice {
         Advice::Words(if byte_order_mark {
             "the file begins with a byte-order mark: leave these three bytes out"
@@ -43,12 +43,12 @@ impl Advice {
         })
     }
 
-    /// Whether nothing is said.
+    /// Whether there is no suggestion.
     pub(crate) fn is_nothing(&self) -> bool {
         matches!(self, Advice::Nothing)
     }
 
-    /// Whether it is the same words, or none.
+    /// Whether both are the same fixed text, or both nothing.
     pub(crate) fn is_like(&self, other: &Advice) -> bool {
         match (self, other) {
             (Advice::Nothing, Advice::Nothing) => true,

@@ -1,4 +1,4 @@
-//! Why two files are refused that read well and go together: their grammar has no end.
+//! Why two files are rejected that are valid and fit together: their grammar doesn't terminate, or derives no text.
 use crate::advice::Advice;
 use crate::roundabout::{Step, derived_alone, is_behind_nothing, without_text};
 use crate::yacc_offsets::{body_offset, start_location};
@@ -14,27 +14,27 @@ use std::alloc::Global;
 /// How many lines or nonterminals are named at most.
 const NAMED: usize = 6;
 
-/// The cause of a fault as it is said.
+/// The cause of an error.
 #[derive(Drop)]
 pub(crate) struct Cause {
-    /// Where it stands in the yacc file, if it has a place.
+    /// The location in the yacc file, if there is one.
     pub(crate) at: Option<Location>,
-    /// What to write instead.
+    /// The suggestion.
     pub(crate) advice: Advice,
 }
 
-/// Two files that are joined.
+/// Two files that were joined.
 #[derive(Drop)]
 struct Joined<'t> {
     /// The bytes of the yacc file.
     text: &'t [u8],
-    /// What it says.
+    /// The yacc file as it was read.
     file: YaccFile,
-    /// What both say.
+    /// The specification of both.
     spec: Spec,
 }
 
-/// The cause of a fault that two files have as a whole.
+/// Finds the cause of an error that isn't in one place of the files.
 pub(crate) fn cause_of(
     alloc: Global,
     lex: &[u8],
@@ -55,7 +55,7 @@ pub(crate) fn cause_of(
     })
 }
 
-/// The cause of a grammar without end, where one is found.
+/// The cause of an error of the grammar, if one is found.
 fn grammar_cause(
     alloc: Global,
     lex: &[u8],
@@ -85,7 +85,7 @@ fn grammar_cause(
 }
 
 impl Joined<'_> {
-    /// The cause of a start symbol that derives no text.
+    /// The cause if the start symbol derives no text.
     fn without_text(&self, alloc: Global) -> Result<Option<Cause>, OutOfMemory> {
         let around = without_text(alloc, self.spec.grammar())?;
         let Some(first) = around.first() else {
@@ -100,7 +100,7 @@ impl Joined<'_> {
         }))
     }
 
-    /// The cause of a parser that reduces without end.
+    /// The cause if the parser reduces without end.
     fn without_end(&self, alloc: Global) -> Result<Option<Cause>, OutOfMemory> {
         let Ok(reduced) = reduce(alloc, self.spec.grammar()) else {
             return Ok(None);
@@ -125,7 +125,7 @@ impl Joined<'_> {
         })
     }
 
-    /// A cause that is the body of a rule.
+    /// A cause whose location is the body of a rule.
     fn cause_in_body(&self, rule: usize, advice: Advice) -> Option<Cause> {
         Some(Cause {
             at: Some(self.body_location(rule)?),
@@ -133,19 +133,19 @@ impl Joined<'_> {
         })
     }
 
-    /// Where the body of a rule begins.
+    /// The location of the body of a rule.
     fn body_location(&self, rule: usize) -> Option<Location> {
         let offset = body_offset(&self.file, self.text, rule.checked_sub(1)?)?;
         Some(locate(self.text, offset))
     }
 
-    /// Where the left side of a rule stands.
+    /// The offset of the left side of a rule.
     fn left_offset(&self, rule: usize) -> Option<usize> {
         let offsets = self.file.rule_offsets.get(rule.checked_sub(1)?)?;
         Some(offsets.left as usize)
     }
 
-    /// That each of these nonterminals needs the next one, and the last the first.
+    /// Text: each of these nonterminals needs the next one, and the last one the first.
     fn needs(&self, alloc: Global, around: &[Step]) -> Result<Vec<u8>, OutOfMemory> {
         let mut page = Page::new(alloc);
         if let [step] = around {
@@ -171,7 +171,7 @@ impl Joined<'_> {
         page.finish()
     }
 
-    /// That a nonterminal derives itself by the rules of these steps.
+    /// Text: a nonterminal derives itself by the rules of these steps.
     fn derives_itself(&self, alloc: Global, around: &[Step]) -> Result<Vec<u8>, OutOfMemory> {
         let mut page = Page::new(alloc);
         let least = around.iter().map(|step| step.rule).min().unwrap_or(0);
@@ -186,7 +186,7 @@ impl Joined<'_> {
         page.finish()
     }
 
-    /// The lines on which the bodies of these steps' rules begin, each once, in order.
+    /// The lines on which the bodies of these steps' rules begin, each once, in ascending order.
     fn lines(&self, alloc: Global, around: &[Step]) -> Result<Vec<u64>, OutOfMemory> {
         let mut lines = Vec::new(alloc);
         for step in around {
@@ -207,7 +207,7 @@ impl Joined<'_> {
         }
     }
 
-    /// Says the name of a nonterminal.
+    /// Appends the name of a nonterminal.
     fn say_name(&self, page: &mut Page, number: Sym) {
         page.say(b"`");
         page.say_symbol(&self.spec, Symbol::Nonterminal(number));
@@ -215,7 +215,7 @@ impl Joined<'_> {
     }
 }
 
-/// Says lines of which rules are named.
+/// Appends the lines of the rules that are named.
 fn say_lines(page: &mut Page, lines: &[u64]) {
     page.say(if lines.len() == 1 {
         b"the rules of line "

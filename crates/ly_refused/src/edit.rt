@@ -1,19 +1,19 @@
 use ly_base::OutOfMemory;
 use std::alloc::Global;
 
-/// A change of a text that mends a fault: bytes of it are replaced.
+/// A change of a text that fixes an error: bytes are replaced.
 #[derive(Clone, Copy)]
 pub(crate) struct Edit {
-    /// The offset of the first of them.
+    /// The offset of the first replaced byte.
     pub(crate) from: usize,
-    /// The offset behind the last.
+    /// The offset after the last replaced byte.
     pub(crate) to: usize,
-    /// What stands there then, with blanks behind it.
+    /// The replacement. Blanks fill it up to the length of the replaced bytes.
     pub(crate) by: &'static [u8],
 }
 
 impl Edit {
-    /// So many bytes from an offset on are blanked out, one at least.
+    /// Replaces this many bytes, at least one, with blanks.
     pub(crate) fn blank(from: usize, length: usize) -> Edit {
         Edit {
             from,
@@ -22,7 +22,7 @@ impl Edit {
         }
     }
 
-    /// So many bytes from an offset on are replaced.
+    /// Replaces this many bytes with others.
     pub(crate) fn replace(from: usize, length: usize, by: &'static [u8]) -> Edit {
         Edit {
             from,
@@ -31,7 +31,8 @@ impl Edit {
         }
     }
 
-    /// The text behind the change. What stands behind it stays where it is, but where more bytes come than there are.
+    /// Returns the changed text. The bytes after the change keep their offsets, unless the replacement is longer than
+    /// what it replaces.
     pub(crate) fn applied(&self, alloc: Global, text: &[u8]) -> Result<Vec<u8>, OutOfMemory> {
         let (before, rest) = text.split_at(self.from.min(text.len()));
         let length = self.to.saturating_sub(self.from);
@@ -46,7 +47,7 @@ impl Edit {
     }
 }
 
-/// Adds texts, one behind another.
+/// Appends texts, one after another.
 pub(crate) fn push_all(text: &mut Vec<u8>, parts: &[&[u8]]) -> Result<(), OutOfMemory> {
     for part in parts {
         text.extend_from_slice(part)?;
@@ -54,7 +55,7 @@ pub(crate) fn push_all(text: &mut Vec<u8>, parts: &[&[u8]]) -> Result<(), OutOfM
     Ok(())
 }
 
-/// A text that another one became; none where it is the same.
+/// The changed text, or `None` if it is the same as before.
 pub(crate) fn if_changed(text: &[u8], next: Vec<u8>) -> Option<Vec<u8>> {
     if next.as_slice() == text {
         None

@@ -1,28 +1,28 @@
-//! Files that stand in each other's place.
+//! Lex and yacc files that are swapped on the command line.
 use ly_base::{Limits, OutOfMemory};
 use ly_lexread::{LexFault, read_lex};
 use ly_page::{MARGIN, Named, Page};
 use ly_yaccread::{YaccFault, read_yacc};
 use std::alloc::Global;
 
-/// What the words are that files in each other's place are told by.
+/// The messages for swapped files.
 pub(crate) const READS_AS_YACC: &[u8] = b"this reads as a yacc file";
 
 pub(crate) const READS_AS_LEX: &[u8] = b"this reads as a lex file";
 
 pub(crate) const ARE_EXCHANGED: &[u8] = b"are both exchanged? the lex file comes first";
 
-/// Files that seem to stand in each other's place.
+/// The signs that two files are swapped.
 #[derive(Clone, Copy)]
 pub(crate) struct Exchange {
-    /// Whether the first one reads as a yacc file.
+    /// Whether the first file is a valid yacc file.
     pub(crate) first_is_yacc: bool,
-    /// Whether the second one reads as a lex file.
+    /// Whether the second file is a valid lex file.
     pub(crate) second_is_lex: bool,
 }
 
-/// How both files seem to be exchanged, where neither is what it stands for and one of them is what the other stands
-/// for.
+/// Returns whether both files seem to be swapped: neither is valid as what it is given for, and at least one is valid
+/// as the other.
 pub(crate) fn exchange_of(
     alloc: Global,
     lex: &[u8],
@@ -43,8 +43,8 @@ pub(crate) fn exchange_of(
     }
 }
 
-/// Whether both files are exchanged beyond doubt: the first one reads as a yacc file. Much that is none reads as a lex
-/// file, so the second one alone doesn't say so.
+/// Whether the files are swapped for sure: the first one is a valid yacc file. Many texts that are no lex files are
+/// valid as one, so the second file alone doesn't prove it.
 pub(crate) fn is_certain(exchange: Option<Exchange>) -> bool {
     match exchange {
         Some(exchange) => exchange.first_is_yacc,
@@ -52,7 +52,7 @@ pub(crate) fn is_certain(exchange: Option<Exchange>) -> bool {
     }
 }
 
-/// Says that both files seem to be exchanged.
+/// Appends that both files seem to be swapped.
 pub(crate) fn say_exchange(page: &mut Page, lex: Named<'_>, yacc: Named<'_>, exchange: Exchange) {
     if exchange.first_is_yacc {
         say_of_file(page, lex, READS_AS_YACC);
@@ -65,7 +65,7 @@ pub(crate) fn say_exchange(page: &mut Page, lex: Named<'_>, yacc: Named<'_>, exc
     page.say(b"\n");
 }
 
-/// Says words of a file on a line.
+/// Appends a message about a file on its own line.
 fn say_of_file(page: &mut Page, file: Named<'_>, words: &[u8]) {
     page.say(file.name.as_bytes());
     page.say(b": ");
@@ -73,7 +73,7 @@ fn say_of_file(page: &mut Page, file: Named<'_>, words: &[u8]) {
     page.say(b"\n");
 }
 
-/// Whether bytes are those of a lex file.
+/// Whether bytes are a valid lex file.
 fn is_lex(alloc: Global, bytes: &[u8], limits: &Limits) -> Result<bool, OutOfMemory> {
     match read_lex(alloc, bytes, limits) {
         Ok(_) => Ok(true),
@@ -82,7 +82,7 @@ fn is_lex(alloc: Global, bytes: &[u8], limits: &Limits) -> Result<bool, OutOfMem
     }
 }
 
-/// Whether bytes are those of a yacc file.
+/// Whether bytes are a valid yacc file.
 fn is_yacc(alloc: Global, bytes: &[u8]) -> Result<bool, OutOfMemory> {
     match read_yacc(alloc, bytes) {
         Ok(_) => Ok(true),

@@ -13,9 +13,9 @@ use ly_generate::GenFault;
 use ly_page::{Named, Page};
 use std::alloc::Global;
 
-/// Says the faults of two files that are refused for this one: all that can be told apart, or else this one.
+/// Appends the errors of two files that are rejected with this error: all independent ones, or else this one.
 ///
-/// `OutOfMemory` comes where a growth was refused that wasn't the page's; the page stays as it was then.
+/// Returns `OutOfMemory` if an allocation outside the page fails. Then the page is unchanged.
 pub fn say_faults(
     alloc: Global,
     page: &mut Page,
@@ -32,9 +32,9 @@ pub fn say_faults(
     Ok(())
 }
 
-/// Says the faults of a lex file that is refused for this one: all that can be told apart, or else this one.
+/// Appends the errors of a lex file that is rejected with this error: all independent ones, or else this one.
 ///
-/// `OutOfMemory` comes where a growth was refused that wasn't the page's; the page stays as it was then.
+/// Returns `OutOfMemory` if an allocation outside the page fails. Then the page is unchanged.
 pub fn say_lex_faults(
     alloc: Global,
     page: &mut Page,
@@ -52,7 +52,7 @@ pub fn say_lex_faults(
     Ok(())
 }
 
-/// The faults of two files, as they are said, or that both are exchanged, or both of these.
+/// A page with the errors of two files, or that both seem to be swapped, or both of these.
 fn told_faults(
     alloc: Global,
     lex: Named<'_>,
@@ -72,7 +72,7 @@ fn told_faults(
     page.finish()
 }
 
-/// The faults that are found in two files, as they are said, or else this one.
+/// A page with the errors found in two files, or else this one.
 fn told(
     alloc: Global,
     lex: Named<'_>,
@@ -91,7 +91,7 @@ fn told(
     page.finish()
 }
 
-/// What is found in the bytes of both files.
+/// Finds the errors in the bytes of both files.
 pub(crate) fn findings_in(
     alloc: Global,
     lex: &[u8],

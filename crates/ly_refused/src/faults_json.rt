@@ -14,10 +14,10 @@ use ly_generate::GenFault;
 use ly_page::{Named, Page};
 use std::alloc::Global;
 
-/// Says the faults of two files that are refused for this one, as members of a JSON object: the list of all that can be
-/// told apart, or else of this one, and whether there may be more.
+/// Appends the errors of two files that are rejected with this error, as members of a JSON object: the list of all
+/// independent ones, or else of this one, and whether there may be more.
 ///
-/// `OutOfMemory` comes where a growth was refused that wasn't the page's; the page stays as it was then.
+/// Returns `OutOfMemory` if an allocation outside the page fails. Then the page is unchanged.
 pub fn say_json_faults(
     alloc: Global,
     page: &mut Page,
@@ -34,7 +34,7 @@ pub fn say_json_faults(
     Ok(())
 }
 
-/// The faults of two files as JSON.
+/// A page with the errors of two files as JSON.
 fn told_faults(
     alloc: Global,
     lex: Named<'_>,
@@ -68,7 +68,7 @@ fn told_faults(
     page.finish()
 }
 
-/// Says the faults that are found.
+/// Appends the errors that were found.
 fn say_findings(page: &mut Page, lex: Named<'_>, yacc: Named<'_>, findings: &Findings) {
     for (place, found) in findings.list().iter().enumerate() {
         page.say(if place > 0 { b"," } else { b"" });
@@ -76,7 +76,7 @@ fn say_findings(page: &mut Page, lex: Named<'_>, yacc: Named<'_>, findings: &Fin
     }
 }
 
-/// Says that both files seem to be exchanged.
+/// Appends that both files seem to be swapped.
 fn say_exchange(page: &mut Page, lex: Named<'_>, yacc: Named<'_>, exchange: Exchange) {
     if exchange.first_is_yacc {
         say_exchanged(page, lex, READS_AS_YACC);
@@ -89,7 +89,7 @@ fn say_exchange(page: &mut Page, lex: Named<'_>, yacc: Named<'_>, exchange: Exch
     }
 }
 
-/// Says of a file that it stands in the place of the other one.
+/// Appends that a file seems to be the other one.
 fn say_exchanged(page: &mut Page, file: Named<'_>, words: &[u8]) {
     say_place(page, file, None);
     page.say(b",\"number\":null,\"name\":\"ExchangedFiles\",\"what\":null");
@@ -100,8 +100,7 @@ fn say_exchanged(page: &mut Page, file: Named<'_>, words: &[u8]) {
     page.say(b"}");
 }
 
-/// Says a fault as an object: where it stands, its number and its name, what is at fault, what it is, and what to write
-/// instead.
+/// Appends an error as an object: its location, its number and name, what it is about, its message, and the suggestion.
 fn say_fault(
     page: &mut Page,
     lex: Named<'_>,
@@ -140,7 +139,7 @@ fn say_fault(
     page.say(b"}");
 }
 
-/// Says how an object begins: the file, and where something stands in it, if it has a place.
+/// Appends the start of an object: the file, and the location in it, if there is one.
 fn say_place(page: &mut Page, file: Named<'_>, at: Option<Location>) {
     page.say(b"{\"file\":");
     page.say_json(file.name.as_bytes());

@@ -3,33 +3,35 @@ use ly_base::{Location, OutOfMemory};
 use ly_generate::GenFault;
 use std::alloc::Global;
 
-/// How many faults of a file are said, or of both together, and how often it is mended to find them.
+/// How many errors of one file, or of both together, are printed at most. It also limits how often a file is fixed to
+/// find them.
 pub(crate) const MOST: usize = 20;
 
-/// A fault that is found, as it is said.
+/// An error that was found.
 #[derive(Drop)]
 pub(crate) struct Finding {
-    /// The fault.
+    /// The error.
     pub(crate) fault: GenFault,
-    /// Where it stands.
+    /// The location.
     pub(crate) at: Location,
-    /// What to write instead.
+    /// The suggestion.
     pub(crate) advice: Advice,
 }
 
-/// The faults that are found, in the order of the files and their lines.
+/// The errors that were found: first those of the lex file, then those of the yacc file, each in the order of lines,
+/// then those of both together.
 #[derive(Drop)]
 pub(crate) struct Findings {
-    /// The faults.
+    /// The errors.
     list: Vec<Finding>,
-    /// How many more are said of the file that is read.
+    /// How many more errors may be added for the file that is being read.
     room: usize,
-    /// Whether there may be more than these.
+    /// Whether there may be more errors than these.
     more: bool,
 }
 
 impl Findings {
-    /// None so far.
+    /// No errors so far.
     pub(crate) fn new(alloc: Global) -> Findings {
         Findings {
             list: Vec::new(alloc),
@@ -38,32 +40,32 @@ impl Findings {
         }
     }
 
-    /// Those of the next file, or of both together, follow.
+    /// Begins with the next file, or with both together.
     pub(crate) fn begin_next(&mut self) {
         self.room = MOST;
     }
 
-    /// Whether none is found.
+    /// Whether no error was found.
     pub(crate) fn is_empty(&self) -> bool {
         self.list.is_empty()
     }
 
-    /// Whether there may be more than these.
+    /// Whether there may be more errors than these.
     pub(crate) fn has_more(&self) -> bool {
         self.more
     }
 
-    /// Notes that there may be more than these.
+    /// Notes that there may be more errors than these.
     pub(crate) fn note_more(&mut self) {
         self.more = true;
     }
 
-    /// The faults.
+    /// The errors.
     pub(crate) fn list(&self) -> &[Finding] {
         &self.list
     }
 
-    /// Adds a fault, but none for which the same has been said on its line, and none behind the most.
+    /// Adds an error, unless its line has the same one already or the maximum is reached.
     pub(crate) fn add(&mut self, finding: Finding) -> Result<(), OutOfMemory> {
         if self.has(&finding) {
             return Ok(());
@@ -80,7 +82,7 @@ impl Findings {
         }
     }
 
-    /// Whether the same has been said on its line.
+    /// Whether the line has the same error already.
     fn has(&self, finding: &Finding) -> bool {
         for found in &self.list {
             if found.is_like(finding) {
@@ -92,7 +94,7 @@ impl Findings {
 }
 
 impl Finding {
-    /// Whether the same fault of one file is said of the same line.
+    /// Whether both are the same error of one file on the same line.
     fn is_like(&self, other: &Finding) -> bool {
         let number = number_in_file(&self.fault);
         self.at.line == other.at.line
@@ -102,7 +104,7 @@ impl Finding {
     }
 }
 
-/// The number of a fault that one of both files has; none of any other.
+/// The number of an error in one of the files; `None` for any other error.
 fn number_in_file(fault: &GenFault) -> Option<u8> {
     match fault {
         GenFault::Lex(fault) => fault.number(),

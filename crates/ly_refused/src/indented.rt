@@ -6,9 +6,8 @@ use crate::lex_units::{Kind, Unit, Units};
 use ly_lexread::first_line;
 use std::alloc::{AllocError, Global};
 
-/// The lines among the rules of a lex file that begin with a blank, and hold something else than blanks and comments:
-/// their numbers, of which each is greater than the one before it. Left out are those that belong to an action or to a
-/// block.
+/// The numbers of the indented lines among the rules of a lex file, in ascending order. These begin with a blank and
+/// contain more than blanks and comments. Lines of an action or a block are left out.
 pub fn indented_lines(alloc: Global, text: &[u8]) -> Result<Vec<u64>, AllocError>
     ensures { IfOk result (λ found. AreIndented text.now found.items) }
 {
@@ -33,17 +32,17 @@ pub fn indented_lines(alloc: Global, text: &[u8]) -> Result<Vec<u64>, AllocError
     Ok(indented.numbers)
 }
 
-/// The lines that are found, as far as the rules were looked at.
+/// The lines found so far.
 #[derive(Drop)]
 pub(crate) struct Indented {
     /// Their numbers.
     pub(crate) numbers: Vec<u64>,
-    /// Whether a comment is open that the last of them begins.
+    /// Whether the last of them begins a comment that is still open.
     pub(crate) in_comment: bool,
 }
 
 impl Indented {
-    /// Adds the line that begins a unit, where it isn't used, and holds something else than blanks and comments.
+    /// Adds the first line of a unit, if it has no use and contains more than blanks and comments.
     fn add(&mut self, unit: Unit, line: &[u8]) -> Result<(), AllocError>
         ensures { OnOk result (IsAdded self.old.numbers.items unit line.now self.new.numbers.items) }
     {

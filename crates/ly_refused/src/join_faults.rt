@@ -18,23 +18,23 @@ use ly_yaccread::{SymbolName, WordSpan, YaccFile, word_spans};
 use std::alloc::Global;
 use std::rc::RcSlice;
 
-/// Two files that are joined in short again each time that a fault is mended in the second.
+/// Two files that are joined again in reduced form each time an error is fixed in the second one.
 #[derive(Drop)]
 struct Joining<'a> {
     /// The lex file.
     lex: &'a MendedLex,
     /// The yacc file.
     yacc: &'a MendedYacc,
-    /// Where the words of the yacc file stand.
+    /// The spans of the words of the yacc file.
     words: Vec<WordSpan>,
-    /// Both in short, as far as they are mended.
+    /// The reduced form of both, with the fixes so far.
     short: Short<'a>,
-    /// The names of which a fault was said.
+    /// The names that an error was reported for.
     said: Vec<Vec<u8>>,
 }
 
-/// Finds the faults of both files together: each is mended in what the yacc file says, and the files are joined again.
-/// Of a name the first fault alone is said.
+/// Finds the errors of both files together. Each is fixed in what was read of the yacc file, and the files are joined
+/// again. Only the first error of a name is reported.
 pub(crate) fn find_join_faults(
     alloc: Global,
     findings: &mut Findings,
@@ -53,7 +53,7 @@ pub(crate) fn find_join_faults(
 }
 
 impl Joining<'_> {
-    /// Finds the faults that are left, and mends them.
+    /// Finds the remaining errors and fixes them.
     fn find_faults(
         &mut self,
         alloc: Global,
@@ -71,7 +71,7 @@ impl Joining<'_> {
         Ok(())
     }
 
-    /// The first fault that is left, in short. That there are no rules is one only where no other was found.
+    /// The first remaining error in reduced form. That there are no rules is an error only if no other was found.
     fn next_fault(
         &self,
         alloc: Global,
@@ -86,7 +86,7 @@ impl Joining<'_> {
         }
     }
 
-    /// Adds a fault in short to what is found, if none of its name was, and mends it.
+    /// Adds an error in reduced form, unless its name has one already, and fixes it.
     fn take(
         &mut self,
         alloc: Global,
@@ -106,7 +106,8 @@ impl Joining<'_> {
         }
     }
 
-    /// Notes that a fault of its name is said, and answers the advice behind it; none where one was before.
+    /// Notes that an error of its name is reported, and returns the suggestion for it. Returns `None` if the name has
+    /// an error already.
     fn note(&mut self, alloc: Global, fault: &JoinFault) -> Result<Option<Advice>, OutOfMemory> {
         let name = Vec::from_slice(alloc, name_of(fault))?;
         let is_new = !self.said.contains(&name);
@@ -120,7 +121,7 @@ impl Joining<'_> {
         Ok(Some(join_advice(alloc, fault, &self.yacc.file, &self.said)?))
     }
 
-    /// The advice for a terminal that has two precedences: where it has the first.
+    /// The suggestion for a terminal that has two precedences: the line of the first one.
     fn leave_one_out(&self, alloc: Global, terminal: &TerminalName) -> Result<Advice, OutOfMemory> {
         let Some(offset) = given_offset(&self.yacc.file, terminal, 0) else {
             return Ok(Advice::Nothing);
@@ -131,7 +132,7 @@ impl Joining<'_> {
         Ok(Advice::Made(page.finish()?))
     }
 
-    /// Where a fault stands: in front of the file where what it names is not found.
+    /// The location of an error. It is the start of the file if the symbol that the error names isn't found.
     fn location(&self, fault: &JoinFault) -> Location {
         let found = match fault {
             JoinFault::ReturnUndeclared(name) => returned_location(self.lex, name),
@@ -141,7 +142,7 @@ impl Joining<'_> {
     }
 }
 
-/// The name of a symbol that a fault names; nothing where it names none.
+/// The name of the symbol that an error names; empty if it names none.
 fn name_of(fault: &JoinFault) -> &[u8] {
     match fault {
         JoinFault::UndefinedSymbol(name)
@@ -153,7 +154,7 @@ fn name_of(fault: &JoinFault) -> &[u8] {
     }
 }
 
-/// Where the first rule of a lex file that returns a name by an action of its own has it.
+/// The location of a name in the first rule of a lex file whose own action returns it.
 fn returned_location(lex: &MendedLex, name: &[u8]) -> Option<Location> {
     for (action, start) in lex.actions.iter().zip(lex.rule_starts.iter()) {
         let rule = from_offset(&lex.text, *start);
@@ -174,7 +175,7 @@ fn returns(action: &LexAction, name: &[u8]) -> bool {
     }
 }
 
-/// What an action has from the name on that it returns.
+/// The rest of an action from the name on that it returns.
 fn returned_in<'t>(action: &'t [u8], name: &[u8]) -> Option<&'t [u8]> {
     let mut rest = action;
     for _ in 0..action.len() {
@@ -188,7 +189,7 @@ fn returned_in<'t>(action: &'t [u8], name: &[u8]) -> Option<&'t [u8]> {
     None
 }
 
-/// What a `return` at the front returns: what stands behind it, blanks, comments and an open parenthesis.
+/// What follows a `return` at the start, and blanks, comments and an open parenthesis after it.
 fn behind_return(text: &[u8]) -> Option<&[u8]> {
     if !ends_behind(text, b"return") {
         return None;
@@ -208,7 +209,7 @@ fn ends_behind(text: &[u8], name: &[u8]) -> bool {
     }
 }
 
-/// Whether a text goes on with a byte of a name.
+/// Whether a text continues with a byte that names may have.
 fn goes_on(text: &[u8]) -> bool {
     match text.first() {
         Some(byte) => Language::Lex.continues_name(*byte),
@@ -216,7 +217,7 @@ fn goes_on(text: &[u8]) -> bool {
     }
 }
 
-/// The advice behind a fault of both files.
+/// The suggestion for an error of both files.
 fn join_advice(
     alloc: Global,
     fault: &JoinFault,
@@ -231,7 +232,7 @@ fn join_advice(
     }
 }
 
-/// Whether a name is one of which a fault was said.
+/// Whether a name has an error already.
 fn is_said(said: &[Vec<u8>], name: &[u8]) -> bool {
     for other in said {
         if other.as_slice() == name {
@@ -241,7 +242,7 @@ fn is_said(said: &[Vec<u8>], name: &[u8]) -> bool {
     false
 }
 
-/// The names of which one may be meant where a fault names another.
+/// The names that may be meant by the name of an error.
 fn names_for<'t>(
     alloc: Global,
     fault: &JoinFault,
@@ -276,7 +277,7 @@ fn push_left_sides<'t>(names: &mut Vec<&'t [u8]>, file: &'t YaccFile) -> Result<
     Ok(())
 }
 
-/// Adds the names that the declarations of a yacc file name.
+/// Adds the names in the declarations of a yacc file.
 fn push_tokens<'t>(names: &mut Vec<&'t [u8]>, file: &'t YaccFile) -> Result<(), OutOfMemory> {
     for declaration in &file.declarations {
         for symbol in &declaration.symbols {
@@ -288,7 +289,7 @@ fn push_tokens<'t>(names: &mut Vec<&'t [u8]>, file: &'t YaccFile) -> Result<(), 
     Ok(())
 }
 
-/// The advice where no name is near.
+/// The suggestion if there is no similar name.
 fn words_for(fault: &JoinFault) -> Advice {
     Advice::Words(match fault {
         JoinFault::UndefinedSymbol(_) => "declare it by `%token`, or write a rule for it",

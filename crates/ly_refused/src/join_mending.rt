@@ -1,11 +1,11 @@
-//! How a fault of both files is mended in what the yacc file says, so that the others can be found.
+//! Fixes errors of both files in what was read of the yacc file, so that the others can be found.
 use ly_base::OutOfMemory;
 use ly_join::{JoinFault, TerminalName};
 use ly_yaccread::{Declaration, DeclarationKind, SymbolName, YaccFile};
 use std::alloc::Global;
 
-/// Mends a fault: a name that is unknown is a token then, a left side is none, a precedence is given once, and a start
-/// symbol or a `%prec` that is unknown is left out.
+/// Fixes an error. An unknown name becomes a token. A name that must not be a token loses its declarations. A second
+/// precedence is removed. An unknown start symbol or `%prec` is removed.
 pub(crate) fn mend(
     alloc: Global,
     file: &mut YaccFile,
@@ -35,14 +35,14 @@ fn declare(alloc: Global, file: &mut YaccFile, name: &[u8]) -> Result<(), OutOfM
     Ok(())
 }
 
-/// Leaves a name out of all declarations.
+/// Removes a name from all declarations.
 fn undeclare(file: &mut YaccFile, name: &[u8]) {
     for declaration in &mut file.declarations {
         declaration.symbols.retain(|symbol| !is_name(symbol, name));
     }
 }
 
-/// Leaves out each `%prec` that names a name.
+/// Removes each `%prec` with a name.
 fn leave_out_precedence(file: &mut YaccFile, name: &[u8]) {
     for rule in &mut file.rules {
         if let Some(symbol) = &rule.precedence
@@ -53,7 +53,7 @@ fn leave_out_precedence(file: &mut YaccFile, name: &[u8]) {
     }
 }
 
-/// Leaves a terminal out of all declarations that give it a precedence but the first.
+/// Removes a terminal from all declarations that give it a precedence but the first.
 fn give_once(file: &mut YaccFile, terminal: &TerminalName) {
     let mut given = false;
     for declaration in &mut file.declarations {

@@ -1,4 +1,4 @@
-//! What to write in place of what a lex file is refused for.
+//! Suggestions for the errors of a lex file.
 use crate::advice::Advice;
 use crate::lex_names::{defined_names, known_conditions};
 use crate::lex_units::{Kind, Unit, action_start, first_line};
@@ -9,7 +9,7 @@ use ly_ere::EreFaultKind;
 use ly_lexread::LexFaultKind;
 use std::alloc::Global;
 
-/// The advice behind a fault, by its location in a text and what that belongs to.
+/// The suggestion for an error, by its location in a text and the unit there.
 pub(crate) fn lex_advice(
     alloc: Global,
     text: &[u8],
@@ -42,7 +42,7 @@ pub(crate) fn lex_advice(
     })
 }
 
-/// The advice for a line of a form of flex that POSIX has not.
+/// The suggestion for a line with a flex extension that POSIX doesn't have.
 fn form_of_flex(unit: Unit, line: &[u8]) -> Option<&'static str> {
     if line.starts_with(b"//") {
         return Some("comments are `/* .. */`: among the rules they stand behind a blank");
@@ -72,7 +72,7 @@ fn form_of_flex(unit: Unit, line: &[u8]) -> Option<&'static str> {
     None
 }
 
-/// The advice for what has another meaning elsewhere, of a line of which so many bytes stand before what is at fault.
+/// The suggestion for what has another meaning in other tools. `before` bytes of the line precede the error.
 fn form_of_others(kind: LexFaultKind, line: &[u8], before: usize) -> Option<&'static str> {
     match kind {
         LexFaultKind::Pattern(EreFaultKind::BadInterval | EreFaultKind::UnknownName)
@@ -90,7 +90,7 @@ fn form_of_others(kind: LexFaultKind, line: &[u8], before: usize) -> Option<&'st
     }
 }
 
-/// Whether a text ends with a backslash that stands for no backslash, and the letter of a number behind it.
+/// Whether a text ends with an escaped letter that begins a number: an unescaped backslash and the letter.
 fn ends_with_escape(text: &[u8]) -> bool {
     let mut escaped = false;
     let mut ends = false;
@@ -101,13 +101,13 @@ fn ends_with_escape(text: &[u8]) -> bool {
     ends
 }
 
-/// Whether a line begins as one with conditions does: with a name or `0` behind the `<`.
+/// Whether a line begins like one with start conditions: with a name or `0` after the `<`.
 fn opens_list(line: &[u8]) -> bool {
     let behind = from_offset(line, 1);
     behind.starts_with(b"0") || leading_name(behind, Language::Lex).is_some()
 }
 
-/// The advice for an option.
+/// The suggestion for an option.
 fn option_advice(line: &[u8]) -> &'static str {
     let caseless: [&[u8]; 2] = [b"case-insensitive", b"caseless"];
     if caseless.iter().any(|word| offset_of(line, word).is_some()) {
@@ -117,7 +117,7 @@ fn option_advice(line: &[u8]) -> &'static str {
     }
 }
 
-/// Whether a brace that opens is the last of a line but for blanks.
+/// Whether a line ends with an open brace, perhaps followed by blanks.
 fn ends_with_brace(line: &[u8]) -> bool {
     let mut ends = false;
     for byte in line {
@@ -128,7 +128,7 @@ fn ends_with_brace(line: &[u8]) -> bool {
     ends
 }
 
-/// The name of a definition that is near to one in braces.
+/// The name of a definition that is similar to one in braces.
 fn near_name(alloc: Global, text: &[u8], rest: &[u8]) -> Result<Option<Advice>, OutOfMemory> {
     let Some((name, _)) = leading_name(from_offset(rest, 1), Language::Lex) else {
         return Ok(None);
@@ -140,7 +140,7 @@ fn near_name(alloc: Global, text: &[u8], rest: &[u8]) -> Result<Option<Advice>, 
     })
 }
 
-/// The name of a condition that is near to one in front of a rule, or behind BEGIN.
+/// The name of a start condition that is similar to one before a rule, or after BEGIN.
 fn near_condition(alloc: Global, text: &[u8], rest: &[u8]) -> Result<Option<Advice>, OutOfMemory> {
     let known = known_conditions(alloc, text)?;
     match nearest(alloc, unknown_in(rest, &known), &known)? {
@@ -149,8 +149,7 @@ fn near_condition(alloc: Global, text: &[u8], rest: &[u8]) -> Result<Option<Advi
     }
 }
 
-/// The first name in a list that is no condition that is known; an empty one, to which no name is near, where there is
-/// none.
+/// The first name in a list that is no known condition. If there is none, an empty one, which has no similar name.
 fn unknown_in<'t>(list: &'t [u8], known: &[&[u8]]) -> &'t [u8] {
     for word in list.split(|byte| !Language::Lex.continues_name(*byte)) {
         if is_unknown(word, known) {
@@ -160,13 +159,13 @@ fn unknown_in<'t>(list: &'t [u8], known: &[&[u8]]) -> &'t [u8] {
     b""
 }
 
-/// Whether a word is the name of a condition that isn't known.
+/// Whether a word is the name of an unknown condition.
 fn is_unknown(word: &[u8], known: &[&[u8]]) -> bool {
     let is_name = !word.is_empty() && word != b"BEGIN".as_slice() && word != b"0".as_slice();
     is_name && !known.contains(&word)
 }
 
-/// The advice for a fault of POSIX's forms, of a line of which so many bytes stand before what is at fault.
+/// The suggestion for an error in a POSIX form. `before` bytes of the line precede the error.
 fn words_for(unit: Unit, kind: LexFaultKind, line: &[u8], before: usize) -> &'static str {
     let rest = from_offset(line, before);
     match kind {
@@ -185,7 +184,7 @@ fn words_for(unit: Unit, kind: LexFaultKind, line: &[u8], before: usize) -> &'st
     }
 }
 
-/// Whether an interval stands in front whose first count is the greater one.
+/// Whether a text begins with an interval whose first count is greater than the second.
 fn is_turned(rest: &[u8]) -> bool {
     let Some((first, behind)) = leading_count(rest.strip_prefix(b"{").unwrap_or(rest)) else {
         return false;
@@ -196,7 +195,8 @@ fn is_turned(rest: &[u8]) -> bool {
     }
 }
 
-/// The number in front of a text, and what stands behind it; none where none of three digits or fewer is there.
+/// The number at the start of a text, and what follows it. `None` if there is none, or if it has more than three
+/// digits.
 fn leading_count(text: &[u8]) -> Option<(u32, &[u8])> {
     let digits = text.iter().take_while(|byte| byte.is_ascii_digit()).count();
     if digits == 0 || digits > 3 {
@@ -211,12 +211,12 @@ fn leading_count(text: &[u8]) -> Option<(u32, &[u8])> {
     Some((count, text.get(digits..)?))
 }
 
-/// Whether the byte of a line behind so many is the `?` of a group with options, as `(?i:`.
+/// Whether the byte of a line at this offset is the `?` of a group with options, like `(?i:`.
 fn opens_options(line: &[u8], before: usize) -> bool {
     from_offset(line, before.saturating_sub(1)).starts_with(b"(?")
 }
 
-/// The advice for what is no definition.
+/// The suggestion for an invalid definition.
 fn definition_advice(unit: Unit, line: &[u8], rest: &[u8]) -> &'static str {
     match unit.kind {
         Kind::Block => "close the block with a line `%}`",
@@ -234,7 +234,7 @@ fn definition_advice(unit: Unit, line: &[u8], rest: &[u8]) -> &'static str {
     }
 }
 
-/// The advice for what is no action.
+/// The suggestion for an invalid action.
 fn action_advice(line: &[u8]) -> &'static str {
     if offset_of(line, b"_state").is_some() {
         return "conditions have no stack: `BEGIN NAME;` sets one";
@@ -265,7 +265,7 @@ fn action_advice(line: &[u8]) -> &'static str {
     "write `return NAME;`, `return 'c';`, `return yytext[0];`, `BEGIN NAME;`, `|` or nothing: lytab's actions are not C"
 }
 
-/// Whether a `return` stands in an action, and no `;` behind it.
+/// Whether an action has a `return` without a `;` after it.
 fn ends_open(action: &[u8]) -> bool {
     match offset_of(action, b"return") {
         Some(offset) => !from_offset(action, offset).contains(&b';'),
@@ -273,7 +273,7 @@ fn ends_open(action: &[u8]) -> bool {
     }
 }
 
-/// The advice for what is no pattern.
+/// The suggestion for an invalid pattern.
 fn pattern_advice(kind: EreFaultKind) -> &'static str {
     match kind {
         EreFaultKind::Empty => "a string of no byte is `\"\"`; a rule begins with its pattern",
@@ -302,7 +302,7 @@ fn pattern_advice(kind: EreFaultKind) -> &'static str {
     }
 }
 
-/// The offset in a line at which bytes stand first.
+/// The offset in a line at which bytes occur first.
 fn offset_of(line: &[u8], bytes: &[u8]) -> Option<usize> {
     for offset in 0..line.len() {
         if from_offset(line, offset).starts_with(bytes) {

@@ -11,19 +11,19 @@ use ly_generate::GenFault;
 use ly_lexread::{LexAction, LexFault, LexFaultKind, LexFile, read_lex};
 use std::alloc::Global;
 
-/// A lex file that is read, its faults mended.
+/// A lex file that was read, with its errors fixed.
 #[derive(Drop)]
 pub(crate) struct MendedLex {
-    /// Its bytes, line by line as in the file.
+    /// Its bytes, with the same lines as the file.
     pub(crate) text: Vec<u8>,
-    /// The action of each rule; of all that they say this alone is joined.
+    /// The action of each rule. Joining needs nothing else.
     pub(crate) actions: Vec<LexAction>,
-    /// Which byte of them is the first of each rule.
+    /// The offset in `text` of the first byte of each rule.
     pub(crate) rule_starts: Vec<usize>,
 }
 
 impl MendedLex {
-    /// A lex file of these bytes, which say this.
+    /// A lex file with these bytes, which were read as this.
     fn of(text: Vec<u8>, file: LexFile) -> MendedLex {
         let LexFile {
             actions,
@@ -38,7 +38,7 @@ impl MendedLex {
     }
 }
 
-/// Finds the faults of a lex file, and answers it mended, if it can be.
+/// Finds the errors of a lex file, and returns the fixed file, if it can be fixed.
 pub(crate) fn find_lex_faults(
     alloc: Global,
     findings: &mut Findings,
@@ -62,7 +62,7 @@ pub(crate) fn find_lex_faults(
     Ok(None)
 }
 
-/// The text without its marks, of which a fault is added if they are at fault.
+/// The text without byte-order mark and CRs. If they are an error, it is added.
 fn plain_text(
     alloc: Global,
     findings: &mut Findings,
@@ -76,7 +76,7 @@ fn plain_text(
     Ok(plain)
 }
 
-/// Adds a fault, and answers the text in which it is mended; none where nothing mends it.
+/// Adds an error, and returns the text in which it is fixed. Returns `None` if there is no fix.
 fn mend_fault(
     alloc: Global,
     findings: &mut Findings,
@@ -108,7 +108,7 @@ fn has_rules(text: &[u8]) -> bool {
     text.split(is_newline).any(|line| line.starts_with(b"%%"))
 }
 
-/// Adds the fault of a file that it hasn't without its marks.
+/// Adds the error that a file has only because of a byte-order mark or CRs.
 fn find_mark_fault(
     alloc: Global,
     findings: &mut Findings,
@@ -133,7 +133,7 @@ fn find_mark_fault(
     })
 }
 
-/// Why a text is refused, and which byte is at fault, if it is.
+/// Why a text is rejected, and the offset of the error, if it is rejected.
 fn refusal(
     alloc: Global,
     text: &[u8],

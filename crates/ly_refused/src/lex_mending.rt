@@ -1,4 +1,4 @@
-//! How a fault of a lex file is mended, so that what stands behind it can be read.
+//! Fixes errors of a lex file so that what follows can be read.
 use crate::edit::push_all;
 use crate::lex_names::{defined_names, known_conditions};
 use crate::lex_units::{Kind, Unit, first_line};
@@ -8,8 +8,8 @@ use ly_base::{Language, OutOfMemory, leading_name};
 use ly_lexread::LexFaultKind;
 use std::alloc::Global;
 
-/// The text in which a fault is mended, by the lines that it stands in: a rule becomes one that does nothing, a
-/// definition that of one byte, and anything else is left out.
+/// The text with an error fixed, by the lines of its unit. A rule becomes one that does nothing, a definition becomes
+/// one byte, and anything else is removed.
 pub(crate) fn mended(
     alloc: Global,
     text: &[u8],
@@ -32,7 +32,7 @@ pub(crate) fn mended(
     with_lines(alloc, text, unit.first, last, &by)
 }
 
-/// A line that defines the name of a line as one byte; nothing where it has none, or an earlier line defines it.
+/// A line that defines the name of a line as one byte. Empty if the line has no name, or an earlier line defines it.
 fn plain_definition(alloc: Global, text: &[u8], unit: Unit) -> Result<Vec<u8>, OutOfMemory> {
     let (before, rest) = text.split_at(line_start(text, unit.first).min(text.len()));
     match leading_name(first_line(rest), Language::Lex) {
@@ -43,7 +43,7 @@ fn plain_definition(alloc: Global, text: &[u8], unit: Unit) -> Result<Vec<u8>, O
     }
 }
 
-/// A line that declares the conditions of a line that are new ones; nothing where it has none.
+/// A line that declares the new conditions of a line. Empty if there are none.
 fn new_conditions(alloc: Global, text: &[u8], unit: Unit) -> Result<Vec<u8>, OutOfMemory> {
     let (before, rest) = text.split_at(line_start(text, unit.first).min(text.len()));
     let mut known = known_conditions(alloc, before)?;
@@ -55,7 +55,7 @@ fn new_conditions(alloc: Global, text: &[u8], unit: Unit) -> Result<Vec<u8>, Out
     Ok(declaration)
 }
 
-/// Adds the first word of a line, and those behind it that are names of conditions that aren't known yet.
+/// Adds the first word of a line, and those after it that are names of new conditions.
 fn push_declaration<'t>(
     declaration: &mut Vec<u8>,
     known: &mut Vec<&'t [u8]>,
@@ -69,7 +69,7 @@ fn push_declaration<'t>(
     Ok(())
 }
 
-/// Adds the name of a condition, a space before it, if it isn't known yet; then it is.
+/// Adds the name of a condition after a space, if it is new. Then it is known.
 fn push_new<'t>(
     declaration: &mut Vec<u8>,
     known: &mut Vec<&'t [u8]>,
@@ -82,8 +82,8 @@ fn push_new<'t>(
     push_all(declaration, &[b" ", name])
 }
 
-/// The number of the last line before the next one that begins with `%%`, from a line on; of the last line where none
-/// does.
+/// The last line before the next one that begins with `%%`, from a line on. It is the last line of the text if there is
+/// no such line.
 fn last_before_mark(text: &[u8], first: u64) -> u64 {
     let behind = from_offset(text, line_start(text, first));
     let lines = behind
@@ -93,7 +93,7 @@ fn last_before_mark(text: &[u8], first: u64) -> u64 {
     first.saturating_add(lines.saturating_sub(1))
 }
 
-/// The text with this in place of lines from one to another: on the first, and the others empty.
+/// The text with lines replaced: the first of them by this text, the others by empty lines.
 fn with_lines(
     alloc: Global,
     text: &[u8],

@@ -1,13 +1,13 @@
-//! The names that the lines of a lex file define and declare, where it is refused.
+//! The names that the lines of a rejected lex file define and declare.
 use crate::location::{is_blank_byte, is_newline};
 use crate::nearest::MOST_NAMES;
 use ly_base::{Language, OutOfMemory, leading_name};
 use std::alloc::Global;
 
-/// How many conditions are known, at most.
+/// How many conditions are collected at most.
 const MOST: usize = 2_000;
 
-/// The names of conditions that lines declare, and that of the initial one, as far as there are not too many.
+/// The names of the conditions that lines declare, and of the initial one, up to the maximum.
 pub(crate) fn known_conditions(alloc: Global, text: &[u8]) -> Result<Vec<&[u8]>, OutOfMemory> {
     let mut known: Vec<&[u8]> = Vec::new(alloc);
     known.push(b"INITIAL")?;
@@ -19,7 +19,7 @@ pub(crate) fn known_conditions(alloc: Global, text: &[u8]) -> Result<Vec<&[u8]>,
     Ok(known)
 }
 
-/// Adds the names behind the first word of a line that begins with it, as far as there are not too many.
+/// Adds the names after the first word of a line, if that word declares conditions, up to the maximum.
 fn push_declared<'t>(known: &mut Vec<&'t [u8]>, line: &'t [u8]) -> Result<(), OutOfMemory> {
     for name in line.split(is_blank_byte).skip(1) {
         if !name.is_empty() && known.len() < MOST {
@@ -29,7 +29,7 @@ fn push_declared<'t>(known: &mut Vec<&'t [u8]>, line: &'t [u8]) -> Result<(), Ou
     Ok(())
 }
 
-/// The names in front of the lines before the rules, each once, as far as there are not too many.
+/// The names at the start of the lines before the rules, each once, up to the maximum.
 pub(crate) fn defined_names(alloc: Global, text: &[u8]) -> Result<Vec<&[u8]>, OutOfMemory> {
     let mut names: Vec<&[u8]> = Vec::new(alloc);
     for line in text.split(is_newline) {
@@ -41,7 +41,7 @@ pub(crate) fn defined_names(alloc: Global, text: &[u8]) -> Result<Vec<&[u8]>, Ou
     Ok(names)
 }
 
-/// Adds the name in front of a line, if there is one that is new.
+/// Adds the name at the start of a line, if there is one and it is new.
 fn push_defined<'t>(names: &mut Vec<&'t [u8]>, line: &'t [u8]) -> Result<(), OutOfMemory> {
     if let Some((name, _)) = leading_name(line, Language::Lex)
         && names.len() < MOST_NAMES

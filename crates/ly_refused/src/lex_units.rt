@@ -1,4 +1,4 @@
-//! What a line of a lex file belongs to, where it is refused: so it needn't have a form of a lex file.
+//! The units of a rejected lex file that its lines belong to. Its lines needn't be valid.
 ghost use Rattle.std.specs.Prelude.{◌≡◌, ◌≤◌, ◌+◌, ◌-◌, ◌⊎◌, [], false, min, true, IfSome};
 ghost use Rattle.ly_refused.specs.Lines.{ArePassed, IsKindOf, LinesBefore};
 ghost use Rattle.ly_refused.specs.declared.lex_units.Kind.TheVariants.{Mark};
@@ -8,12 +8,12 @@ use crate::pieces::braces_length;
 use ly_base::{after_comment, is_blank};
 use ly_lexread::{LineKind, kind_of};
 
-/// What lines stand for together.
+/// What the lines of a unit are.
 #[derive(Clone, Copy, PartialEq, Eq)]
 pub(crate) enum Kind {
     /// A line that begins with `%%`.
     Mark,
-    /// A line that isn't used.
+    /// A line that has no use.
     Unused,
     /// A block, from `%{` to `%}`.
     Block,
@@ -27,23 +27,23 @@ pub(crate) enum Kind {
     Rule,
 }
 
-/// Lines that stand for one thing.
+/// Lines that belong together.
 #[derive(Clone, Copy)]
 pub(crate) struct Unit {
-    /// What they stand for.
+    /// What they are.
     pub(crate) kind: Kind,
-    /// The number of the first.
+    /// The number of the first line.
     pub(crate) first: u64,
-    /// The number of the last.
+    /// The number of the last line.
     pub(crate) last: u64,
-    /// Whether they end with braces open.
+    /// Whether they end with open braces.
     pub(crate) open: bool,
 }
 
-/// How many bytes of an action are looked at for the brace that closes it.
+/// How many bytes of an action are searched for its closing brace.
 const LONGEST: usize = 4096;
 
-/// The lines of a text that a line of it belongs to. The line behind a rule whose braces are open belongs to that rule.
+/// The unit of a line of a text. The line after a rule with open braces belongs to that rule.
 pub(crate) fn unit_at(text: &[u8], line: u64) -> Unit {
     let mut units = Units::of(text);
     for _ in 0..=text.len() {
@@ -57,19 +57,19 @@ pub(crate) fn unit_at(text: &[u8], line: u64) -> Unit {
     units.front(b"")
 }
 
-/// The units of a text, one behind another: what stands behind those that were passed.
+/// The units of a text, one after another, without those that were passed.
 #[derive(Clone, Copy)]
 pub(crate) struct Units<'t> {
-    /// What is left of the text.
+    /// The rest of the text.
     pub(crate) rest: &'t [u8],
     /// How many lines were passed.
     pub(crate) passed: u64,
-    /// Whether a line that begins with `%%` was among them.
+    /// Whether a line that begins with `%%` was passed.
     pub(crate) in_rules: bool,
 }
 
 impl<'t> Units<'t> {
-    /// None is passed yet.
+    /// All units of a text.
     pub(crate) fn of(text: &'t [u8]) -> Self
         ensures rest { result.rest ≡ text.entry }
         ensures passed { result.passed ≡ 0 }
@@ -82,7 +82,7 @@ impl<'t> Units<'t> {
         }
     }
 
-    /// The units behind the first line that begins with `%%`, if there is one and something behind it.
+    /// The units after the first line that begins with `%%`, if there is such a line and something after it.
     pub(crate) fn behind_mark(text: &'t [u8]) -> Option<Units<'t>>
         ensures { IfSome result (λ units. ArePassed text.now units × (units.in_rules ≡ true)) }
     {
@@ -98,7 +98,7 @@ impl<'t> Units<'t> {
         None
     }
 
-    /// The unit in front, whose first line is this one.
+    /// The next unit. Its first line is given.
     pub(crate) fn front(&self, line: &[u8]) -> Unit
         ensures first { result.first ≡ min (self.now.passed + 1) 18446744073709551615 }
         ensures last { result.first ≤ result.last }
@@ -120,7 +120,7 @@ impl<'t> Units<'t> {
         }
     }
 
-    /// Passes the unit in front.
+    /// Passes the next unit.
     pub(crate) fn pass(&mut self, unit: Unit)
         ensures rest { (self.new.rest.now ≡ [])
             ⊎ LinesBefore (unit.last - self.old.passed) self.old.rest.now self.new.rest.now }
@@ -154,7 +154,7 @@ pub(crate) fn first_line(text: &[u8]) -> &[u8] {
     text.get(..line_length(text)).unwrap_or(text)
 }
 
-/// What stands behind so many lines; nothing where there are fewer.
+/// The text after this many lines; empty if there are fewer.
 fn behind_lines(text: &[u8], lines: u64) -> &[u8]
     ensures { (result.now ≡ []) ⊎ LinesBefore lines text.now result.now }
 {
@@ -168,14 +168,14 @@ fn behind_lines(text: &[u8], lines: u64) -> &[u8]
     rest
 }
 
-/// How many lines behind the first one it takes to the end of a block; none where it isn't closed.
+/// How many more lines a block has after its first; 0 if it isn't closed.
 fn lines_to_block_end(text: &[u8]) -> u64 {
     text.split(is_newline)
         .position(|line| line.starts_with(b"%}"))
         .unwrap_or(0) as u64
 }
 
-/// How many lines behind the first one it takes to the end of a comment; none where it isn't closed.
+/// How many more lines a comment has after its first; 0 if it isn't closed.
 fn lines_to_comment_end(text: &[u8]) -> u64 {
     match after_comment(from_offset(text, 2)) {
         Some(rest) => {
@@ -186,8 +186,8 @@ fn lines_to_comment_end(text: &[u8]) -> u64 {
     }
 }
 
-/// How many lines behind the first one a rule has, and whether it ends with braces open: it ends before the next line
-/// then that begins with no blank and no `}`.
+/// How many more lines a rule has after its first, and whether it ends with open braces. With open braces it ends
+/// before the next line that begins neither with a blank nor with a `}`.
 fn lines_to_rule_end(text: &[u8]) -> (u64, bool) {
     let line = first_line(text);
     let start = action_start(line);
@@ -202,7 +202,7 @@ fn lines_to_rule_end(text: &[u8]) -> (u64, bool) {
     }
 }
 
-/// How many lines behind the first one begin with a blank or a `}`, up to the first that doesn't.
+/// How many lines after the first begin with a blank or a `}`, up to the first that doesn't.
 fn lines_that_go_on(text: &[u8]) -> u64 {
     let behind = from_offset(text, line_length(text).saturating_add(1));
     behind
@@ -211,12 +211,12 @@ fn lines_that_go_on(text: &[u8]) -> u64 {
         .count() as u64
 }
 
-/// How many newlines there are.
+/// The number of newlines.
 fn newlines(text: &[u8]) -> u64 {
     text.iter().filter(|byte| **byte == b'\n').count() as u64
 }
 
-/// How many bytes stand before the pattern on the line of a rule: a list of conditions.
+/// The length of the list of conditions before the pattern, on the line of a rule.
 pub(crate) fn pattern_start(line: &[u8]) -> usize {
     if !line.starts_with(b"<") {
         return 0;
@@ -227,7 +227,7 @@ pub(crate) fn pattern_start(line: &[u8]) -> usize {
     }
 }
 
-/// How many bytes stand before the action on the line of a rule.
+/// How many bytes precede the action on the line of a rule.
 pub(crate) fn action_start(line: &[u8]) -> usize {
     let start = pattern_start(line);
     let body = from_offset(line, start);
@@ -236,24 +236,24 @@ pub(crate) fn action_start(line: &[u8]) -> usize {
     start.saturating_add(behind).saturating_add(blanks)
 }
 
-/// How many blanks stand in front.
+/// The number of leading blanks.
 pub(crate) fn leading_blanks(line: &[u8]) -> usize {
     line.iter().take_while(|byte| is_blank(**byte)).count()
 }
 
-/// What a byte of a pattern stands in.
+/// What a byte of a pattern is in.
 #[derive(Clone, Copy, PartialEq, Eq)]
 enum Inside {
-    /// In nothing of these.
+    /// None of these.
     Nothing,
-    /// In a string.
+    /// A string.
     Quotes,
-    /// In a bracket expression.
+    /// A bracket expression.
     Brackets,
 }
 
-/// How many bytes stand before the first blank outside strings, bracket expressions and escapes; before the first
-/// blank, where one of these isn't closed.
+/// How many bytes precede the first blank outside strings, bracket expressions and escapes. If one of these isn't
+/// closed, how many precede the first blank.
 fn pattern_length(text: &[u8]) -> usize {
     let mut inside = Inside::Nothing;
     let mut escaped = false;

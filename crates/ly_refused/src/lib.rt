@@ -1,11 +1,16 @@
-//! From two files that are refused to the faults of them that can be told apart, as they are said: `say_faults`, and
-//! `say_lex_faults` for a lex file alone. What is said of accepted files is in `ly_accepted`.
+//! Finds and prints all independent errors of two rejected files: `say_faults`, and `say_lex_faults` for a lex file
+//! alone. `ly_conflicts` and `ly_lints` print what there is to report about accepted files.
 //!
-//! A file is read; where it is refused, what the fault stands in is mended in a copy, and the copy is read, until it
-//! says something or so many faults are found. Then both files are joined, and what is at fault there is mended in
-//! what they say. What is mended keeps its names as far as it can, so that no fault is said that another one makes.
+//! A file is read. If it is rejected, the part around the error is fixed in a copy and the copy is read, until it is
+//! accepted or the maximum number of errors is found. Then both files are joined, and the errors of that are fixed in
+//! what was read. A fix keeps the names of the file as far as possible, so that one error doesn't cause reports of
+//! others.
 //!
-//! Left out: why the files are refused, which is given.
+//! The reader stops at an error and has no end for what it rejects, so this crate decides itself where a rejected
+//! pattern or action ends. Which lines are part of an action has no definition. Of the indented lines that
+//! `indented_lines` lists it is proved that each is one (`AreIndented`); that none is left out is only tested.
+//!
+//! The first error of the files is an input: this crate doesn't decide whether files are rejected.
 #![tactic(auto)]
 
 mod advice;

@@ -1,11 +1,11 @@
 use ly_base::{Location, is_blank};
 
-/// How many bytes of its line stand before a location.
+/// How many bytes of its line precede a location.
 pub(crate) fn bytes_before(at: Location) -> usize {
     usize::try_from(at.column.saturating_sub(1)).unwrap_or(usize::MAX)
 }
 
-/// The offset where a line of a text begins; the end of the text, or behind it, where there is no such line.
+/// The offset of the start of a line. If there is no such line, it is the end of the text or past it.
 pub(crate) fn line_start(text: &[u8], line: u64) -> usize {
     let before = usize::try_from(line.saturating_sub(1)).unwrap_or(usize::MAX);
     let mut start: usize = 0;
@@ -15,12 +15,12 @@ pub(crate) fn line_start(text: &[u8], line: u64) -> usize {
     start
 }
 
-/// How many bytes stand before the newline at the end of the first line.
+/// The length of the first line without its newline.
 pub(crate) fn line_length(text: &[u8]) -> usize {
     text.iter().position(is_newline).unwrap_or(text.len())
 }
 
-/// How many bytes stand before the first blank of the first line.
+/// How many bytes precede the first blank of the first line.
 pub(crate) fn length_to_blank(text: &[u8]) -> usize {
     let line = text.get(..line_length(text)).unwrap_or(text);
     line.iter().position(is_blank_byte).unwrap_or(line.len())
@@ -36,7 +36,7 @@ pub(crate) fn is_blank_byte(byte: &u8) -> bool {
     is_blank(*byte)
 }
 
-/// What stands from an offset on; nothing where the text ends before it.
+/// The text from an offset on; empty if the text ends before it.
 pub(crate) fn from_offset(text: &[u8], offset: usize) -> &[u8] {
     text.get(offset..).unwrap_or(b"")
 }

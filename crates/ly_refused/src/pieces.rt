@@ -1,9 +1,9 @@
-//! Text that may be anything, as C code, piece by piece.
+//! Scans text that may be anything, like C code, one unit at a time.
 use crate::location::{from_offset, line_length};
 use ly_base::after_comment;
 
-/// What stands behind the piece at the front: a comment, a string or a character in quotes, or else a byte. A comment
-/// that isn't closed goes to the end, and quotes that aren't closed to the end of the line.
+/// The text after its first unit: a comment, a string or a character in quotes, or else one byte. An unclosed comment
+/// extends to the end of the text, and unclosed quotes to the end of the line.
 pub(crate) fn behind_piece(text: &[u8]) -> &[u8] {
     if let Some(inside) = text.strip_prefix(b"/*") {
         return after_comment(inside).unwrap_or(b"");
@@ -15,8 +15,8 @@ pub(crate) fn behind_piece(text: &[u8]) -> &[u8] {
     from_offset(text, length)
 }
 
-/// How many bytes stand up to the next quote, on its line and without a backslash before it, as the one at the front,
-/// with both.
+/// The length of the quoted text at the start, including both quotes. It ends at the next quote of the same kind that
+/// isn't escaped. `None` if there is none on its line.
 pub(crate) fn quoted_length(text: &[u8]) -> Option<usize> {
     let (quote, inside) = text.split_first()?;
     let mut escaped = false;
@@ -32,7 +32,7 @@ pub(crate) fn quoted_length(text: &[u8]) -> Option<usize> {
     None
 }
 
-/// How many bytes stand up to the brace that closes the one at the front, with both; none where it isn't closed.
+/// The length of the text in braces at the start, including both braces. `None` if it isn't closed.
 pub(crate) fn braces_length(text: &[u8]) -> Option<usize> {
     let mut depth: usize = 0;
     let mut rest = text;

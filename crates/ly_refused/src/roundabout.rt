@@ -1,23 +1,23 @@
-//! Nonterminals of which each needs the next, or derives it alone, and the last one the first.
+//! Cycles of nonterminals: each one needs the next, or derives it alone, and the last one the first.
 use ly_base::{OutOfMemory, Sym};
 use ly_grammar::Reduced;
 use ly_join::{Grammar, GrammarRule, Symbol};
 use std::alloc::Global;
 
-/// How often the rules are gone through at most; where that isn't enough, nothing is found.
+/// The greatest number of passes over the rules. If more are needed, nothing is found.
 const PASSES: usize = 1000;
 
-/// What one nonterminal needs, or derives alone.
+/// An edge of a cycle: the nonterminal that a nonterminal needs, or derives alone.
 #[derive(Clone, Copy)]
 pub(crate) struct Step {
-    /// The rule that has it.
+    /// The rule with the edge. Its left side is the source.
     pub(crate) rule: usize,
-    /// The other nonterminal.
+    /// The target.
     pub(crate) to: Sym,
 }
 
-/// The nonterminals without a text of which each needs the next one, where the start symbol leads to. Each rule of
-/// such a nonterminal has another one; the first of its first rule is what it needs.
+/// A cycle of nonterminals without a text that the start symbol leads to. Each rule of such a nonterminal contains
+/// another one; the edge is to the first one in its first rule.
 pub(crate) fn without_text(alloc: Global, grammar: &Grammar) -> Result<Vec<Step>, OutOfMemory> {
     let Some(known) = with_text(alloc, grammar)? else {
         return Ok(Vec::new(alloc));
@@ -35,7 +35,7 @@ pub(crate) fn without_text(alloc: Global, grammar: &Grammar) -> Result<Vec<Step>
     way_around(alloc, &steps, grammar.start())
 }
 
-/// The nonterminals of which each derives the next one alone, all else being empty.
+/// A cycle of nonterminals that each derive the next one alone, with all other symbols empty.
 pub(crate) fn derived_alone(
     alloc: Global,
     reduced: &Reduced<'_>,
@@ -61,7 +61,7 @@ pub(crate) fn derived_alone(
     }
 }
 
-/// Whether a rule's left side stands in its own body behind symbols that may be empty, at least one.
+/// Whether a rule's left side is in its own body after one or more nullable symbols.
 pub(crate) fn is_behind_nothing(reduced: &Reduced<'_>, number: usize) -> bool {
     let Some(rule) = kept_rule(reduced, number) else {
         return false;
@@ -97,7 +97,7 @@ fn with_text(alloc: Global, grammar: &Grammar) -> Result<Option<Vec<bool>>, OutO
     Ok(None)
 }
 
-/// Which nonterminals derive another one of these alone.
+/// Which nonterminals derive alone a nonterminal that is marked too.
 fn leads_on(alloc: Global, reduced: &Reduced<'_>) -> Result<Option<Vec<bool>>, OutOfMemory> {
     let grammar = reduced.grammar();
     let count = grammar.accept().0 as usize;
@@ -121,7 +121,7 @@ fn leads_on(alloc: Global, reduced: &Reduced<'_>) -> Result<Option<Vec<bool>>, O
     Ok(None)
 }
 
-/// The symbols of a useful rule's body of which each is derived alone where the others are empty.
+/// The symbols of a useful rule's body that are derived alone if the others are empty.
 fn alone_in<'r>(reduced: &'r Reduced<'_>, number: usize) -> &'r [Symbol] {
     let Some(rule) = kept_rule(reduced, number) else {
         return &[];
@@ -138,7 +138,7 @@ fn alone_in<'r>(reduced: &'r Reduced<'_>, number: usize) -> &'r [Symbol] {
     body.get(first..behind).unwrap_or_default()
 }
 
-/// The rule of a number, if it is useful.
+/// The rule with a number, if it is useful.
 fn kept_rule<'r>(reduced: &'r Reduced<'_>, number: usize) -> Option<&'r GrammarRule> {
     let grammar = reduced.grammar();
     if number < grammar.rules().len() && reduced.is_kept(number) {
@@ -148,7 +148,7 @@ fn kept_rule<'r>(reduced: &'r Reduced<'_>, number: usize) -> Option<&'r GrammarR
     }
 }
 
-/// Whether a symbol derives the empty string.
+/// Whether a symbol is nullable.
 fn is_nullable(reduced: &Reduced<'_>, symbol: Symbol) -> bool {
     match symbol {
         Symbol::Terminal(_) => false,
@@ -158,7 +158,7 @@ fn is_nullable(reduced: &Reduced<'_>, symbol: Symbol) -> bool {
     }
 }
 
-/// Whether a symbol derives a text, where these nonterminals do.
+/// Whether a symbol derives a text, if exactly the known nonterminals do.
 fn has_text(symbol: Symbol, known: &[bool]) -> bool {
     match symbol {
         Symbol::Terminal(_) => true,
@@ -166,12 +166,12 @@ fn has_text(symbol: Symbol, known: &[bool]) -> bool {
     }
 }
 
-/// Whether a nonterminal is one of these.
+/// Whether a nonterminal is known.
 fn is_known(known: &[bool], number: Sym) -> bool {
     known.get(number.0 as usize).copied().unwrap_or(false)
 }
 
-/// Makes a nonterminal one of these, and answers whether there is such a one.
+/// Makes a nonterminal known. Returns whether its number exists.
 fn note(known: &mut [bool], number: Sym) -> bool {
     match known.get_mut(number.0 as usize) {
         Some(place) => {
@@ -182,12 +182,12 @@ fn note(known: &mut [bool], number: Sym) -> bool {
     }
 }
 
-/// No step of any nonterminal.
+/// No edges.
 fn no_steps(alloc: Global, grammar: &Grammar) -> Result<Vec<Option<Step>>, OutOfMemory> {
     Ok(vec![in alloc; None; grammar.accept().0 as usize]?)
 }
 
-/// Notes what a rule's left side needs, where nothing was noted before.
+/// Sets the edge of a rule's left side, if it has none yet.
 fn note_step(steps: &mut [Option<Step>], rule: &GrammarRule, number: usize, to: Sym) {
     if let Some(step) = steps.get_mut(rule.left().0 as usize)
         && step.is_none()
@@ -196,7 +196,7 @@ fn note_step(steps: &mut [Option<Step>], rule: &GrammarRule, number: usize, to: 
     }
 }
 
-/// The steps that lead from a nonterminal back to it, where those from this one come in the end.
+/// The cycle that the edges from a nonterminal lead to.
 fn way_around(alloc: Global, steps: &[Option<Step>], from: Sym) -> Result<Vec<Step>, OutOfMemory> {
     let mut around = Vec::new(alloc);
     let mut at = from;
@@ -220,7 +220,7 @@ fn way_around(alloc: Global, steps: &[Option<Step>], from: Sym) -> Result<Vec<St
     Ok(around)
 }
 
-/// The step of a nonterminal, if it has one.
+/// The edge of a nonterminal, if it has one.
 fn step_of(steps: &[Option<Step>], number: Sym) -> Option<Step> {
     steps.get(number.0 as usize).copied().flatten()
 }

@@ -1,5 +1,5 @@
-//! Two files in short: their names are numbers, and what no fault of both comes of is left out. So they are joined
-//! often, however long they are.
+//! The reduced form of two files: names are numbers, and whatever causes no error of both files is left out. It can be
+//! joined often, however long the files are.
 use indexmap::IndexSet;
 use ly_base::OutOfMemory;
 use ly_ere::Names;
@@ -9,37 +9,37 @@ use ly_yaccread::{Declaration, Production, SymbolName, TreeAction, YaccFile};
 use std::alloc::Global;
 use std::rc::RcSlice;
 
-/// Two files in short.
+/// Two files in reduced form.
 #[derive(Drop)]
 pub(crate) struct Short<'a> {
     /// What the lex file returns.
     pub(crate) lex: LexFile,
-    /// What the yacc file says of its symbols, each in the rule that names it first.
+    /// The symbols of the yacc file, each in the rule that names it first.
     pub(crate) yacc: YaccFile,
     /// The names, by their numbers.
     names: Numbered<'a>,
 }
 
-/// Names that have numbers.
+/// A numbering of names.
 #[derive(Drop)]
 struct Numbered<'a> {
-    /// They, by their numbers.
+    /// The names. The index of a name is its number.
     names: IndexSet<&'a [u8]>,
 }
 
-/// What the rules before one have named.
+/// The names in the rules so far.
 #[derive(Drop)]
 struct Named {
     /// Their left sides.
     left: IndexSet<u32>,
     /// The names in their bodies.
     body: IndexSet<u32>,
-    /// The names behind their `%prec`.
+    /// The names after their `%prec`.
     ranked: IndexSet<u32>,
 }
 
 impl<'a> Short<'a> {
-    /// Two files in short, the first by the actions of its rules.
+    /// Reduces two files. The lex file is given by the actions of its rules.
     pub(crate) fn of(
         alloc: Global,
         lex: &'a [LexAction],
@@ -53,7 +53,7 @@ impl<'a> Short<'a> {
         Ok(Short { lex, yacc, names })
     }
 
-    /// A fault of the files as they are, where this is one of them in short.
+    /// The error of the original files for an error of the reduced ones.
     pub(crate) fn restored(
         &self,
         alloc: Global,
@@ -96,7 +96,7 @@ impl<'a> Numbered<'a> {
         Ok(u32::try_from(place).unwrap_or(u32::MAX))
     }
 
-    /// The name of which these bytes are the number.
+    /// The name with the number that these bytes hold.
     fn restored(&self, alloc: Global, number: &[u8]) -> Result<Vec<u8>, OutOfMemory> {
         let mut place: usize = 0;
         for byte in number {
@@ -108,7 +108,7 @@ impl<'a> Numbered<'a> {
         }
     }
 
-    /// A name in short.
+    /// The reduced form of a name.
     fn short(&mut self, alloc: Global, name: &'a [u8]) -> Result<Vec<u8>, OutOfMemory> {
         bytes_of(alloc, self.number(name)?)
     }
@@ -135,7 +135,7 @@ impl<'a> Numbered<'a> {
         })
     }
 
-    /// What a yacc file says of its symbols.
+    /// The symbols of a yacc file.
     fn yacc(&mut self, alloc: Global, yacc: &'a YaccFile) -> Result<YaccFile, OutOfMemory> {
         let mut declarations = Vec::new(alloc);
         for declaration in &yacc.declarations {
@@ -173,7 +173,7 @@ impl<'a> Numbered<'a> {
         })
     }
 
-    /// The rules that name what none before them does.
+    /// The rules that name symbols for the first time.
     fn rules(
         &mut self,
         alloc: Global,
@@ -187,7 +187,7 @@ impl<'a> Numbered<'a> {
         let mut kept = Vec::new(alloc);
         let mut last: Option<(&RcSlice<u8>, u32)> = None;
         for rule in rules {
-            // Rules in a row that have it in common share their left side.
+            // consecutive rules of the same left side share it
             let left = match last {
                 Some((left, number)) if RcSlice::ptr_eq(left, &rule.left) => number,
                 _ => self.number(&rule.left)?,
@@ -200,7 +200,7 @@ impl<'a> Numbered<'a> {
         Ok(kept)
     }
 
-    /// A rule whose left side has this number, if it names what none before it does.
+    /// The reduced form of a rule whose left side has this number, if it names a symbol for the first time.
     fn rule(
         &mut self,
         alloc: Global,
@@ -235,7 +235,7 @@ impl<'a> Numbered<'a> {
         }))
     }
 
-    /// A symbol in short, if it is a name that isn't among these; then it is.
+    /// The reduced form of a symbol, if its name isn't in this set yet. Then it is.
     fn new_name(
         &mut self,
         alloc: Global,

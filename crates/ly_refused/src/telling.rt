@@ -12,7 +12,7 @@ use ly_generate::GenFault;
 use ly_join::{JoinFault, Limit};
 use ly_page::{MARGIN, Named, Page};
 
-/// Says the faults that are found.
+/// Appends the errors that were found.
 pub(crate) fn say_findings(page: &mut Page, lex: Named<'_>, yacc: Named<'_>, findings: &Findings) {
     for found in findings.list() {
         say_fault(page, lex, yacc, &found.fault, Some(found.at), &found.advice);
@@ -22,7 +22,7 @@ pub(crate) fn say_findings(page: &mut Page, lex: Named<'_>, yacc: Named<'_>, fin
     }
 }
 
-/// Says a fault of one of two files.
+/// Appends an error of one of two files.
 pub(crate) fn say_fault(
     page: &mut Page,
     lex: Named<'_>,
@@ -45,8 +45,8 @@ pub(crate) fn say_fault(
     }
 }
 
-/// Says a fault of a file: the location, its number, its name and what it is, the line with a caret under the byte
-/// there, and what to write instead.
+/// Appends an error of a file: its location, its number, its name and its message, the line with a caret under the
+/// byte, and the suggestion.
 fn say_fault_of(
     page: &mut Page,
     file: Named<'_>,
@@ -61,7 +61,7 @@ fn say_fault_of(
     say_rest(page, file, fault, at, advice);
 }
 
-/// Says where something stands in a file, if it has a place.
+/// Appends the location in a file, if there is one.
 fn say_place(page: &mut Page, file: Named<'_>, at: Option<Location>)
     ensures { Says page.old (place_words file.entry.name.now at) page.new }
 {
@@ -74,7 +74,7 @@ fn say_place(page: &mut Page, file: Named<'_>, at: Option<Location>)
     }
 }
 
-/// Says the number of a fault, if it has one, and its name.
+/// Appends the number of an error, if it has one, and its name.
 fn say_number_and_name(page: &mut Page, fault: &GenFault)
     ensures { Says page.old (fault_words fault.now) page.new }
 {
@@ -85,7 +85,7 @@ fn say_number_and_name(page: &mut Page, fault: &GenFault)
     page.say(fault.name().as_bytes());
 }
 
-/// Says what is at fault and what it is, the line with a caret, and what to write instead.
+/// Appends what an error is about and its message, the line with a caret, and the suggestion.
 fn say_rest(
     page: &mut Page,
     file: Named<'_>,
@@ -104,7 +104,7 @@ fn say_rest(
     page.say_page(rest);
 }
 
-/// Whether a fault is one of the lex file.
+/// Whether an error is one of the lex file.
 pub(crate) fn is_of_lex(fault: &GenFault) -> bool
     ensures lex { (f : lex_fault.LexFault) → fault.now ≡ gen.Lex f → result ≡ true }
     ensures yacc { (f : yacc_fault.YaccFault) → fault.now ≡ gen.Yacc f → result ≡ false }
@@ -123,7 +123,7 @@ pub(crate) fn is_of_lex(fault: &GenFault) -> bool
     )
 }
 
-/// Says what is at fault, and what it is.
+/// Appends what an error is about, and its message.
 fn say_heading(page: &mut Page, fault: &GenFault) {
     let mut what = page.beside();
     say_what(&mut what, fault);
@@ -136,7 +136,7 @@ fn say_heading(page: &mut Page, fault: &GenFault) {
     page.say(b"\n");
 }
 
-/// Says what is at fault, if the words of a fault don't say so.
+/// Appends what an error is about, unless its message has it.
 pub(crate) fn say_what(page: &mut Page, fault: &GenFault) {
     match fault {
         GenFault::Join(fault) => say_at_fault(page, fault),
@@ -148,7 +148,7 @@ pub(crate) fn say_what(page: &mut Page, fault: &GenFault) {
     }
 }
 
-/// Says what a fault is.
+/// Appends the message of an error.
 pub(crate) fn say_words(page: &mut Page, fault: &GenFault) {
     match fault {
         GenFault::Lex(fault) => page.say_words(fault),
@@ -157,7 +157,7 @@ pub(crate) fn say_words(page: &mut Page, fault: &GenFault) {
     }
 }
 
-/// Says what is at fault in both files.
+/// Appends what an error of both files is about.
 fn say_at_fault(page: &mut Page, fault: &JoinFault) {
     match fault {
         JoinFault::UndefinedSymbol(name)
@@ -171,7 +171,7 @@ fn say_at_fault(page: &mut Page, fault: &JoinFault) {
     }
 }
 
-/// Says what to write instead, on a line.
+/// Appends the suggestion on its own line.
 fn say_advice(page: &mut Page, advice: &Advice) {
     if !advice.is_nothing() {
         page.say(MARGIN);
@@ -180,7 +180,7 @@ fn say_advice(page: &mut Page, advice: &Advice) {
     }
 }
 
-/// Says what to write instead.
+/// Appends the suggestion.
 pub(crate) fn say_advice_words(page: &mut Page, advice: &Advice) {
     match advice {
         Advice::Nothing => {}

@@ -1,4 +1,4 @@
-//! What editors of other systems leave in a text: a byte-order mark in front, and a CR before each newline.
+//! What editors of other systems leave in a text: a byte-order mark at the start, and a CR before each newline.
 use crate::edit::push_all;
 use crate::location::is_newline;
 use ly_base::OutOfMemory;
@@ -12,8 +12,8 @@ pub(crate) fn has_byte_order_mark(text: &[u8]) -> bool {
     text.starts_with(BYTE_ORDER_MARK)
 }
 
-/// The text with these bytes in place of a byte-order mark in front, and without each CR before a newline: the same
-/// where it has neither.
+/// The text with these bytes in place of a byte-order mark, and without the CR before each newline. It is the same text
+/// if it has neither.
 pub(crate) fn without_marks(
     alloc: Global,
     text: &[u8],

@@ -1,4 +1,4 @@
-//! What to write in place of what a yacc file is refused for.
+//! Suggestions for the errors of a yacc file.
 use crate::advice::Advice;
 use crate::nearest::nearest;
 use crate::yacc_before::Before;
@@ -7,7 +7,7 @@ use ly_base::{Language, OutOfMemory, after_gap, leading_name};
 use ly_yaccread::YaccFaultKind;
 use std::alloc::Global;
 
-/// The advice behind a fault, by what stands at its offset and before it.
+/// The suggestion for an error, by the text at its offset and before it.
 pub(crate) fn yacc_advice(
     alloc: Global,
     before: &Before,
@@ -42,7 +42,7 @@ pub(crate) fn yacc_advice(
     }))
 }
 
-/// The name of a directive that stands there, if it is none that is known.
+/// The name of the directive at the start, if it is unknown.
 fn unknown_directive(rest: &[u8]) -> Option<&[u8]> {
     let (name, _) = leading_name(rest.strip_prefix(b"%")?, Language::Yacc)?;
     let known = DECLARING.contains(&name)
@@ -50,7 +50,7 @@ fn unknown_directive(rest: &[u8]) -> Option<&[u8]> {
     if known { None } else { Some(name) }
 }
 
-/// The advice for what is no literal.
+/// The suggestion for an invalid literal.
 fn literal_advice(rest: &[u8]) -> &'static str {
     let line = rest.split(|byte| *byte == b'\n').next().unwrap_or(rest);
     let inside = line.get(1..).unwrap_or_default();
@@ -69,7 +69,7 @@ fn literal_advice(rest: &[u8]) -> &'static str {
     "a literal is one byte in single quotes, as `'+'`: give a longer token a name"
 }
 
-/// The advice for what can't stand in the declarations.
+/// The suggestion for what isn't allowed in the declarations.
 fn declaration_advice(before: &Before, rest: &[u8]) -> &'static str {
     if begins_rule(rest) {
         return "write a line `%%` before the first rule";
@@ -89,7 +89,7 @@ fn declaration_advice(before: &Before, rest: &[u8]) -> &'static str {
 /// Directives whose declarations name symbols.
 const DECLARING: [&[u8]; 6] = [b"token", b"left", b"right", b"nonassoc", b"type", b"union"];
 
-/// Directives for which one may be meant that isn't known.
+/// Directives that an unknown one may be meant for.
 const NEAR: [&[u8]; 7] = [
     b"token",
     b"left",
@@ -100,7 +100,7 @@ const NEAR: [&[u8]; 7] = [
     b"start",
 ];
 
-/// Other directives, and the advice for each.
+/// Other directives, and the suggestion for each.
 const DIRECTIVES: [(&[u8], &str); 4] = [
     (b"precedence", "write `%nonassoc` for bison's `%precedence`"),
     (
@@ -111,7 +111,7 @@ const DIRECTIVES: [(&[u8], &str); 4] = [
     (b"option", "`%option` is flex's: leave it out"),
 ];
 
-/// The advice for a directive that can't stand there.
+/// The suggestion for a directive that isn't allowed there.
 fn directive_advice(before: &Before, rest: &[u8]) -> &'static str {
     let behind = rest.strip_prefix(b"%").unwrap_or(rest);
     let Some((name, _)) = leading_name(behind, Language::Yacc) else {
@@ -132,11 +132,11 @@ fn directive_advice(before: &Before, rest: &[u8]) -> &'static str {
     "POSIX has no such declaration: leave it out"
 }
 
-/// The advice for a byte that isn't one of ASCII.
+/// The suggestion for a byte that isn't ASCII.
 const OTHER_BYTE: &str =
     "no name has this byte: names are of the letters `a` to `z` and `A` to `Z`, digits, `_` and `.`";
 
-/// The advice for what can't stand in the rules.
+/// The suggestion for what isn't allowed in the rules.
 fn rule_advice(before: &Before, rest: &[u8]) -> &'static str {
     if let Some((_, [0x80..=0xFF, ..])) = leading_name(rest, Language::Yacc) {
         return OTHER_BYTE;
@@ -157,7 +157,7 @@ fn rule_advice(before: &Before, rest: &[u8]) -> &'static str {
     }
 }
 
-/// The advice for a directive in the rules.
+/// The suggestion for a directive in the rules.
 fn rule_directive_advice(rest: &[u8]) -> &'static str {
     if rest.starts_with(b"%empty") {
         return "an empty body is nothing: leave `%empty` out, or write `/* empty */`";
@@ -173,7 +173,7 @@ fn rule_directive_advice(rest: &[u8]) -> &'static str {
     "a rule has no directive but `%prec`: leave it out"
 }
 
-/// The advice for what can't stand in an action.
+/// The suggestion for what isn't allowed in an action.
 fn action_advice(before: &Before, rest: &[u8]) -> &'static str {
     if is_over(rest) || rest.starts_with(b"|") || rest.starts_with(b"%%") || begins_rule(rest) {
         "close the braces of the action with `}`"
@@ -188,12 +188,12 @@ fn action_advice(before: &Before, rest: &[u8]) -> &'static str {
     }
 }
 
-/// Whether nothing more stands in an action to the end of the file, of which the last byte is told.
+/// Whether nothing follows in an action up to the end of the file. Such an error is reported at the last byte.
 fn is_over(rest: &[u8]) -> bool {
     rest == b"{".as_slice() || after_gap(rest, Language::Yacc).is_empty()
 }
 
-/// The advice for what isn't closed.
+/// The suggestion for what isn't closed.
 fn unclosed_advice(rest: &[u8]) -> &'static str {
     if rest.starts_with(b"/*") {
         "close the comment with `*/`"

@@ -2,14 +2,14 @@ use ly_base::OutOfMemory;
 use ly_yaccread::{WordSpan, word_spans};
 use std::alloc::Global;
 
-/// What stands before an offset of a yacc file, as far as it says what stands there.
+/// What precedes an offset of a yacc file, as far as the suggestion depends on it.
 #[derive(Clone, Copy)]
 pub(crate) struct Before {
     /// Whether the offset is in the rules.
     pub(crate) in_rules: bool,
     /// Whether it is in a body of a rule.
     pub(crate) in_body: bool,
-    /// Whether a child of a node is to stand there: behind `(` or `,` in an action.
+    /// Whether a child of a node is expected there: after `(` or `,` in an action.
     pub(crate) at_child: bool,
     /// How many braces are open.
     depth: usize,
@@ -17,12 +17,12 @@ pub(crate) struct Before {
     pub(crate) directive: Option<usize>,
     /// Where the last action of the body begins.
     pub(crate) action: Option<usize>,
-    /// Where the last word stands.
+    /// The span of the last word.
     pub(crate) last: Option<WordSpan>,
 }
 
 impl Before {
-    /// What stands before an offset of a text.
+    /// Scans what precedes an offset of a text.
     pub(crate) fn of(alloc: Global, text: &[u8], offset: usize) -> Result<Before, OutOfMemory> {
         let mut before = Before {
             in_rules: false,
@@ -42,7 +42,7 @@ impl Before {
         Ok(before)
     }
 
-    /// The same behind one word more.
+    /// The same after one more word.
     fn with(self, word: &[u8], span: WordSpan) -> Before {
         let before = if self.in_rules {
             self.with_rule_word(word, span.start)
@@ -66,7 +66,7 @@ impl Before {
         }
     }
 
-    /// The same behind one word more of the rules.
+    /// The same after one more word of the rules.
     fn with_rule_word(self, word: &[u8], start: usize) -> Before {
         match word {
             b":" | b"|" => Before {

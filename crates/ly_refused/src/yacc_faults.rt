@@ -11,16 +11,16 @@ use ly_generate::GenFault;
 use ly_yaccread::{YaccFault, YaccFaultKind, YaccFile, read_yacc};
 use std::alloc::Global;
 
-/// A yacc file that is read, its faults mended.
+/// A yacc file that was read, with its errors fixed.
 #[derive(Drop)]
 pub(crate) struct MendedYacc {
-    /// Its bytes. Words stand where they stand in the file, but on a line where bytes were added.
+    /// Its bytes. Words have the same offsets as in the file, unless bytes were added earlier.
     pub(crate) text: Vec<u8>,
-    /// What they say.
+    /// What was read.
     pub(crate) file: YaccFile,
 }
 
-/// Finds the faults of a yacc file, and answers it mended, if it can be.
+/// Finds the errors of a yacc file, and returns the fixed file, if it can be fixed.
 pub(crate) fn find_yacc_faults(
     alloc: Global,
     findings: &mut Findings,
@@ -44,7 +44,7 @@ pub(crate) fn find_yacc_faults(
     Ok(None)
 }
 
-/// The text without its marks, of which a fault is added if they are at fault.
+/// The text without byte-order mark and CRs. If they are an error, it is added.
 fn plain_text(
     alloc: Global,
     findings: &mut Findings,
@@ -57,7 +57,7 @@ fn plain_text(
     Ok(plain)
 }
 
-/// Adds a fault, and answers the text in which it is mended; none where nothing mends it.
+/// Adds an error, and returns the text in which it is fixed. Returns `None` if there is no fix.
 fn mend_fault(
     alloc: Global,
     findings: &mut Findings,
@@ -78,7 +78,7 @@ fn mend_fault(
     Ok(if_changed(text, edit.applied(alloc, text)?))
 }
 
-/// Which byte is told for the one at fault: where a name goes on with a byte that no name has, that byte.
+/// The offset to report for an error. If a name continues with a byte that names can't have, it is that byte's.
 fn told_offset(text: &[u8], kind: YaccFaultKind, offset: usize) -> usize {
     let rest = from_offset(text, offset);
     match (kind, leading_name(rest, Language::Yacc)) {
@@ -89,7 +89,7 @@ fn told_offset(text: &[u8], kind: YaccFaultKind, offset: usize) -> usize {
     }
 }
 
-/// Adds the fault of a file that it hasn't without its marks.
+/// Adds the error that a file has only because of a byte-order mark or CRs.
 fn find_mark_fault(
     alloc: Global,
     findings: &mut Findings,
@@ -109,7 +109,7 @@ fn find_mark_fault(
     })
 }
 
-/// Why a text is refused, if it is, and the offset at fault.
+/// Why a text is rejected, and the offset of the error, if it is rejected.
 fn refusal(alloc: Global, text: &[u8]) -> Result<Option<(YaccFaultKind, usize)>, OutOfMemory> {
     match read_yacc(alloc, text) {
         Ok(_) => Ok(None),

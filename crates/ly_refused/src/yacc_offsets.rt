@@ -1,4 +1,4 @@
-//! Where what a fault of both files names stands in a yacc file.
+//! Locations in a yacc file of what an error of both files names.
 use crate::join_mending::is_name;
 use crate::location::from_offset;
 use ly_base::{Language, Location, OutOfMemory, after_gap, locate};
@@ -6,8 +6,8 @@ use ly_join::{JoinFault, TerminalName};
 use ly_yaccread::{DeclarationKind, SymbolName, WordSpan, YaccFault, YaccFile, read_yacc};
 use std::alloc::Global;
 
-/// Where what a fault of both files names stands in a yacc file, whose words stand there: first, or where it is named
-/// again.
+/// The location in a yacc file, with these word spans, of what an error of both files names: its first occurrence, or
+/// where it is named again.
 pub(crate) fn symbol_location(
     file: &YaccFile,
     words: &[WordSpan],
@@ -36,7 +36,7 @@ pub(crate) fn symbol_location(
     Some(locate(text, offset?))
 }
 
-/// Where the first rule of the start symbol stands in a yacc file.
+/// The location of the first rule of the start symbol in a yacc file.
 pub(crate) fn start_location(alloc: Global, text: &[u8]) -> Result<Option<Location>, OutOfMemory> {
     let Some(file) = readable(alloc, text)? else {
         return Ok(None);
@@ -48,14 +48,14 @@ pub(crate) fn start_location(alloc: Global, text: &[u8]) -> Result<Option<Locati
     Ok(offset.map(|offset| locate(text, offset)))
 }
 
-/// The offset of the first word of a rule's body, or of the word behind it where it is empty.
+/// The offset of the first word of a rule's body, or of the word after the body if it is empty.
 pub(crate) fn body_offset(file: &YaccFile, text: &[u8], rule: usize) -> Option<usize> {
     let body = file.rule_offsets.get(rule)?.body as usize;
     let behind = after_gap(from_offset(text, body), Language::Yacc);
     Some(text.len().saturating_sub(behind.len()))
 }
 
-/// What a yacc file says; nothing where it is refused.
+/// A yacc file as it is read; `None` if it is rejected.
 fn readable(alloc: Global, text: &[u8]) -> Result<Option<YaccFile>, OutOfMemory> {
     match read_yacc(alloc, text) {
         Ok(file) => Ok(Some(file)),
@@ -64,7 +64,7 @@ fn readable(alloc: Global, text: &[u8]) -> Result<Option<YaccFile>, OutOfMemory>
     }
 }
 
-/// Where the first rule with this left side stands.
+/// The offset of the first rule with this left side.
 fn left_side_offset(file: &YaccFile, name: &[u8]) -> Option<usize> {
     let rule = file
         .rules
@@ -73,7 +73,7 @@ fn left_side_offset(file: &YaccFile, name: &[u8]) -> Option<usize> {
     Some(file.rule_offsets.get(rule)?.left as usize)
 }
 
-/// Where the first body begins that has this name.
+/// The offset of the first body that contains this name.
 fn offset_of_body_with(file: &YaccFile, name: &[u8]) -> Option<usize> {
     let rule = file
         .rules
@@ -92,7 +92,7 @@ fn has_name(symbols: &[SymbolName], name: &[u8]) -> bool {
     false
 }
 
-/// Where the first body begins that has this name behind its `%prec`.
+/// The offset of the first body that has this name after its `%prec`.
 fn offset_of_body_ranked_by(file: &YaccFile, name: &[u8]) -> Option<usize> {
     let rule = file.rules.iter().position(|rule| match &rule.precedence {
         Some(symbol) => is_name(symbol, name),
@@ -101,7 +101,7 @@ fn offset_of_body_ranked_by(file: &YaccFile, name: &[u8]) -> Option<usize> {
     Some(file.rule_offsets.get(rule)?.body as usize)
 }
 
-/// Where a terminal is given a precedence that was given some precedences before.
+/// The offset at which a terminal gets a precedence, after it got this many others.
 pub(crate) fn given_offset(
     file: &YaccFile,
     terminal: &TerminalName,
@@ -127,14 +127,14 @@ pub(crate) fn given_offset(
 /// The words of a text.
 #[derive(Clone, Copy)]
 struct Words<'t> {
-    /// Where they stand.
+    /// Their spans.
     words: &'t [WordSpan],
     /// The text.
     text: &'t [u8],
 }
 
 impl Words<'_> {
-    /// The offset of this word, the first from an offset on, and behind this other one if that is any.
+    /// The offset of the first such word from an offset on. If `previous` isn't empty, that word must precede it.
     fn offset_of(&self, from: usize, previous: &[u8], word: &[u8]) -> Option<usize> {
         let mut before: &[u8] = b"";
         for span in self.words {

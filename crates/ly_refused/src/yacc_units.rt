@@ -1,20 +1,20 @@
-//! What a word of a yacc file stands in, where it is refused: so its words needn't be those of a yacc file.
+//! The units of a rejected yacc file that its words belong to. Its words needn't be valid.
 use crate::location::is_newline;
 use crate::pieces::behind_piece;
 use ly_base::{Language, after_gap, is_blank, leading_name};
 
-/// How much of a file is mended together.
+/// How much of a file is fixed together.
 #[derive(Clone, Copy, PartialEq, Eq)]
 pub(crate) enum Unit {
-    /// A body of a rule, or the rest of one: up to a `|` or a `;`.
+    /// A body of a rule, or the rest of one: up to a `|` or a `;`, which isn't included.
     Body,
-    /// All bodies of a left side: up to and with a `;`.
+    /// All bodies of a left side: up to a `;`, which is included.
     Rule,
 }
 
 impl Unit {
-    /// How many bytes at the front of a text of the rules belong to it. It ends also where a line begins with `%%`,
-    /// with a `|` or a `;`, or with a name and a `:`, whichever braces are open there.
+    /// The length of the unit at the start of a text of the rules. It also ends before a line that begins with `%%`, a
+    /// `|`, a `;`, or a name and a `:`, even if braces are open.
     pub(crate) fn length(self, text: &[u8]) -> usize {
         let mut rest = text;
         let mut depth: usize = 0;
@@ -37,13 +37,13 @@ impl Unit {
         text.len().saturating_sub(rest.len())
     }
 
-    /// Whether it ends before this byte, where no brace is open.
+    /// Whether the unit ends before this byte, if no brace is open.
     fn ends_before(self, byte: u8) -> bool {
         self == Unit::Body && matches!(byte, b'|' | b';')
     }
 }
 
-/// How many braces are open behind a byte.
+/// How many braces are open after a byte.
 fn depth_behind(depth: usize, byte: u8) -> usize {
     match byte {
         b'{' => depth.saturating_add(1),
@@ -52,7 +52,7 @@ fn depth_behind(depth: usize, byte: u8) -> usize {
     }
 }
 
-/// Whether a line whose blanks are passed over begins with what ends a unit before it.
+/// Whether a line, without its leading blanks, begins with what ends a unit before it.
 fn begins_unit(unit: Unit, line: &[u8]) -> bool {
     let bar = unit == Unit::Body && line.starts_with(b"|") && !line.starts_with(b"||");
     let semicolon = unit == Unit::Body && line.starts_with(b";");
@@ -70,7 +70,7 @@ pub(crate) fn begins_rule(text: &[u8]) -> bool {
     }
 }
 
-/// How many bytes of a declaration stand at the front: up to the next line that begins with `%` where no brace is open.
+/// The length of the declaration at the start: up to the next line that begins with `%` while no brace is open.
 pub(crate) fn declaration_length(text: &[u8]) -> usize {
     let mut rest = text;
     let mut depth: usize = 0;
@@ -89,8 +89,7 @@ pub(crate) fn declaration_length(text: &[u8]) -> usize {
     text.len().saturating_sub(rest.len())
 }
 
-/// How many bytes stand before the first line behind this one that begins with `%`, but not with `%}`; all where none
-/// does.
+/// How many bytes precede the next line that begins with `%` but not with `%}`; all bytes if there is none.
 pub(crate) fn length_to_percent(text: &[u8]) -> usize {
     let mut length: usize = 0;
     for (index, line) in text.split(is_newline).enumerate() {
@@ -102,7 +101,7 @@ pub(crate) fn length_to_percent(text: &[u8]) -> usize {
     text.len()
 }
 
-/// How many bytes the word at the front has: a name, digits, or one byte.
+/// The length of the word at the start: a name, digits, or one byte.
 pub(crate) fn word_length(text: &[u8]) -> usize {
     text.iter()
         .position(|byte| !Language::Yacc.continues_name(*byte))

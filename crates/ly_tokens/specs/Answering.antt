@@ -1,4 +1,4 @@
--- The answer to a text: the lines of its tokens, in a form.
+-- The output for a text: the lines of its tokens, in a form.
 use Rattle.std.specs.Prelude.{◌≡◌, ℕ, List, ◌++◌, Option, option_map}
 use Rattle.ly_base.specs.Lexed.{start_of, tokens_from}
 use Rattle.ly_base.specs.declared.lexeme.End.{End}
@@ -18,13 +18,14 @@ use Rattle.ly_tokens.specs.Printing.{printed, naming, end_line, condition_set}
 abbrev pub names_by : List LexAction → ℕ → List ℕ → Option (List ℕ)
 names_by actions i bytes = option_map name_of (naming actions i bytes)
 
--- the lines of the tokens of lexemes that a text is taken apart into, the last one included
+-- the lines of the tokens of a text's lexemes, including the last line
 abbrev pub lines_in : AnswerForm → List LexAction → List ℕ → List Lexeme → End → List ℕ
 lines_in Plain actions text ts e = printed (tokens_from (naming actions) 0 text ts) ++ end_line e
 lines_in Json actions text ts e =
     token_lines Json text (tokens_from (names_by actions) 0 text ts) ++ listings.end_line Json text e
 
--- the text's lexing under the rules and actions ends so, and these are the lines of its tokens, the last one included
+-- The lexing of the text under the rules and actions ends like this. The output is the lines of its tokens, including
+-- the last one.
 abbrev pub IsAnswer : AnswerForm → List Expression → List Rule → List LexAction → List ℕ → End → List ℕ → Type 0
 IsAnswer form names rules actions text e answer =
     (ts : List Lexeme) × Lexing names rules (condition_set actions) (start_of text) ts e

@@ -1,4 +1,4 @@
--- What the bytes of a lex file and of a text are answered with.
+-- The output that the bytes of a lex file and of a text define.
 use Rattle.std.specs.Prelude.{◌≡◌, ◌<◌, ◌≤◌, ℕ, List, Option, IfSome}
 use Rattle.ly_ere.specs.Names.{defined}
 use Rattle.ly_base.specs.Limits.{Sizes}
@@ -10,22 +10,21 @@ use Rattle.ly_print.specs.declared.answer_form.AnswerForm.{AnswerForm}
 use Rattle.ly_subset.specs.RuleSets.{HaveMoreSets}
 use Rattle.ly_tokens.specs.Answering.{IsAnswer}
 
--- the bytes of a lex file whose patterns are too heavy together
+-- the bytes of a lex file whose patterns together exceed the weight limit
 abbrev pub AreTooHeavy : Sizes → List ℕ → Type 0
 AreTooHeavy limits lex =
     (file : LexFile) × LexText lex file × IsLight limits.pattern_weight file
     × (limits.total_weight < total_weight (defined file.names) file.rules.items)
 
--- the bytes of a lex file within these limits, more of whose sets of positions can come next than a scanner may have
--- states
+-- the bytes of a lex file within these limits, whose subset construction makes more sets than a scanner may have states
 abbrev pub HaveTooManyStates : Sizes → List ℕ → Type 0
 HaveTooManyStates limits lex =
     (file : LexFile) × LexText lex file × IsLight limits.pattern_weight file
     × (total_weight (defined file.names) file.rules.items ≤ limits.total_weight)
     × HaveMoreSets (defined file.names) file.rules.items file.conditions limits.scanner_states
 
--- The lex bytes are those of a lex file within the limits, and the answer is that to a text under it, in a form: to the
--- bytes that the reader had left, where these are known.
+-- The bytes are those of a lex file within the limits. The output is that of the lex file for the bytes that the reader
+-- had left, if these are known, else for some text.
 pub record Answers (form : AnswerForm) (limits : Sizes) (lex : List ℕ) (left : Option (List ℕ)) (e : End)
     (answer : List ℕ) : Type 0 where
   pub file : LexFile

@@ -1,4 +1,4 @@
--- What holds of answers by tokens, as statements.
+-- What holds of the output of `tokens`, as statements.
 use Rattle.std.specs.Prelude.{◌≡◌, ℕ, List, Some}
 use Rattle.ly_base.specs.Limits.{Sizes}
 use Rattle.ly_base.specs.declared.lexeme.End.{End}
@@ -15,14 +15,14 @@ use Rattle.ly_tokens.specs.Agreement.{Agrees}
 use Rattle.ly_tokens.specs.Answers.{Answers}
 use Rattle.ly_tokens.specs.RowWalk.{cut_in, row_walk}
 
--- under whatever limits, the bytes of a lex file and those of a text have one answer in a form
+-- under whatever limits, a lex file and a text have one output in a form, and one end
 abbrev pub AnswerIsOne : Type 0
 AnswerIsOne = (form : AnswerForm) (limits others : Sizes) (lex text : List ℕ) (e f : End) (answer other : List ℕ)
     → Answers form limits lex (Some text) e answer → Answers form others lex (Some text) f other
     → (e ≡ f) × (answer ≡ other)
 
--- the walk over the rows of an automaton that has the same rules as the subsets of a lex file's positions agrees with
--- its rules
+-- the walk over the rows of a DFA agrees with the rules of a lex file, if the DFA has the same rules as the subset
+-- construction of the file's positions
 abbrev pub RowWalkAgrees : Type 0
 RowWalkAgrees = (lex : List ℕ) (file : LexFile) (nfa : Nfa) (A B : Automaton) → LexText lex file
     → ArePositions (defined file.names) file.rules.items file.conditions nfa → AreSubsets nfa file.conditions A

@@ -1,4 +1,4 @@
--- What contracts of private functions cite. No public contract rests on it.
+-- Definitions for the contracts of private functions. No public contract depends on them.
 pub mod FileAnswers
 pub mod Labels
 pub mod Marks

@@ -1,4 +1,4 @@
--- Why the patterns of a lex file have no scanner within the limits.
+-- Why the patterns of a lex file have no DFA within the limits.
 use Rattle.std.specs.Prelude.{◌≡◌, ◌<◌, ◌≤◌}
 use Rattle.ly_base.specs.Limits.{Sizes}
 use Rattle.ly_ere.specs.Names.{defined}
@@ -20,7 +20,7 @@ abbrev pub fault_of_states : SubsetFault → ScannerFault
 fault_of_states subset.OutOfMemory = OutOfMemory
 fault_of_states subset.TooManyStates = States subset.TooManyStates
 
--- what a fault says of a lex file; want of memory says nothing
+-- what an error implies for a lex file; out of memory implies nothing
 abbrev pub HasNoScanner : Sizes → LexFile → ScannerFault → Type 0
 HasNoScanner limits file (Positions fault) = (fault ≡ position.TooManyPositions)
     × (limits.total_weight < total_weight (defined file.names) file.rules.items)

@@ -1,4 +1,4 @@
--- The faults of the parts as faults of the whole.
+-- How the errors of the parts become errors of `tokens`.
 use Rattle.ly_base.specs.Limits.{Sizes}
 use Rattle.ly_print.specs.declared.whole.ReadFault.{ReadFault}
 use Rattle.ly_print.specs.declared.whole.ReadFault.TheVariants as read
@@ -24,12 +24,12 @@ abbrev pub fault_of_read : ReadFault → TokensFault
 fault_of_read read.Read = Read
 fault_of_read read.OutOfMemory = OutOfMemory
 
--- Nothing was written: any fault but a failed write.
+-- Nothing was written: any error but a failed write.
 abbrev pub IsBeforeWriting : TokensFault → Type 0
 IsBeforeWriting (Write written) = ⊥
 IsBeforeWriting _ = Unit {0}
 
--- Nothing was read: the lex file is refused, or too heavy, or its scanner has too many states.
+-- Nothing was read: the lex file is rejected, exceeds the weight limit, or its DFA has too many states.
 abbrev pub IsBeforeReading : TokensFault → Type 0
 IsBeforeReading (Lex fault) = Unit {0}
 IsBeforeReading (Positions fault) = Unit {0}
@@ -41,14 +41,14 @@ abbrev pub IsWrite : TokensFault → Type 0
 IsWrite (Write written) = Unit {0}
 IsWrite _ = ⊥
 
--- what a fault says of a lex file that was read
+-- what an error implies for a lex file that was read
 abbrev pub HasNoTokens : Sizes → LexFile → TokensFault → Type 0
 HasNoTokens limits file (Lex fault) = ⊥
 HasNoTokens limits file (Positions fault) = HasNoScanner limits file (scanner.Positions fault)
 HasNoTokens limits file (States fault) = HasNoScanner limits file (scanner.States fault)
 HasNoTokens limits file _ = Unit {0}
 
--- a failed write, or want of memory
+-- a failed write, or out of memory
 abbrev pub IsOfOutput : TokensFault → Type 0
 IsOfOutput (Write written) = Unit {0}
 IsOfOutput OutOfMemory = Unit {0}

@@ -11,28 +11,28 @@ use ly_subset::SubsetFault;
 use std::alloc::AllocError;
 use thiserror::Error;
 
-/// Why there is no answer to a text under a lex file.
+/// Why `tokens` failed.
 #[derive(Clone, Copy, Debug, PartialEq, Eq, Error)]
 pub enum TokensFault {
-    /// The lex file is refused. Nothing was read or written.
+    /// The lex file is rejected. Nothing was read or written.
     #[error("lex file, {0}")]
     Lex(LexFault),
-    /// The patterns are too heavy together. Nothing was read or written.
+    /// The patterns together exceed the weight limit. Nothing was read or written.
     #[error("{0}")]
     Positions(PosFault),
-    /// The scanner has too many states before it is made smallest. Nothing was read or written.
+    /// The DFA has too many states before minimization. Nothing was read or written.
     #[error("{0}")]
     States(SubsetFault),
     /// The reader failed in this call. Nothing was written.
     #[error("the text could not be read")]
     Read,
-    /// The writer failed in this call, and just the first `written` bytes of the answer went out.
+    /// The writer failed in this call. Exactly the first `written` bytes of the output were written.
     #[error("the answer could not be written after {written} bytes")]
     Write {
-        /// How many bytes went out.
+        /// How many bytes were written.
         written: usize,
     },
-    /// A growth was refused, or the lines of so long a text might have more bytes than a usize counts. Nothing was
+    /// Out of memory, or the text is so long that the number of bytes of its lines might overflow a usize. Nothing was
     /// written.
     #[error("out of memory")]
     OutOfMemory,

@@ -1,4 +1,4 @@
-//! The lexer of a lex file: the rows of the smallest automaton of its patterns, spread over all bytes.
+//! The lexer of a lex file: the rows of the minimal DFA of its patterns, with an entry for each of the 256 bytes.
 ghost use Rattle.std.specs.List.{range_with_len};
 ghost use Rattle.std.specs.Prelude.{◌≡◌, ◌≤◌, ◌*◌, ℕ, List, length, map, IfErr, IfOk, OnOk};
 ghost use Rattle.ly_ere.specs.Names.{defined};
@@ -23,9 +23,9 @@ use ly_scan::{Lexer, Scanner, ScannerParts, Starts, StateRows};
 use ly_subset::Dfa;
 use std::alloc::Global;
 
-/// The lexer of a lex file, where it is within the limits.
+/// Returns the lexer of a lex file, if its DFA is within the limits.
 ///
-/// Its faults are those of `ScannerFault`.
+/// Its errors are those of `ScannerFault`.
 pub(crate) fn lexer_of(
     alloc: Global,
     file: &LexFile,
@@ -47,19 +47,19 @@ pub(crate) fn lexer_of(
     Ok(Lexer::new(alloc, scanner, passed)?)
 }
 
-/// The scanner over the rows of an automaton that tells these rules.
+/// Returns the scanner over the rows of a DFA for these rules.
 fn scanner_of(alloc: Global, dfa: &Dfa, rules: &[Rule]) -> Result<Scanner, OutOfMemory>
     ensures { IfOk result (λ t. scanner_of t ≡ record { walk = row_walk dfa.now; cut = cut_in rules.now }) }
 {
     Ok(Scanner::new(parts_of(alloc, dfa, rules)?))
 }
 
-/// What it is made of.
+/// Returns the parts of the scanner.
 fn parts_of(alloc: Global, dfa: &Dfa, rules: &[Rule]) -> Result<ScannerParts, OutOfMemory>
     ensures { IfOk result (λ p. IsTableOf dfa.now rules.now (table_from p)) }
 {
     let states = count_of(dfa.len())?;
-    // each condition has two starts, so none is left out
+    // each condition has two starts, so the count is right for all of them
     let conditions = count_of(dfa.starts())?;
     Ok(ScannerParts {
         starts: starts_of(alloc, dfa, conditions)?,
@@ -69,7 +69,7 @@ fn parts_of(alloc: Global, dfa: &Dfa, rules: &[Rule]) -> Result<ScannerParts, Ou
     })
 }
 
-/// A count as a number of 32 bits. More states or starts than have numbers have no room either.
+/// Returns a count as a u32. A count that exceeds a u32 is reported as out of memory.
 pub(crate) fn count_of(count: usize) -> Result<u32, OutOfMemory>
     ensures { IfOk result (λ n. n ≡ count) }
 {
@@ -79,7 +79,7 @@ pub(crate) fn count_of(count: usize) -> Result<u32, OutOfMemory>
     }
 }
 
-/// Where so many conditions begin.
+/// The start states of the first `count` conditions.
 fn starts_of(alloc: Global, dfa: &Dfa, count: u32) -> Result<Vec<Starts>, OutOfMemory>
     ensures { IfOk result (λ starts. starts.items ≡ map (begin_of dfa.now) (range_with_len 0 count)) }
 {
@@ -90,7 +90,7 @@ fn starts_of(alloc: Global, dfa: &Dfa, count: u32) -> Result<Vec<Starts>, OutOfM
     )
 }
 
-/// Where a condition begins.
+/// The start states of one condition.
 fn start_of(dfa: &Dfa, condition: u32) -> Starts
     ensures { result ≡ begin_of dfa.now condition }
 {
@@ -100,7 +100,7 @@ fn start_of(dfa: &Dfa, condition: u32) -> Starts
     }
 }
 
-/// The rules of an automaton's states, which are so many.
+/// The rule of each state of a DFA with this many states.
 fn rules_of(alloc: Global, dfa: &Dfa, states: u32) -> Result<Vec<Option<RuleNo>>, OutOfMemory>
     requires { states ≡ length dfa.now.rules }
     ensures { IfOk result (λ rules. AreRulesOf dfa.now rules.items) }
@@ -112,14 +112,14 @@ fn rules_of(alloc: Global, dfa: &Dfa, states: u32) -> Result<Vec<Option<RuleNo>>
     Ok(rules)
 }
 
-/// What is cut off the matches of rules.
+/// The trailing-context cut of each rule.
 fn cuts_of(alloc: Global, rules: &[Rule]) -> Result<Vec<Cut>, OutOfMemory>
     ensures { IfOk result (λ cuts. cuts.items ≡ map (λ r. r.pattern.cut) rules.now) }
 {
     Ok(rules.iter().map(|rule| rule.pattern.cut).collect(alloc)?)
 }
 
-/// The rows of an automaton's states, which are so many, spread over all bytes.
+/// The rows of a DFA with this many states, with an entry for each of the 256 bytes.
 fn spread(alloc: Global, dfa: &Dfa, states: u32) -> Result<StateRows, OutOfMemory>
     requires { states ≡ length dfa.now.rules }
     ensures counted { IfOk result (λ rows. length rows ≡ length dfa.now.rules * row_width) }
@@ -134,7 +134,7 @@ fn spread(alloc: Global, dfa: &Dfa, states: u32) -> Result<StateRows, OutOfMemor
     Ok(rows)
 }
 
-/// For each rule whether its lexemes are passed over: its action returns nothing and sets no condition.
+/// For each rule whether its lexemes are skipped: its action returns nothing and sets no condition.
 fn passed_rules(alloc: Global, actions: &[LexAction]) -> Result<Vec<bool>, OutOfMemory>
     ensures { IfOk result (λ passed. passed.items ≡ map is_passed actions.now) }
 {

@@ -17,29 +17,29 @@ use ly_listing::TokenNames;
 use ly_print::{Label, Terminal};
 use std::alloc::Global;
 
-/// The number of no label: the tokens have no lines.
+/// The number for tokens that aren't printed: they have no label.
 const NOTHING: u32 = 1;
 
-/// The number of the label of the literal of a token's first byte. Greater numbers are places among all labels.
+/// The number for tokens whose name is the literal of their first byte. Greater numbers are indices into the labels.
 const FIRST_BYTE: u32 = 2;
 
-/// What stands before the texts of tokens in their lines, made once: so a line is two copies.
+/// What is printed before the text of each token. The labels are made once, so printing a line is two copies.
 #[derive(Drop)]
 pub(crate) struct RuleLabels<'a> {
-    /// The actions that return the tokens, by rules.
+    /// The action of each rule.
     pub(crate) actions: &'a [LexAction],
-    /// The labels: that of each byte's literal, and behind these those of the rules' own tokens.
+    /// The labels: first those of the 256 literals, then those of the tokens that the rules name.
     pub(crate) labels: Vec<Label>,
     /// The number of each rule's label.
     numbers: Vec<u32>,
-    /// The same where the rule sets no condition, and else 0.
+    /// The number of each rule's label if the rule sets no condition, else 0.
     pub(crate) facts: Vec<u32>,
     ghost made: { AreLabels actions.now numbers.items labels.items } by { Prim.hlevel props },
     ghost told: { AreFacts actions.now facts.items labels.items } by { Prim.hlevel props },
 }
 
 impl<'a> RuleLabels<'a> {
-    /// The labels of the tokens that these actions return. It fails where memory runs out.
+    /// Makes the labels of the tokens that these actions return. Returns an error if memory runs out.
     pub(crate) fn new(
         alloc: Global,
         actions: &'a [LexAction],
@@ -64,7 +64,7 @@ impl<'a> RuleLabels<'a> {
         })
     }
 
-    /// The label of a rule's token, if it has a line.
+    /// The label of a rule's token, or `None` if the token isn't printed.
     pub(crate) fn get(&self, rule: RuleNo, token: &[u8]) -> Option<&Label>
         requires { 0 < length token.now }
         ensures { option_map (λ l. l.now) result
@@ -73,7 +73,7 @@ impl<'a> RuleLabels<'a> {
         self.numbered(*self.numbers.get(rule.0 as usize)?, token[0])
     }
 
-    /// The place of the label of a rule's token among all labels, if it has a line.
+    /// The index of the label of a rule's token, or `None` if the token isn't printed.
     pub(crate) fn place(&self, rule: RuleNo, token: &[u8]) -> Option<usize>
         requires { 0 < length token.now }
         ensures { option_map before_leaf (naming self.now.actions.now rule.0 token.now)
@@ -82,7 +82,7 @@ impl<'a> RuleLabels<'a> {
         place_of(*self.numbers.get(rule.0 as usize)?, token[0])
     }
 
-    /// The label of a number, of a token that begins with this byte.
+    /// The label with a number, for a token that begins with this byte.
     #[inline(always)]
     pub(crate) fn numbered(&self, number: u32, first: u8) -> Option<&Label>
         ensures { option_map (λ l. l.now) result ≡ label_at self.now.labels.items number first }
@@ -91,7 +91,7 @@ impl<'a> RuleLabels<'a> {
     }
 }
 
-/// The place of the label of a number among all labels, of a token that begins with this byte, if it has a line.
+/// The index of the label with a number, for a token that begins with this byte. `None` if the token isn't printed.
 #[inline(always)]
 pub(crate) fn place_of(number: u32, first: u8) -> Option<usize>
     ensures { result ≡ place_at number first }
@@ -112,7 +112,7 @@ impl TokenNames for RuleLabels<'_> {
     ghost begins = { λ l i. condition_set l.actions.now i };
 
     fn name(&self, rule: RuleNo, lexeme: &[u8]) -> Option<&[u8]> {
-        // the name's quote is no part of it
+        // the closing quote is no part of the name
         let (_, name) = self.get(rule, lexeme)?.bytes().split_last()?;
         Some(name)
     }
@@ -122,7 +122,7 @@ impl TokenNames for RuleLabels<'_> {
     }
 }
 
-/// The fact of a rule by its action and the number of its label.
+/// The fact of a rule: its label's number if its action sets no condition, else 0.
 fn fact_of(action: &LexAction, number: u32) -> u32
     ensures { result ≡ fact_for action.now.begin number }
 {
@@ -132,8 +132,8 @@ fn fact_of(action: &LexAction, number: u32) -> u32
     }
 }
 
-/// The number of the label of the tokens that an action returns: that of the action before, where it returns the same
-/// name. An own one is added else.
+/// Returns the number of the label for the token that an action returns. If the action before returns the same name, it
+/// is that action's number. Otherwise a new label is added.
 fn number_of(
     alloc: Global,
     labels: &mut Vec<Label>,
@@ -158,7 +158,7 @@ fn number_of(
     })
 }
 
-/// Whether both are the token of one name.
+/// Whether both return the token with the same name.
 fn is_same_token(one: &Returned, other: &Returned) -> bool
     ensures { OnTrue result (meaning_of one.now ≡ meaning_of other.now) }
 {
@@ -168,7 +168,7 @@ fn is_same_token(one: &Returned, other: &Returned) -> bool
     }
 }
 
-/// Adds the label of a terminal, and answers its number.
+/// Adds the label of a terminal and returns its number.
 fn own_label(
     alloc: Global,
     labels: &mut Vec<Label>,
@@ -183,7 +183,7 @@ fn own_label(
     Ok(number)
 }
 
-/// The label of each byte's literal.
+/// The labels of the 256 literals.
 fn literal_labels(alloc: Global) -> Result<Vec<Label>, OutOfMemory>
     ensures literals { IfOk result (λ labels. AreLiteralLabels labels.items) }
     ensures count { IfOk result (λ labels. length labels.items ≡ 256) }

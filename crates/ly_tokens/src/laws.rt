@@ -1,11 +1,12 @@
 ghost use Rattle.ly_tokens.specs.Laws.{AnswerIsOne, RowWalkAgrees};
 
-/// The bytes of a lex file and those of a text have one answer, whose end is one too.
+/// A lex file and a text have exactly one output, which ends in exactly one way.
 pub fn answer_is_one()
     ensures { AnswerIsOne }
 {}
 
-/// The walk over the rows of an automaton that has the rules of a lex file's subsets agrees with them.
+/// A walk over the rows of a DFA agrees with the rules of a lex file, if the DFA has the same rules as the file's
+/// subset construction.
 pub fn row_walk_agrees()
     ensures { RowWalkAgrees }
 {}

@@ -1,9 +1,14 @@
-//! From the bytes of a lex file and a text to the printed tokens: `tokens`. What it writes is the answer to the text
-//! under the file that the lex bytes spell (`Answers`), and there is one such answer (`answer_is_one`). Its lexer walks
-//! the rows of the smallest automaton of the patterns (`row_walk`), which agree with the rules (`row_walk_agrees`).
-//! `subset_scanner` is the way from a lex file to the states of its scanner, for whoever makes tables of them too.
+//! Lists the tokens of a text under a lex file: `tokens`. The lexer runs the minimal DFA of the patterns (`row_walk`).
+//! Two theorems cover it. The DFA agrees with the rules of the lex file (`row_walk_agrees`). The output is the one that
+//! the lex file defines for the text (`Answers`, `answer_is_one`).
 //!
-//! Left out: grammars, and files, words and lines of faults.
+//! `subset_scanner` makes the DFA before minimization. It is public because table generation starts with it too.
+//!
+//! The text is read completely before the first line is written, because a failed read or allocation must leave the
+//! output empty. Holding the lines instead would take more memory.
+//!
+//! This is a crate of its own since it needs no grammar. It doesn't open files, parse arguments or print error
+//! messages.
 #![tactic(auto)]
 
 mod fault;

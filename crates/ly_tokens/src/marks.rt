@@ -1,4 +1,4 @@
-//! What a walk over a text has found, so that the lines of its tokens are written without another one.
+//! The tokens that a first walk over a text has found. With them the lines are written without a second walk.
 ghost use Rattle.std.specs.Prelude.{◌≡◌, ◌<◌, ◌≤◌, ◌+◌, ◌-◌, ◌*◌, ◌^◌, [], length, drop, true, false};
 ghost use Rattle.std.specs.Prelude.{option_map, OnErr, OnOk};
 ghost use Rattle.ly_print.specs.Device.{next_count};
@@ -12,33 +12,33 @@ use ly_base::{End, Place};
 use ly_print::{Front, Label, Sink, TextWriter, WriteFault};
 use std::alloc::Global;
 
-/// Added to the place of a mark's label where both of its bytes count the token's, and no gap stands before it.
+/// Added to a mark's label index if both of the mark's bytes hold the token's length. Then no skipped bytes precede the
+/// token.
 const WIDE: u16 = 32_768;
 
-/// The place of no label: the bytes are passed over.
+/// The label index for no label: the bytes are skipped.
 const NO_LABEL: u16 = 32_767;
 
-/// The tokens that stand in a text behind one another take four bytes each, but for those that are long or stand far
-/// from the one before.
+/// One printed token in four bytes. A token that is long, or far from the one before, takes two marks.
 #[derive(Clone, Copy)]
 pub(crate) struct Mark {
-    /// The place of the token's label among all labels; of a wide mark `WIDE` more.
+    /// The index of the token's label. In a wide mark `WIDE` is added to it.
     label: u16,
-    /// How many bytes stand before the token; of a wide mark its length by 256.
+    /// How many skipped bytes precede the token. In a wide mark it is the token's length divided by 256.
     gap: u8,
-    /// How many bytes it has; of a wide mark what is left of its length.
+    /// The length of the token in bytes. In a wide mark it is the length modulo 256.
     taken: u8,
 }
 
 impl Mark {
-    /// Whether both bytes count the token's.
+    /// Whether both bytes hold the token's length.
     fn is_wide(self) -> bool
         ensures { result ≡ is_wide self }
     {
         WIDE <= self.label
     }
 
-    /// How many bytes stand before the token.
+    /// How many skipped bytes precede the token.
     fn gap(self) -> usize
         ensures { result ≡ gap_of self }
     {
@@ -49,7 +49,7 @@ impl Mark {
         }
     }
 
-    /// How many bytes the token has.
+    /// The length of the token in bytes.
     fn taken(self) -> usize
         ensures { result ≡ taken_of self }
     {
@@ -60,7 +60,7 @@ impl Mark {
         }
     }
 
-    /// The label of the token, if it has one.
+    /// The token's label, if it has one.
     #[inline(always)]
     fn label(self, labels: &[Label]) -> Option<&Label>
         ensures { option_map (λ l. l.now) result ≡ label_of labels.now self }
@@ -77,17 +77,17 @@ impl Mark {
     }
 }
 
-/// The tokens with lines at the front of a text, while they are found.
+/// Collects the marks of the printed tokens from the start of a text on.
 #[derive(Drop)]
 pub(crate) struct Marks {
-    /// Their marks.
+    /// The marks so far.
     pub(crate) marks: Vec<Mark>,
-    /// How many bytes of the text are left behind the last of them.
+    /// How many bytes of the text follow the last marked token.
     pub(crate) left: usize,
 }
 
 impl Marks {
-    /// No marks in a text of so many bytes.
+    /// No marks yet, in a text with this many bytes left.
     pub(crate) fn new(alloc: Global, left: usize) -> Marks
         ensures none { result.marks.items ≡ [] }
         ensures left { result.left ≡ left }
@@ -98,9 +98,9 @@ impl Marks {
         }
     }
 
-    /// Notes a token of so many bytes, if it has a label, where so many bytes are left, by the label's place. Answers
-    /// false where it has no mark, or there is no room for it.
-    #[inline(always)] // so that the loop that marks has the registers
+    /// Notes a token of `taken` bytes that starts where `left` bytes are left, if it has a label. Returns false if
+    /// there is no mark for it or no memory.
+    #[inline(always)] // to leave the marking loop the registers
     pub(crate) fn note_if(&mut self, left: usize, label: Option<usize>, taken: usize) -> bool
         requires left { left ≤ self.old.left }
         requires taken { taken ≤ left }
@@ -115,8 +115,8 @@ impl Marks {
         }
     }
 
-    /// Notes a token of so many bytes where so many are left.
-    #[inline(always)] // so that the loop that marks has the registers
+    /// Notes a token of `taken` bytes that starts where `left` bytes are left.
+    #[inline(always)] // to leave the marking loop the registers
     fn note(&mut self, left: usize, place: usize, taken: usize) -> bool
         requires left { left ≤ self.old.left }
         requires taken { taken ≤ left }
@@ -141,8 +141,8 @@ impl Marks {
         true
     }
 
-    /// Notes a token that is long or stands far from the one before, by a mark for the gap and one for the token.
-    #[inline(never)] // so that others have the registers
+    /// Notes a token that is long or far from the one before: a mark for the skipped bytes and one for the token.
+    #[inline(never)] // to leave the callers the registers
     fn note_far(&mut self, left: usize, place: usize, taken: usize) -> bool
         requires left { left ≤ self.old.left }
         requires taken { taken ≤ left }
@@ -165,7 +165,7 @@ impl Marks {
     }
 }
 
-/// The mark of so many bytes with the label at a place.
+/// A wide mark for this many bytes, with the label at an index.
 fn wide(place: u16, bytes: usize) -> Mark
     requires place { place ≤ 32767 }
     requires bytes { bytes < 65536 }
@@ -179,19 +179,19 @@ fn wide(place: u16, bytes: usize) -> Mark
     }
 }
 
-/// What a walk over a text has found.
+/// What the first walk over a text has found.
 #[derive(Drop)]
 pub(crate) struct Walked<'t> {
-    /// How the run over the text ends.
+    /// How lexing the text ends.
     pub(crate) end: End,
-    /// The tokens with lines up to a place.
+    /// The marks of the printed tokens before `place`.
     pub(crate) marks: Vec<Mark>,
-    /// The place.
+    /// Where the marks end.
     pub(crate) place: Place<'t>,
 }
 
-/// Writes the lines of the tokens that are marked at the front of a text.
-#[inline(never)] // so that it has the registers
+/// Writes the lines of the marked tokens, which start at the beginning of a text.
+#[inline(never)] // to leave it the registers
 pub(crate) fn write_marked<W: Sink>(
     marks: &[Mark],
     text: &[u8],
@@ -219,7 +219,7 @@ pub(crate) fn write_marked<W: Sink>(
     Ok(())
 }
 
-/// What stands behind so many bytes.
+/// The bytes after the first `count`.
 #[inline(always)]
 fn behind(bytes: &[u8], count: usize) -> &[u8]
     requires { count ≤ length bytes.now }

@@ -1,4 +1,4 @@
-//! How the run over a text ends, which is known before a line of it is written.
+//! Finds out how lexing a text ends before a line is written.
 ghost use Rattle.std.specs.Prelude.{◌≡◌, ◌<◌, ◌≤◌, ◌+◌, ◌^◌, ℕ, List, length, map, true};
 ghost use Rattle.std.specs.Bool.{OnTrue};
 ghost use Rattle.ly_base.specs.declared.lexeme.End.{End};
@@ -19,8 +19,8 @@ use ly_base::{End, Place};
 use ly_scan::{KnownWalks, Lexer, Steps};
 use std::alloc::Global;
 
-/// How the run over a text ends, under so many conditions. Where each byte alone has a rule in each of them it is
-/// clean, whatever the text is; else the text is walked over once, and what is found is marked.
+/// Returns how lexing a text ends, under this many conditions. If each byte alone has a rule in each condition, it ends
+/// cleanly for any text. Otherwise this walks over the text once and marks the tokens it finds.
 pub(crate) fn run_end<'t>(
     alloc: Global,
     lexer: &Lexer,
@@ -49,7 +49,7 @@ pub(crate) fn run_end<'t>(
     walked_end(alloc, lexer, text, labels, facts)
 }
 
-/// Whether each byte alone has a rule, in each of so many conditions.
+/// Whether each byte alone has a rule, in each of this many conditions.
 fn begins_everywhere<S: Steps>(steps: &S, conditions: u32) -> bool
     ensures { let scanner : Scanner = record { walk = S.walk steps.now; cut = S.cut_of steps.now } in
         OnTrue result (BeginsEverywhere scanner conditions) }
@@ -94,7 +94,7 @@ fn has_rule<S: Steps>(steps: &S, condition: u32, line: bool, byte: u8) -> bool
     }
 }
 
-/// How the run over a text ends, by a walk over the text, with marks of its tokens as far as there is room for them.
+/// Walks over the text, returns how lexing ends, and marks the tokens as far as memory allows.
 fn walked_end<'t>(
     alloc: Global,
     lexer: &Lexer,
@@ -129,15 +129,15 @@ fn walked_end<'t>(
                     place,
                 };
             }
-            // the end decides
+            // the end of the text decides each match
             Ok(None) => unreachable!(),
         }
     }
 }
 
-/// Marks lexemes from a place on, as long as they are told by the facts of states and there is room, and answers where
-/// the next one stands.
-#[inline(never)] // so that it has the registers
+/// Marks lexemes from a place on. It stops at the first one that the final state alone doesn't determine, or when
+/// memory runs out. Returns where the next lexeme starts.
+#[inline(never)] // to leave it the registers
 fn mark_told<'t>(
     lexer: &Lexer,
     labels: &RuleLabels<'_>,
@@ -171,7 +171,7 @@ fn mark_told<'t>(
     }
 }
 
-/// How the run ends from a place on, up to which its tokens are marked.
+/// Returns how lexing ends from a place on, where the marks end.
 fn without_marks<'t>(
     lexer: &Lexer,
     labels: &RuleLabels<'_>,
@@ -201,7 +201,7 @@ fn without_marks<'t>(
     }
 }
 
-/// How the run ends from a place on.
+/// Returns how lexing ends from a place on.
 fn end_from(
     lexer: &Lexer,
     labels: &RuleLabels<'_>,
@@ -223,15 +223,14 @@ fn end_from(
                 place.advance(lexeme.taken, condition_set(labels.actions, lexeme.rule))
             }
             Err(end) => return end,
-            // the end decides
+            // the end of the text decides each match
             Ok(None) => unreachable!(),
         }
     }
 }
 
-/// Passes over lexemes from a place on, as long as they are told by the facts of states, and answers where the next one
-/// stands.
-#[inline(never)] // so that it has the registers
+/// Skips lexemes from a place on, as long as the final state alone determines them. Returns where the next one starts.
+#[inline(never)] // to leave it the registers
 fn pass_told<'t>(
     lexer: &Lexer,
     labels: &RuleLabels<'_>,

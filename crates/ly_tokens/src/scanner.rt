@@ -16,10 +16,10 @@ use ly_position::positions;
 use ly_subset::{Dfa, subsets};
 use std::alloc::Global;
 
-/// The scanner of a lex file, whose states are the sets of positions of its patterns (Rabin and Scott 1959), where it
-/// is within the limits.
+/// The DFA of a lex file, if it is within the limits. Its states are the sets of positions of the patterns (subset
+/// construction, Rabin and Scott 1959).
 ///
-/// Its faults are those of `ScannerFault`.
+/// Its errors are those of `ScannerFault`.
 pub fn subset_scanner(alloc: Global, file: &LexFile, limits: &Limits) -> Result<Dfa, ScannerFault>
     ensures scanner { IfOk result (IsSubsetScanner file.now) }
     ensures states { IfOk result (λ d. length d.rules ≤ limits.now.scanner_states) }
@@ -33,7 +33,7 @@ pub fn subset_scanner(alloc: Global, file: &LexFile, limits: &Limits) -> Result<
     Ok(subsets(alloc, &nfa, file.conditions, limits)?)
 }
 
-/// The smallest automaton of a lex file's patterns, whose rows are walked.
+/// The minimal DFA of a lex file's patterns, which the lexer runs.
 pub(crate) fn smallest_automaton(
     alloc: Global,
     file: &LexFile,

@@ -7,16 +7,16 @@ use ly_position::PosFault;
 use ly_subset::SubsetFault;
 use thiserror::Error;
 
-/// Why the patterns of a lex file have no scanner within the limits.
+/// Why the patterns of a lex file have no DFA within the limits.
 #[derive(Clone, Copy, Debug, PartialEq, Eq, Error)]
 pub enum ScannerFault {
-    /// The patterns are too heavy together.
+    /// The patterns together exceed the weight limit.
     #[error("{0}")]
     Positions(PosFault),
-    /// The scanner has too many states before it is made smallest.
+    /// The DFA has too many states before minimization.
     #[error("{0}")]
     States(SubsetFault),
-    /// A growth was refused.
+    /// Out of memory.
     #[error("out of memory")]
     OutOfMemory,
 }

@@ -25,10 +25,9 @@ use ly_print::{Front, Sink, TextWriter, WriteFault};
 use ly_scan::{KnownWalks, Lexer};
 use std::alloc::Global;
 
-/// Writes the lines of the tokens that a lexer finds in a text, with a last one where no rule matches: first those that
-/// were marked while it was found how the run over the text ends. The loop takes those lexemes alone that aren't told
-/// by the facts of states.
-#[inline(always)] // by a call what the loop reads of the lexer is read anew for each lexeme
+/// Writes the lines of the tokens of a text, and a last line if no rule matches somewhere. The marked tokens come
+/// first. After those the loop takes one lexeme at a time, if the final state alone doesn't determine it.
+#[inline(always)] // else the loop reloads the lexer's fields for each lexeme
 pub(crate) fn write_token_lines<W: Sink>(
     alloc: Global,
     lexer: &Lexer,
@@ -75,15 +74,15 @@ pub(crate) fn write_token_lines<W: Sink>(
                 lines.finish(writer)?;
                 return Ok(());
             }
-            // the end decides
+            // the end of the text decides each match
             Ok(None) => unreachable!(),
         }
     }
 }
 
-/// Writes the lines of lexemes from a place on, as long as they are told by the facts of states, and answers where the
-/// next one stands.
-#[inline(never)] // so that it has the registers
+/// Writes the lines of lexemes from a place on, as long as the final state alone determines them. Returns where the
+/// next one starts.
+#[inline(never)] // to leave it the registers
 fn write_told<'t, W: Sink>(
     lexer: &Lexer,
     labels: &RuleLabels<'_>,
@@ -131,7 +130,8 @@ pub(crate) fn first_of(bytes: &[u8]) -> u8
     bytes[0]
 }
 
-/// Appends the line of the token of a lexeme by the fact of its rule and by its first byte, if it has one.
+/// Appends the line of a lexeme's token, by the fact of its rule and its first byte. Appends nothing if the token isn't
+/// printed.
 #[inline(always)] // as `write_told`
 fn push_told<W: Sink>(
     lines: &mut TextWriter,
@@ -156,8 +156,8 @@ fn push_told<W: Sink>(
     }
 }
 
-/// Whether the lines of so many bytes' tokens can be counted. It may say no where names are so long that none could be
-/// held.
+/// Whether the bytes of the output are sure to fit in a usize, for a text of this many bytes. It may return false if
+/// the names are too long for memory.
 pub(crate) fn are_countable(actions: &[LexAction], bytes: usize) -> bool
     ensures { OnTrue result (AreCountable actions.now bytes) }
 {
@@ -184,7 +184,7 @@ fn longest_name(actions: &[LexAction]) -> usize
 }
 
 /// Appends the line of a lexeme's token, if the rule's action returns one.
-#[inline(never)] // so that a line is printed in one place else
+#[inline(never)] // to keep the code that prints a line in one other place
 fn push_token<W: Sink>(
     lines: &mut TextWriter,
     writer: &mut W,
@@ -230,7 +230,7 @@ fn push_end<W: Sink>(lines: &mut TextWriter, writer: &mut W, end: End) -> Result
     }
 }
 
-/// Appends the line that says at which byte no rule matches.
+/// Appends the line that reports the byte at which no rule matches.
 fn push_stuck<W: Sink>(lines: &mut TextWriter, writer: &mut W, byte: u64) -> Result<(), WriteFault>
     requires countable { bytes_of lines.old + 64 < 2 ^ 64 }
     ensures text { IsAppended lines.old lines.new (W.contents writer.old) (W.contents writer.new)

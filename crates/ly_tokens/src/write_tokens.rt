@@ -37,12 +37,12 @@ use ly_print::{AnswerForm, Sink, Source, TextWriter, read_whole, write_whole};
 use ly_scan::Lexer;
 use std::alloc::Global;
 
-/// Writes the tokens of a text under a lex file (POSIX, XCU lex) in a form, a line for each, and a last line if no rule
-/// matches somewhere. The text is all that the reader gives. It is read whole, and how its tokens end is known, before
-/// a byte is written, and then only a write can fail. Plain lines are written while the tokens are found; lines of
-/// JSON, which say where each token begins and ends, are all made before.
+/// Writes the tokens of a text under a lex file (POSIX, XCU lex), one line for each. If no rule matches somewhere, a
+/// last line reports it. The text is all that the reader returns. It is read completely, and how lexing ends is known,
+/// before a byte is written. After that only a write can fail. Plain lines are written while the tokens are found. JSON
+/// lines, which have the span of each token, are all made before the first one is written.
 ///
-/// Its faults are those of `TokensFault`.
+/// Its errors are those of `TokensFault`.
 pub fn tokens<R: Source, W: Sink>(
     alloc: Global,
     lex: &[u8],
@@ -81,7 +81,7 @@ pub fn tokens<R: Source, W: Sink>(
     write_answer(alloc, &file, &limits, form, reader, writer)
 }
 
-/// Writes the answer to the text that a reader gives, under a lex file, and answers how its tokens end.
+/// Reads the text, writes its tokens under a lex file, and returns how lexing ends.
 fn write_answer<R: Source, W: Sink>(
     alloc: Global,
     file: &LexFile,
@@ -111,7 +111,7 @@ fn write_answer<R: Source, W: Sink>(
     write_answer_by(alloc, file, &lexer, form, &text, writer)
 }
 
-/// Writes the answer to a text under a lex file in a form, by any lexer whose scanner agrees with its rules.
+/// Writes the tokens of a text in a form, with any lexer whose scanner agrees with the rules of the lex file.
 fn write_answer_by<W: Sink>(
     alloc: Global,
     file: &LexFile,
@@ -142,7 +142,7 @@ fn write_answer_by<W: Sink>(
     }
 }
 
-/// Writes the plain answer, while the tokens are found.
+/// Writes the plain lines while the tokens are found.
 fn write_lines<W: Sink>(
     alloc: Global,
     file: &LexFile,
@@ -178,7 +178,7 @@ fn write_lines<W: Sink>(
     Ok(token_end(end))
 }
 
-/// Writes the answer as JSON, once it is made.
+/// Makes all JSON lines, then writes them.
 fn write_listing<W: Sink>(
     alloc: Global,
     file: &LexFile,
@@ -208,7 +208,7 @@ fn write_listing<W: Sink>(
     Ok(token_end(end))
 }
 
-/// The end of a run in which each cut leaves a token.
+/// The end of lexing, if each cut leaves a token.
 fn token_end(end: End) -> TokenEnd
     requires { LeavesTokens end }
     ensures { end_of result ≡ end }

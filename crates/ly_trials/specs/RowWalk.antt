@@ -24,7 +24,7 @@ run rows (Some state) (byte ∷ text) = run rows (next_state rows state byte) te
 abbrev pub rule_in : List Row → ℕ → Option ℕ
 rule_in rows state = option_map (λ r. r.0) (option_and_then (λ row. row.rule) (slice_get rows state))
 
--- what the rows say of bytes, from a state
+-- the result of the rows for bytes, from a state
 abbrev pub rows_ahead : List Row → ℕ → List ℕ → Option (Option ℕ)
 rows_ahead rows state text = option_map (rule_in rows) (run rows (Some state) text)
 
@@ -37,7 +37,7 @@ start_entry starts condition line
 abbrev pub first_state : List (List ℕ) → ℕ → Bool → Option ℕ
 first_state starts condition line = led (start_entry starts condition line)
 
--- what the rows say of bytes, from the start of a condition
+-- the result of the rows for bytes, from the start of a condition
 abbrev pub rows_walk : List Row → List (List ℕ) → ℕ → Bool → List ℕ → Option (Option ℕ)
 rows_walk rows starts condition line text
     = option_map (rule_in rows) (run rows (first_state starts condition line) text)

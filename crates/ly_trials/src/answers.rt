@@ -1,5 +1,5 @@
-//! Table sets, by functions that promise nothing: a test that calls these carries none of what the calls behind them
-//! promise, so its own proof stays short.
+//! Table sets, made by functions without contracts. A test that calls these doesn't carry the contracts of the calls
+//! inside, so its own proof stays short.
 
 use ly_base::Limits;
 use ly_engine::{TableSet, Version, generate, read_tables};

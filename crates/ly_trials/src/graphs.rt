@@ -1,4 +1,4 @@
-//! Least sets along graphs: a long chain and a ring, by few changes.
+//! Least sets along graphs: a long chain and a ring, each with few changes.
 
 use crate::sets::{count, holds, insert};
 use ly_base::OutOfMemory;
@@ -7,7 +7,7 @@ use ly_sets::SetMatrix;
 use std::alloc::Global;
 use std::test::Fail;
 
-/// Adds an edge between nodes that there are.
+/// Adds an edge between existing nodes.
 fn add(graph: &mut Graph, from: u32, to: u32) -> Result<(), OutOfMemory> {
     if (from as usize) < graph.nodes() && (to as usize) < graph.nodes() {
         graph.add(from as usize, to as usize)?;
@@ -15,7 +15,7 @@ fn add(graph: &mut Graph, from: u32, to: u32) -> Result<(), OutOfMemory> {
     Ok(())
 }
 
-/// The one pass, if there is a set for each node.
+/// Solves in one pass, if there is a set for each node.
 fn pass(alloc: Global, graph: &Graph, sets: &mut SetMatrix) -> Result<(), OutOfMemory> {
     if sets.rows() < graph.nodes() {
         return Ok(());
@@ -23,7 +23,7 @@ fn pass(alloc: Global, graph: &Graph, sets: &mut SetMatrix) -> Result<(), OutOfM
     least(alloc, graph, sets)
 }
 
-/// By how much `changes` rose in the one pass.
+/// By how much one pass increases `changes`.
 fn solve(alloc: Global, graph: Graph, sets: &mut SetMatrix) -> Result<u64, OutOfMemory> {
     let before = sets.changes();
     let passed = pass(alloc, &graph, sets);
@@ -40,21 +40,21 @@ fn add_steps(graph: &mut Graph, nodes: u32) -> Result<(), OutOfMemory> {
     Ok(())
 }
 
-/// Each node leads to the next.
+/// The graph in which each node leads to the next.
 fn chain(alloc: Global, nodes: u32) -> Result<Graph, OutOfMemory> {
     let mut graph = Graph::new(alloc, nodes as usize)?;
     add_steps(&mut graph, nodes)?;
     Ok(graph)
 }
 
-/// Each node leads to the next, and the last one to the first.
+/// The graph in which each node leads to the next, and the last one to the first.
 fn ring(alloc: Global, nodes: u32) -> Result<Graph, OutOfMemory> {
     let mut graph = chain(alloc, nodes)?;
     add(&mut graph, nodes.saturating_sub(1), 0)?;
     Ok(graph)
 }
 
-/// Whether each node of a chain gets the number of the last one, by few changes.
+/// Whether each node of a chain gets the number of the last one, with few changes.
 fn is_chain_solved(alloc: Global, nodes: u32) -> Result<bool, OutOfMemory> {
     let mut sets = SetMatrix::new(alloc, nodes as usize, 1)?;
     insert(&mut sets, nodes.saturating_sub(1) as usize, 0)?;
@@ -71,14 +71,14 @@ fn all_hold_first(sets: &SetMatrix) -> bool {
     held
 }
 
-/// Whether each node of a ring gets the numbers of all, by few changes.
+/// Whether each node of a ring gets the numbers of all, with few changes.
 fn is_ring_solved(alloc: Global, nodes: u32) -> Result<bool, OutOfMemory> {
     let mut sets = own_numbers(alloc, nodes)?;
     let rise = solve(alloc, ring(alloc, nodes)?, &mut sets)?;
     Ok(rise <= u64::from(nodes).saturating_mul(2) && all_have(&sets, nodes as usize))
 }
 
-/// The sets of so many nodes of which each has its own number.
+/// The sets of this many nodes. Each node has its own number.
 fn own_numbers(alloc: Global, nodes: u32) -> Result<SetMatrix, OutOfMemory> {
     let mut sets = SetMatrix::new(alloc, nodes as usize, nodes as usize)?;
     for number in 0..nodes {
@@ -87,7 +87,7 @@ fn own_numbers(alloc: Global, nodes: u32) -> Result<SetMatrix, OutOfMemory> {
     Ok(sets)
 }
 
-/// Whether each set has so many numbers.
+/// Whether each set has this many numbers.
 fn all_have(sets: &SetMatrix, wanted: usize) -> bool {
     let mut have = true;
     for node in 0..sets.rows() {

@@ -1,6 +1,9 @@
-//! Tests over the crates: what no run of the program shows, and public functions that no run calls.
+//! Tests over the crates: behaviour that no run of the program shows, and public functions that no run calls.
 //!
-//! `RowWalk` is the smallest walk that a scanner can have. `docs/testing.md` says what is tested where.
+//! All tests are in this crate. Checking a crate's tests first reads all code that they link, which takes most of a
+//! minute, so this is done once.
+//!
+//! `RowWalk` is the simplest walk that a scanner can have. `docs/testing.md` lists what is tested where.
 #![tactic(auto)]
 
 mod row_walk;

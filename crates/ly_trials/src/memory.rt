@@ -1,4 +1,4 @@
-//! Want of memory: an answer is right, or it is that memory ran out, and nothing else; here that of `tokens`.
+//! Out of memory: a result is right, or it is out of memory, and nothing else. Here this is tested for `tokens`.
 
 use ly_engine::{AnswerForm, TokenEnd, TokensFault, tokens};
 use ly_print::{Counted, MemSource};
@@ -11,10 +11,10 @@ const TEXT: &[u8] = b"if ifx";
 
 const LINES: &[u8] = b"IF\"if\"\nID\"ifx\"\n";
 
-/// How often it is tried.
+/// The number of tries.
 pub(crate) const TRIES: u32 = 4_000;
 
-/// So many small blocks, one behind the other.
+/// Allocates this many small blocks, one after another.
 pub(crate) fn small_blocks(alloc: Global, count: u32) -> Result<Vec<Vec<u8>>, AllocError> {
     let mut blocks = Vec::new(alloc);
     for _ in 0..count {
@@ -23,12 +23,12 @@ pub(crate) fn small_blocks(alloc: Global, count: u32) -> Result<Vec<Vec<u8>>, Al
     Ok(blocks)
 }
 
-/// Gives back the last block.
+/// Frees the last block.
 pub(crate) fn give_back(blocks: &mut Vec<Vec<u8>>) {
     let _ = blocks.pop();
 }
 
-/// Takes all the room that there is, the smallest blocks last.
+/// Allocates all memory that is left, the smallest blocks last.
 pub(crate) fn hog(alloc: Global) -> Vec<Vec<u8>> {
     let mut held = Vec::new(alloc);
     let _ = held.reserve(60_000);
@@ -56,19 +56,19 @@ pub(crate) fn hog(alloc: Global) -> Vec<Vec<u8>> {
 pub(crate) enum Trial {
     /// With the right lines.
     Answered,
-    /// With that memory ran out, and nothing written.
+    /// Out of memory, with nothing written.
     Refused,
-    /// Otherwise.
+    /// In any other way.
     Wrong,
 }
 
-/// What is tried again and again, with more room each time.
+/// What is tried again and again, with more memory each time.
 pub(crate) trait Attempt {
-    /// How a try ends.
+    /// Makes one try.
     fn trial(&mut self, alloc: Global) -> Trial;
 }
 
-/// How many of so many tries are refused, and how many are answered, with a block given back at each.
+/// How many of the tries run out of memory, and how many succeed. One block is freed before each.
 fn trials<A: Attempt>(
     alloc: Global,
     blocks: &mut Vec<Vec<u8>>,
@@ -88,9 +88,9 @@ fn trials<A: Attempt>(
     Ok((refused, answered))
 }
 
-/// How many of so many tries are refused and answered where no memory is left at first, and a small block more at each
-/// try. (All room can be taken where a process has a limit of it, or its addresses end.) That memory never runs out
-/// where it is ample the worked examples show.
+/// How many of the tries run out of memory and succeed, if no memory is left at first and each try gets one more small
+/// block. (All memory can be allocated if a process has a limit of it, or if its addresses end.) That memory never runs
+/// out while there is enough is shown by the worked examples.
 pub(crate) fn trials_of_all_room<A: Attempt>(
     alloc: Global,
     attempt: &mut A,
@@ -106,7 +106,7 @@ pub(crate) fn trials_of_all_room<A: Attempt>(
 struct Tokens;
 
 impl Tokens {
-    /// Writes them into some room.
+    /// Writes them to a block.
     fn write_into(alloc: Global, room: &mut [u8]) -> Result<TokenEnd, TokensFault> {
         let mut writer = Counted::new(room);
         tokens(

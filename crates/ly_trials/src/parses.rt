@@ -1,9 +1,8 @@
-//! Parsers over rows that stand apart and over those that are laid over one another answer alike, and are over behind
-//! a refusal.
+//! Parsers over dense rows and over packed rows return the same, and are over after a syntax error.
 //!
-//! Their grammar is `s : 'x' ;`, of which `'x'` is terminal 2: state 0 reads it into state 1 and goes by `s` to
-//! state 2, state 1 reduces before whatever comes, and state 2 accepts the end. So `x` alone is accepted, and its term
-//! is the leaf of that token.
+//! The grammar is `s : 'x' ;`, and `'x'` is terminal 2. State 0 shifts it into state 1 and goes to state 2 with `s`.
+//! State 1 reduces before any terminal, and state 2 accepts the end. So only `x` is accepted, and its term is the leaf
+//! of that token.
 
 ghost use Rattle.ly_pack.specs.Steady.{IsSteady};
 ghost use Rattle.std.specs.Prelude.{◌≡◌, ◌<◌};
@@ -18,14 +17,14 @@ use ly_tree::TermRef;
 use std::alloc::Global;
 use std::test::Fail;
 
-/// What a parser is to answer to a call.
+/// What a parser should return for a call.
 #[derive(Clone, Copy)]
 enum Wanted {
     /// The parse goes on.
     More,
     /// The term is the leaf of the first token.
     Leaf,
-    /// The token of this number, at byte 5, is refused, and these terminals are expected in its place.
+    /// The token with this number, at byte 5, is unexpected, and these terminals are expected.
     Refused(u64, &'static [Sym]),
     /// The parse is over.
     Over,
@@ -37,23 +36,24 @@ const LEAF: Wanted = Wanted::Leaf;
 
 const OVER: Wanted = Wanted::Over;
 
-/// The first token is refused, or the end in its place.
+/// The first token is unexpected, or the end in its place.
 const FIRST: Wanted = Wanted::Refused(1, &[Sym(2)]);
 
-/// The second token is, behind one that is a whole text.
+/// The second token is unexpected, after one that is a whole text.
 const SECOND: Wanted = Wanted::Refused(2, &[Sym(0)]);
 
-/// The leaf of a token of terminal 2 with one byte, the first of its forest.
+/// The leaf of a token of terminal 2 with one byte. It is the first of its forest.
 const FIRST_LEAF: TermRef = TermRef::ShortLeaf {
     length: 1,
     terminal: 2,
     start: 0,
 };
 
-/// Calls of one parser, each a terminal, of which 0 is the end, and the answer to it.
+/// Calls of one parser: each has a terminal, where 0 is the end, and what should be returned.
 type Calls<'a> = &'a [(u32, Wanted)];
 
-/// Texts of no token, of one and of two: accepted, or refused at each place; and calls behind an answer.
+/// Texts of no token, of one and of two, accepted or with a syntax error at each token; and calls after the last
+/// result.
 const RUNS: [Calls<'static>; 9] = [
     &[(0, FIRST)],
     &[(1, FIRST)],
@@ -87,7 +87,7 @@ const RUNS: [Calls<'static>; 9] = [
     ],
 ];
 
-/// Whether a parser over steady tables answers to calls as is wanted.
+/// Whether a parser over steady tables returns what it should for the calls.
 fn answers_so<A: Rows<TableAction> + Drop, G: Rows<StateNo> + Drop>(
     alloc: Global,
     machine: &Machine<A, G>,
@@ -101,7 +101,7 @@ fn answers_so<A: Rows<TableAction> + Drop, G: Rows<StateNo> + Drop>(
     answered
 }
 
-/// Whether a parser over tables of so many terminals answers to calls as is wanted.
+/// Whether a parser over tables with this many terminals returns what it should for the calls.
 fn is_answered_so<A: Rows<TableAction> + Drop, G: Rows<StateNo> + Drop>(
     parser: &mut Parser<'_, A, G>,
     terminals: usize,
@@ -117,7 +117,7 @@ fn is_answered_so<A: Rows<TableAction> + Drop, G: Rows<StateNo> + Drop>(
     true
 }
 
-/// Whether a parser answered as is wanted.
+/// Whether a parser returned what it should.
 fn is_wanted(answer: &Result<Step, ParseFault>, wanted: Wanted) -> bool {
     match wanted {
         Wanted::More => matches!(answer, Ok(Step::More)),
@@ -127,7 +127,7 @@ fn is_wanted(answer: &Result<Step, ParseFault>, wanted: Wanted) -> bool {
     }
 }
 
-/// Whether a parser refused the token of this number, which stands at this byte, and expects these terminals.
+/// Whether a parser found the token with this number, at this byte, unexpected, and expects these terminals.
 fn is_refused(answer: &Result<Step, ParseFault>, number: u64, at: u64, terminals: &[Sym]) -> bool {
     match answer {
         Ok(
@@ -141,7 +141,7 @@ fn is_refused(answer: &Result<Step, ParseFault>, number: u64, at: u64, terminals
     }
 }
 
-/// Feeds a parser with a token of one byte, or with the end, which is terminal 0; both stand at byte 5.
+/// Calls a parser with a token of one byte, or with the end, which is terminal 0. Both are at byte 5.
 fn call<A: Rows<TableAction> + Drop, G: Rows<StateNo> + Drop>(
     parser: &mut Parser<'_, A, G>,
     terminal: u32,
@@ -159,7 +159,7 @@ fn call<A: Rows<TableAction> + Drop, G: Rows<StateNo> + Drop>(
     })
 }
 
-/// Whether a parser over steady tables does so at each of many runs of calls.
+/// Whether a parser over steady tables returns what it should in each of many runs.
 fn answers_all_so<A: Rows<TableAction> + Drop, G: Rows<StateNo> + Drop>(
     alloc: Global,
     machine: &Machine<A, G>,
@@ -175,7 +175,7 @@ fn answers_all_so<A: Rows<TableAction> + Drop, G: Rows<StateNo> + Drop>(
     true
 }
 
-/// Whether tables are steady, and a parser over them does so.
+/// Whether tables are steady, and a parser over them returns what it should.
 fn is_steady_and_answers<A: Rows<TableAction> + Drop, G: Rows<StateNo> + Drop>(
     alloc: Global,
     machine: &Machine<A, G>,
@@ -187,7 +187,7 @@ fn is_steady_and_answers<A: Rows<TableAction> + Drop, G: Rows<StateNo> + Drop>(
     }
 }
 
-/// Whether it does so over rows that stand apart.
+/// Whether it does with dense rows.
 fn apart_so(alloc: Global, runs: &[Calls<'_>]) -> Result<bool, OutOfMemory> {
     let machine = by_hand(alloc)?;
     let answered = is_steady_and_answers(alloc, &machine, runs);
@@ -195,7 +195,7 @@ fn apart_so(alloc: Global, runs: &[Calls<'_>]) -> Result<bool, OutOfMemory> {
     Ok(answered)
 }
 
-/// Whether it does so over rows that are laid over one another.
+/// Whether it does with packed rows.
 fn laid_so(alloc: Global, runs: &[Calls<'_>]) -> Result<bool, OutOfMemory> {
     let machine = laid_by_hand(alloc)?;
     let answered = is_steady_and_answers(alloc, &machine, runs);
@@ -203,7 +203,7 @@ fn laid_so(alloc: Global, runs: &[Calls<'_>]) -> Result<bool, OutOfMemory> {
     Ok(answered)
 }
 
-/// Whether it does so over both.
+/// Whether it does with both.
 fn both_so(alloc: Global, runs: &[Calls<'_>]) -> Result<bool, OutOfMemory> {
     Ok(apart_so(alloc, runs)? && laid_so(alloc, runs)?)
 }

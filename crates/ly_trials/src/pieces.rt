@@ -1,5 +1,6 @@
-//! Texts in pieces: what is held is the match that isn't decided, a feed is over once it has answered, and its room is
-//! used again. That a text is answered however it is cut the cases show, whose texts come byte by byte.
+//! Texts in chunks: only the match that isn't decided is held, a feed is over once it has returned its result, and its
+//! memory is used again. That the result doesn't depend on the chunks is shown by the cases, whose texts come byte by
+//! byte.
 
 ghost use Rattle.std.specs.Prelude.{◌<◌};
 
@@ -10,25 +11,25 @@ use ly_engine::{AnswerForm, Feed, FeedFault, Need, Outcome, TableSet};
 use std::alloc::Global;
 use std::test::Fail;
 
-/// The words of sums and products.
+/// The tokens of sums and products.
 const WORDS: &[u8] = b"%%\n[0-9]+ return NUM;\n[ \\t\\n]+ ;\n. return yytext[0];\n";
 
 /// Their grammar.
 const SUMS: &[u8] = b"%token NUM\n%left '+'\n%left '*'\n%%\n\
     e : e '+' e { $$ = Add($1,$3); } | e '*' e { $$ = Mul($1,$3); } | '(' e ')' { $$ = $2; } | NUM ;";
 
-/// The word `x`, and blanks.
+/// The token `x`, and blanks.
 const X: &[u8] = b"%%\n\" \" ;\nx return 'x';\n";
 
-/// An outcome and its bytes.
+/// An outcome and its output.
 type Answer = (Outcome, Vec<u8>);
 
-/// A feed to which nothing has come.
+/// A feed that has no bytes yet.
 fn new_feed(alloc: Global, set: &TableSet) -> Result<Feed<'_>, OutOfMemory> {
     Feed::new(alloc, set, AnswerForm::Plain)
 }
 
-/// The answer to a piece that settles the text, if it does.
+/// The result for a chunk that settles the text, if it does.
 fn settled(feed: &mut Feed<'_>, piece: &[u8]) -> Result<Option<Answer>, FeedFault> {
     match feed.piece(piece)? {
         Need::Settled(outcome, lines) => Ok(Some((outcome, lines))),
@@ -36,32 +37,32 @@ fn settled(feed: &mut Feed<'_>, piece: &[u8]) -> Result<Option<Answer>, FeedFaul
     }
 }
 
-/// The answer to a text that has ended.
+/// The result for a text that has ended.
 fn finished(feed: &mut Feed<'_>) -> Result<Answer, FeedFault> {
     feed.finish()
 }
 
-/// Whether the token of this number, which stands at this byte, is refused.
+/// Whether the token with this number, at this byte, is unexpected.
 fn refuses(outcome: &Outcome, number: u64, at: u64) -> bool {
     matches!(outcome, Outcome::Syntax { token, byte, .. } if *token == number && *byte == at)
 }
 
-/// Whether a feed takes a piece, wants more, and then holds so many bytes.
+/// Whether a feed takes a chunk, needs more, and then holds this many bytes.
 fn holds(feed: &mut Feed<'_>, piece: &[u8], held: usize) -> bool {
     matches!(feed.piece(piece), Ok(Need::More)) && feed.held() == held
 }
 
-/// What is said of the text `123+`.
+/// The output for the text `123+`.
 const REFUSED_END: &[u8] = b"syntax error at end, token 3, byte 4\nexpected: NUM '('\n";
 
-/// Whether a feed of `WORDS` and `SUMS` holds what isn't decided of `12` and `3+`, and then refuses the end.
+/// Whether a feed of `WORDS` and `SUMS` holds the undecided bytes of `12` and `3+`, and then rejects the end.
 fn holds_what_is_not_decided(feed: &mut Feed<'_>) -> Result<bool, Fail> {
     let held = feed.held() == 0 && holds(feed, b"12", 2) && holds(feed, b"3+", 1);
     let (outcome, lines) = finished(feed)?;
     Ok(held && refuses(&outcome, 3, 4) && lines.as_slice() == REFUSED_END)
 }
 
-/// Whether a new feed holds what isn't decided, and refuses the end.
+/// Whether a new feed holds the undecided bytes, and rejects the end.
 fn is_held(alloc: Global, set: &TableSet) -> Result<bool, Fail> {
     let mut feed = new_feed(alloc, set)?;
     let held = holds_what_is_not_decided(&mut feed);
@@ -69,18 +70,18 @@ fn is_held(alloc: Global, set: &TableSet) -> Result<bool, Fail> {
     held
 }
 
-/// A text of `WORDS` and `SUMS` whose second token is refused, and the answer.
+/// A text of `WORDS` and `SUMS` whose second token is unexpected, and the output for it.
 const REFUSED: &[u8] = b"1 a ";
 
 const REFUSAL: &[u8] = b"syntax error at token 2, byte 2: $undef\"a\"\nexpected: $end '+' '*'\n";
 
-/// Whether an answer says that the second token of `REFUSED` is refused.
+/// Whether a result is the syntax error at the second token of `REFUSED`.
 fn is_refusal(answer: &Answer) -> bool {
     let (outcome, lines) = answer;
     refuses(outcome, 2, 2) && lines.as_slice() == REFUSAL
 }
 
-/// Whether a feed says so.
+/// Whether a feed returns it.
 fn tells_of_the_refusal(feed: &mut Feed<'_>) -> bool {
     match settled(feed, REFUSED) {
         Ok(Some(answer)) => is_refusal(&answer),
@@ -88,7 +89,7 @@ fn tells_of_the_refusal(feed: &mut Feed<'_>) -> bool {
     }
 }
 
-/// Whether each call of a feed is answered with that it is over, and nothing is held.
+/// Whether each call of a feed returns that it is over, and nothing is held.
 fn is_over(feed: &mut Feed<'_>) -> bool {
     feed.held() == 0
         && matches!(settled(feed, b"+"), Err(FeedFault::Over))
@@ -96,12 +97,12 @@ fn is_over(feed: &mut Feed<'_>) -> bool {
         && feed.held() == 0
 }
 
-/// Whether a feed tells of the refusal, and is over then.
+/// Whether a feed returns the syntax error, and is over then.
 fn is_over_once_told(feed: &mut Feed<'_>) -> bool {
     tells_of_the_refusal(feed) && is_over(feed)
 }
 
-/// Whether a new feed tells of the refusal, and is over then.
+/// Whether a new feed returns the syntax error, and is over then.
 fn is_over_behind_the_refusal(alloc: Global, set: &TableSet) -> Result<bool, OutOfMemory> {
     let mut feed = new_feed(alloc, set)?;
     let over = is_over_once_told(&mut feed);
@@ -109,7 +110,8 @@ fn is_over_behind_the_refusal(alloc: Global, set: &TableSet) -> Result<bool, Out
     Ok(over)
 }
 
-/// Whether feeds of the set of `WORDS` and `SUMS` hold what isn't decided, and are over once they have answered.
+/// Whether feeds of the set of `WORDS` and `SUMS` hold the undecided bytes, and are over once they have returned a
+/// result.
 fn sums_are_fed(alloc: Global) -> Result<bool, Fail> {
     let set = table_set(alloc, WORDS, SUMS)?;
     let held = is_held(alloc, &set);
@@ -124,12 +126,12 @@ fn what_is_not_decided_is_held_up_to_the_answer(rt: HostRuntime) -> Result<(), F
     Ok(())
 }
 
-/// The same answer as JSON.
+/// The same output as JSON.
 const JSON_REFUSAL: &[u8] =
     b"{\"error\":\"refused\",\"number\":2,\"byte\":2,\"token\":\"$undef\",\"text\":\"a\",\
     \"expected\":[\"$end\",\"'+'\",\"'*'\"]}\n";
 
-/// Whether an answer says as JSON that the second token of `REFUSED`, which has one byte, is refused.
+/// Whether a result is, as JSON, the syntax error at the second token of `REFUSED`, which has one byte.
 fn is_json_refusal(answer: &Answer) -> bool {
     let (outcome, line) = answer;
     matches!(outcome, Outcome::Syntax { length: 1, .. })
@@ -137,7 +139,7 @@ fn is_json_refusal(answer: &Answer) -> bool {
         && line.as_slice() == JSON_REFUSAL
 }
 
-/// Whether a feed of JSON says so.
+/// Whether a feed of JSON returns it.
 fn tells_of_the_refusal_as_json(feed: &mut Feed<'_>) -> bool {
     match settled(feed, REFUSED) {
         Ok(Some(answer)) => is_json_refusal(&answer),
@@ -145,7 +147,7 @@ fn tells_of_the_refusal_as_json(feed: &mut Feed<'_>) -> bool {
     }
 }
 
-/// Whether a feed of JSON refuses what one of plain text does, as soon.
+/// Whether a feed of JSON rejects what one of plain text does, at the same chunk.
 fn sums_are_fed_as_json(alloc: Global) -> Result<bool, Fail> {
     let set = table_set(alloc, WORDS, SUMS)?;
     let told = json_told(alloc, &set);
@@ -153,7 +155,7 @@ fn sums_are_fed_as_json(alloc: Global) -> Result<bool, Fail> {
     Ok(told?)
 }
 
-/// Whether a new feed of JSON says so.
+/// Whether a new feed of JSON returns it.
 fn json_told(alloc: Global, set: &TableSet) -> Result<bool, OutOfMemory> {
     let mut feed = Feed::new(alloc, set, AnswerForm::Json)?;
     let told = tells_of_the_refusal_as_json(&mut feed);
@@ -167,15 +169,15 @@ fn a_refused_token_is_told_as_json(rt: HostRuntime) -> Result<(), Fail> {
     Ok(())
 }
 
-/// How many pieces a feed is given, and how many bytes each has.
+/// How many chunks a feed gets, and how many bytes each has.
 const PIECES: u32 = 102;
 
 const SIZE: usize = 4_096;
 
-/// What a feed does with a piece.
+/// What a feed does with a chunk.
 #[derive(Clone, Copy)]
 enum Taking {
-    /// It takes it, wants more, and then holds one byte.
+    /// It takes it, needs more, and then holds one byte.
     Whole,
     /// Memory runs out.
     NoRoom,
@@ -183,7 +185,7 @@ enum Taking {
     Otherwise,
 }
 
-/// What a feed does with a piece of blanks, of which it has to hold the last one alone.
+/// What a feed does with a chunk of blanks, of which it must hold only the last one.
 fn take(feed: &mut Feed<'_>, blanks: &[u8]) -> Taking {
     match feed.piece(blanks) {
         Ok(Need::More) if feed.held() == 1 => Taking::Whole,
@@ -192,7 +194,7 @@ fn take(feed: &mut Feed<'_>, blanks: &[u8]) -> Taking {
     }
 }
 
-/// How many of the pieces of blanks a feed takes, as long as memory lasts.
+/// How many of the chunks of blanks a feed takes before memory runs out.
 fn taken(feed: &mut Feed<'_>, blanks: &[u8]) -> Result<Option<u32>, Fail> {
     for count in 0..PIECES {
         match take(feed, blanks) {
@@ -204,7 +206,7 @@ fn taken(feed: &mut Feed<'_>, blanks: &[u8]) -> Result<Option<u32>, Fail> {
     Ok(Some(PIECES))
 }
 
-/// How many a new feed takes; none where it isn't even made.
+/// How many chunks a new feed takes; `None` if there is no memory for the feed.
 fn taken_by_new(alloc: Global, set: &TableSet, blanks: &[u8]) -> Result<Option<u32>, Fail> {
     let Ok(mut feed) = new_feed(alloc, set) else {
         return Ok(None);
@@ -214,8 +216,8 @@ fn taken_by_new(alloc: Global, set: &TableSet, blanks: &[u8]) -> Result<Option<u
     count
 }
 
-/// How many pieces a new feed takes, the first time that it takes more than one, with a block given back at each try;
-/// and whether memory ran out before it was made, at its first piece, and at its second one.
+/// How many chunks a new feed takes, at the first try with more than one, if one block is freed before each try. Also
+/// whether memory ran out before it was made, at its first chunk, and at its second one.
 fn first_taken(
     alloc: Global,
     set: &TableSet,
@@ -233,7 +235,7 @@ fn first_taken(
     Err(Fail::from("no room was enough"))
 }
 
-/// Where memory ran out before a feed had taken two pieces: before it was made, at its first piece, or at its second.
+/// Where memory ran out before a feed had taken two chunks: before it was made, at its first chunk, or at its second.
 fn refusal(taken: Option<u32>) -> usize
     ensures { result < 3 }
 {
@@ -244,7 +246,7 @@ fn refusal(taken: Option<u32>) -> usize
     }
 }
 
-/// How a feed takes pieces where no memory is left at first, and a block is given back at each try.
+/// How a feed takes chunks if no memory is left at first, and one block is freed before each try.
 fn taken_of_all_room(
     alloc: Global,
     set: &TableSet,
@@ -255,13 +257,13 @@ fn taken_of_all_room(
     first_taken(alloc, set, blanks, &mut blocks)
 }
 
-/// How a feed takes pieces of `SIZE` blanks where no memory is left at first.
+/// How a feed takes chunks of `SIZE` blanks if no memory is left at first.
 fn pieces_taken(alloc: Global, set: &TableSet) -> Result<(u32, [bool; 3]), Fail> {
     let blanks = vec![in alloc; b' '; SIZE]?;
     taken_of_all_room(alloc, set, &blanks)
 }
 
-/// How a feed takes pieces of blanks by a set that passes over them, where no memory is left at first.
+/// How a feed takes chunks of blanks with a set that skips them, if no memory is left at first.
 fn blanks_taken(alloc: Global) -> Result<(u32, [bool; 3]), Fail> {
     let set = table_set(alloc, X, b"%%s : 'x' ;")?;
     let taken = pieces_taken(alloc, &set);
@@ -269,8 +271,8 @@ fn blanks_taken(alloc: Global) -> Result<(u32, [bool; 3]), Fail> {
     taken
 }
 
-/// With no room at first, and a small block more at each try: a feed that has taken two pieces has all the room that
-/// it needs, as what it gave up is used again.
+/// No memory is left at first, and each try gets one more small block. A feed that has taken two chunks has all the
+/// memory that it needs, since what it no longer holds is used again.
 #[test]
 fn room_for_pieces_is_used_again(rt: HostRuntime) -> Result<(), Fail> {
     assert_eq!(rt; blanks_taken(rt.alloc())?, (PIECES, [true; 3]));

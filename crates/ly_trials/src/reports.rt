@@ -1,4 +1,4 @@
-//! Reports of two files: what is written, what is answered, which part refuses them, and limits that are met exactly.
+//! Reports of two files: what is written and returned, which part rejects them, and limits that are met exactly.
 
 use ly_base::Limits;
 use ly_engine::{GenFault, ReportingFault, generate_report};
@@ -8,7 +8,7 @@ use std::alloc::Global;
 /// Each byte returns its literal.
 const BYTES: &[u8] = b"%%\n. return yytext[0];\n";
 
-/// Writes the report of two files, and answers whether no two actions are asked for anywhere.
+/// Writes the report of two files, and returns whether no state has two possible actions.
 fn report_into(
     alloc: Global,
     lex: &[u8],
@@ -23,7 +23,7 @@ const NO_CONFLICTS: &[u8] = b"removed rules: 0\nconflicts: 0 shift/reduce, 0 red
 
 const DANGLING_ELSE: &[u8] = b"%token IF ELSE X\n%%s : IF s | IF s ELSE s | X ;";
 
-/// Yacc files, whether no two actions are asked for anywhere, which no run shows, and their reports.
+/// Yacc files, whether no state has two possible actions, which no run shows, and their reports.
 const REPORTS: [(&[u8], bool, &[u8]); 8] = [
     (b"%%s : ;", true, NO_CONFLICTS),
     (
@@ -66,14 +66,14 @@ const REPORTS: [(&[u8], bool, &[u8]); 8] = [
     ),
 ];
 
-/// Whether it is so of a yacc file.
+/// Whether a yacc file has this report and flag.
 fn is_reported_so(alloc: Global, yacc: &[u8], free: bool, wanted: &[u8]) -> bool {
     let mut sink = MemSink::new(alloc);
     let found = report_into(alloc, BYTES, yacc, &Limits::V2, &mut sink);
     matches!(found, Ok(found) if found == free) && sink.bytes() == wanted
 }
 
-/// The number of the first of `REPORTS` for which it is otherwise.
+/// The index of the first of `REPORTS` that differs.
 fn reported_otherwise(alloc: Global) -> Option<usize> {
     for (number, (yacc, free, wanted)) in REPORTS.iter().enumerate() {
         if !is_reported_so(alloc, yacc, *free, wanted) {
@@ -88,7 +88,7 @@ fn reports_are_written_whole(rt: HostRuntime) {
     assert_eq!(rt; reported_otherwise(rt.alloc()), None);
 }
 
-/// Whether a failed write is told, with how much of the report went out.
+/// Whether a failed write is reported, with how much of the report was written.
 fn tells_of_a_failed_write(alloc: Global) -> bool {
     let mut sink = MemSink::failing_after(alloc, 9);
     let free = report_into(alloc, BYTES, DANGLING_ELSE, &Limits::V2, &mut sink);
@@ -101,7 +101,7 @@ fn a_report_stops_where_its_writer_fails(rt: HostRuntime) {
     assert!(rt; tells_of_a_failed_write(rt.alloc()));
 }
 
-/// What refuses two files, by a letter; `-` where nothing does.
+/// Which part rejects two files, as a letter; `-` if none does.
 fn refusal(alloc: Global, lex: &[u8], yacc: &[u8], limits: &Limits) -> u8 {
     let mut sink = MemSink::new(alloc);
     match report_into(alloc, lex, yacc, limits, &mut sink) {
@@ -111,7 +111,7 @@ fn refusal(alloc: Global, lex: &[u8], yacc: &[u8], limits: &Limits) -> u8 {
     }
 }
 
-/// The letter of a fault.
+/// The letter of an error.
 fn letter(fault: &GenFault) -> u8 {
     match fault {
         GenFault::Lex(_) => b'l',
@@ -137,11 +137,11 @@ const ABB: &[u8] = b"%%\n(a|b)*abb return 'x';\n";
 
 const OVERLAPPING: &[u8] = b"%%\n[a-c] return 'x';\n[c-e] return 'y';\n";
 
-/// A lex file and a yacc file; limits of weight, of the scanner's states, of the parser's states and of symbols; and
-/// what refuses the files.
+/// A lex file and a yacc file; the limits of weight, of the scanner's states, of the parser's states and of symbols;
+/// and which part rejects the files.
 type Limited<'a> = (&'a [u8], &'a [u8], [u32; 4], u8);
 
-/// Each limit met exactly, and passed by one; and of several parts that would refuse files the first one.
+/// Each limit met exactly, and exceeded by one. If several parts would reject the files, it is the first one.
 const LIMITED: [Limited<'static>; 22] = [
     (b"a", b"a", [9, 9, 9, 9], b'l'),
     (BYTES, b"a", [9, 9, 9, 9], b'y'),
@@ -178,7 +178,7 @@ fn limits_of(limits: [u32; 4]) -> Limits {
         .with_symbols(symbols)
 }
 
-/// The number of the first of `LIMITED` that something else refuses.
+/// The index of the first of `LIMITED` that another part rejects.
 fn refused_otherwise(alloc: Global) -> Option<usize> {
     for (number, (lex, yacc, limits, wanted)) in LIMITED.iter().enumerate() {
         if refusal(alloc, lex, yacc, &limits_of(*limits)) != *wanted {

@@ -1,4 +1,4 @@
-//! The smallest walk that a scanner can have: dense rows, made by hand.
+//! The simplest walk that a scanner can have: dense rows, made by hand.
 
 ghost use Rattle.ly_trials.specs.RowWalk.{rows_ahead, rows_cut, rows_ends, rows_walk, led, next_state, start_entry};
 ghost use Rattle.std.specs.Prelude.{◌≡◌, ⊤};
@@ -9,7 +9,7 @@ use ly_scan::Steps;
 /// A state of dense rows.
 #[derive(Clone, Copy)]
 pub struct Row {
-    /// For each byte one more than the state that it leads to, or 0.
+    /// For each byte the state that it leads to plus one, or 0.
     pub next: [u16; 256],
     /// The rule that ends here, if there is one.
     pub rule: Option<RuleNo>,
@@ -20,9 +20,9 @@ pub struct Row {
 pub struct RowWalk<'a> {
     /// The states.
     pub rows: &'a [Row],
-    /// Of each condition one more than the state where it starts, off and on a line start, or 0.
+    /// For each condition the state in which it starts plus one, or 0: elsewhere, and at the start of a line.
     pub starts: &'a [[u16; 2]],
-    /// What each rule's matches are cut down to; of a rule without an entry nothing.
+    /// The cut of each rule's matches. A rule without an entry has none.
     pub cuts: &'a [Cut],
 }
 

@@ -1,4 +1,4 @@
-//! Rows of entries that stand apart and that are laid over one another, and tables of both kinds.
+//! Dense rows and packed rows, and tables of both kinds.
 
 use ly_base::{OutOfMemory, RuleNo, RuleTree, StateNo, Sym};
 use ly_pack::{
@@ -7,7 +7,7 @@ use ly_pack::{
 use std::alloc::Global;
 use std::test::Fail;
 
-/// Rows of entries, a digit each, or a point where there is none.
+/// Rows of entries: a digit each, or a point for no entry.
 const ROWS: [&[u8]; 6] = [b"1.2.", b"....", b".34.", b"5...", b"6789", b"..1."];
 
 /// A dense table with the entries of `ROWS`.
@@ -31,7 +31,7 @@ fn entry(row: usize, column: usize) -> Option<u8> {
     }
 }
 
-/// Whether rows have the entries of `ROWS`, and none beside them.
+/// Whether rows have exactly the entries of `ROWS`.
 fn have_entries<R: Rows<u8>>(rows: &R) -> bool {
     let mut same = true;
     for row in 0..8u32 {
@@ -42,12 +42,12 @@ fn have_entries<R: Rows<u8>>(rows: &R) -> bool {
     same
 }
 
-/// The rows of `dense`, laid over one another.
+/// The rows of `dense`, packed.
 fn laid_rows(alloc: Global, dense: &Dense<u8>) -> Result<Comb<u8>, OutOfMemory> {
     comb(alloc, dense)
 }
 
-/// Whether rows keep their entries, also where they are laid over one another, with one base each.
+/// Whether rows keep their entries, also if they are packed, with one base each.
 fn are_kept(alloc: Global) -> Result<bool, OutOfMemory> {
     let dense = dense_rows(alloc)?;
     let laid = laid_rows(alloc, &dense)?;
@@ -64,7 +64,7 @@ fn rows_keep_their_entries(rt: HostRuntime) -> Result<(), Fail> {
     Ok(())
 }
 
-/// The tables of `s : 'x' ;`, of which `'x'` is terminal 2, over rows that stand apart.
+/// The tables of `s : 'x' ;`, where `'x'` is terminal 2, with dense rows.
 pub(crate) fn by_hand(
     alloc: Global,
 ) -> Result<Machine<Dense<TableAction>, Dense<StateNo>>, OutOfMemory> {
@@ -90,7 +90,7 @@ pub(crate) fn by_hand(
     }))
 }
 
-/// The tables that are made by hand, over rows that are laid over one another.
+/// The tables that are made by hand, with packed rows.
 pub(crate) fn laid_by_hand(
     alloc: Global,
 ) -> Result<Machine<Packed<TableAction>, Packed<StateNo>>, OutOfMemory> {

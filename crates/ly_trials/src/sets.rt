@@ -1,4 +1,4 @@
-//! Sets by lanes beside plain sums, at widths round the ends of words and blocks.
+//! Sets with vector lanes compared with plain sets, at widths around the ends of words and blocks.
 
 use ly_base::{OutOfMemory, Sym};
 use ly_sets::{SetMatrix, TermSet};
@@ -7,7 +7,7 @@ use std::test::Fail;
 
 const WIDTHS: [u32; 8] = [0, 1, 63, 64, 65, 255, 257, 4_095];
 
-/// What rows may hold: nothing, each third number, each fifth, and both.
+/// What rows may hold: nothing, every third number, every fifth, and both.
 const NONE: (bool, bool) = (false, false);
 
 const THIRDS: (bool, bool) = (true, false);
@@ -16,7 +16,7 @@ const FIFTHS: (bool, bool) = (false, true);
 
 const BOTH: (bool, bool) = (true, true);
 
-/// A row that grows, the row by which, and what the three rows hold then.
+/// The row that grows, the row that is added to it, and what the three rows hold then.
 type Union = (usize, usize, [(bool, bool); 3]);
 
 const UNIONS: [Union; 8] = [
@@ -43,7 +43,7 @@ fn is_in(held: (bool, bool), number: u32) -> bool {
     held.0 && number % 3 == 2 || held.1 && number % 5 == 4
 }
 
-/// Adds a number to a row that has room for it.
+/// Adds a number to a row that has capacity for it.
 pub(crate) fn insert(sets: &mut SetMatrix, row: usize, number: u32) -> Result<(), OutOfMemory> {
     if row < sets.rows() && (number as usize) < sets.width() {
         sets.insert(row, Sym(number))?;
@@ -65,7 +65,7 @@ pub(crate) fn count(sets: &SetMatrix, row: usize) -> usize {
     }
 }
 
-/// Whether a row holds just what it is to hold.
+/// Whether a row holds exactly what it should.
 fn is_row(sets: &SetMatrix, row: usize, width: u32, held: (bool, bool)) -> bool {
     let mut same = true;
     let mut members = 0usize;
@@ -76,7 +76,7 @@ fn is_row(sets: &SetMatrix, row: usize, width: u32, held: (bool, bool)) -> bool 
     same && count(sets, row) == members
 }
 
-/// Grows a row by another, and answers whether it was said rightly that it grew.
+/// Adds the numbers of a row to another one, and returns whether the call reported correctly that it grew.
 fn unite(sets: &mut SetMatrix, to: usize, from: usize) -> Result<bool, OutOfMemory> {
     let before = count(sets, to);
     let mut grew = false;
@@ -86,7 +86,7 @@ fn unite(sets: &mut SetMatrix, to: usize, from: usize) -> Result<bool, OutOfMemo
     Ok(grew == (count(sets, to) != before))
 }
 
-/// Whether the unions of a width are the plain ones, one change each.
+/// Whether the unions of a width are the plain ones, with one change each.
 fn are_united(alloc: Global, width: u32, unions: &[Union]) -> Result<bool, OutOfMemory> {
     let mut sets = SetMatrix::new(alloc, 3, width as usize)?;
     for number in 0..width {
@@ -108,12 +108,12 @@ fn are_united(alloc: Global, width: u32, unions: &[Union]) -> Result<bool, OutOf
     Ok(same && sets.changes().wrapping_sub(inserted) == unions.len() as u64)
 }
 
-/// Whether there is room for a number in a set, and the set has it.
+/// Whether a set has capacity for a number, and contains it.
 fn has(set: &TermSet, number: u32) -> bool {
     (number as usize) < set.width() && set.contains(Sym(number))
 }
 
-/// Adds the numbers below a width that `BOTH` has, where there is room for them.
+/// Adds the numbers below a width that are in `BOTH`, if there is capacity for them.
 fn fill(set: &mut TermSet, width: u32) {
     for number in 0..width {
         if is_in(BOTH, number) && (number as usize) < set.width() {
@@ -122,7 +122,7 @@ fn fill(set: &mut TermSet, width: u32) {
     }
 }
 
-/// Whether a set has the numbers below a width that `BOTH` has.
+/// Whether a set contains exactly the numbers below a width that are in `BOTH`.
 fn is_filled(set: &TermSet, width: u32) -> bool {
     let mut same = set.width() == width as usize;
     let mut members = 0usize;
@@ -140,7 +140,7 @@ fn is_set(alloc: Global, width: u32) -> Result<bool, OutOfMemory> {
     Ok(is_filled(&set, width))
 }
 
-/// The first of `WIDTHS` at which a set or rows are otherwise.
+/// The first of `WIDTHS` at which a set or rows differ.
 fn otherwise(alloc: Global) -> Result<Option<u32>, OutOfMemory> {
     for width in WIDTHS {
         let united = are_united(alloc, width, &UNIONS)? && are_united(alloc, width, &PARTED)?;

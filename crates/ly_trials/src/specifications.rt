@@ -1,4 +1,4 @@
-//! Files that are joined, and a grammar that is reduced: what no run shows of them.
+//! Joined files and a reduced grammar: what no run shows of them.
 
 use ly_base::{Limits, Sym};
 use ly_grammar::{Reduced, reduce};
@@ -16,7 +16,7 @@ fn lex_file(alloc: Global) -> Result<LexFile, Fail> {
     }
 }
 
-/// What a yacc file says.
+/// A yacc file as it is read.
 fn yacc_file(alloc: Global, yacc: &[u8]) -> Result<YaccFile, Fail> {
     match read_yacc(alloc, yacc) {
         Ok(yacc) => Ok(yacc),
@@ -32,7 +32,7 @@ fn joined(alloc: Global, lex: &LexFile, yacc: &YaccFile) -> Result<Spec, Fail> {
     }
 }
 
-/// The specification of a lex file that is read, and of a yacc file.
+/// The specification of a lex file that was read, and of a yacc file.
 fn specification_under(alloc: Global, lex: &LexFile, yacc: &[u8]) -> Result<Spec, Fail> {
     let yacc = yacc_file(alloc, yacc)?;
     joined(alloc, lex, &yacc)
@@ -44,8 +44,8 @@ fn specification(alloc: Global, yacc: &[u8]) -> Result<Spec, Fail> {
     specification_under(alloc, &lex, yacc)
 }
 
-/// Rules that derive the empty string, of which those of `a` and `b` may begin with `'x'`, and those of `a` and `c`
-/// with `'y'`.
+/// Rules that derive the empty string. The strings of `a` and `b` may begin with `'x'`, and those of `a` and `c` with
+/// `'y'`.
 const NULLABLE: &[u8] = b"%left 'y'\n%%a : b c ; b : | 'x' ; c : | 'y' ;";
 
 /// Whether a specification has all parts of `NULLABLE`, where `'x'` is the last terminal.
@@ -55,7 +55,7 @@ fn has_parts(spec: &Spec) -> bool {
     grammar && beside && spec.scanner().len() == 1 && spec.of_byte(b'x') == Sym(3)
 }
 
-/// Nonterminals of `NULLABLE`, terminals, and whether these begin what those derive.
+/// Nonterminals of `NULLABLE`, terminals, and whether the terminal begins a string of the nonterminal.
 const BEGINNINGS: [(u32, u32, bool); 6] = [
     (0, 3, true),
     (0, 2, true),
@@ -65,19 +65,19 @@ const BEGINNINGS: [(u32, u32, bool); 6] = [
     (2, 2, true),
 ];
 
-/// Whether there is a nonterminal of this number, and it derives the empty string.
+/// Whether there is a nonterminal with this number, and it is nullable.
 fn is_nullable(reduced: &Reduced<'_>, symbol: u32) -> bool {
     symbol <= reduced.grammar().accept().0 && reduced.is_nullable(Sym(symbol))
 }
 
-/// Whether there are such a nonterminal and terminal, and the one begins what the other derives.
+/// Whether there are such a nonterminal and terminal, and the terminal begins a string of the nonterminal.
 fn begins(reduced: &Reduced<'_>, symbol: u32, terminal: u32) -> bool {
     symbol <= reduced.grammar().accept().0
         && terminal < reduced.grammar().terminals()
         && reduced.begins(Sym(symbol), Sym(terminal))
 }
 
-/// Whether a reduced grammar has the beginnings of `NULLABLE`.
+/// Whether a reduced grammar has the first sets of `NULLABLE`.
 fn has_beginnings(reduced: &Reduced<'_>) -> bool {
     let mut same = true;
     for (symbol, terminal, wanted) in &BEGINNINGS {
@@ -94,7 +94,7 @@ fn is_reduced_so(alloc: Global, grammar: &Grammar) -> bool {
     }
 }
 
-/// Whether `NULLABLE` is joined and reduced so.
+/// Whether `NULLABLE` is joined and reduced like this.
 fn is_joined_so(alloc: Global) -> Result<bool, Fail> {
     let spec = specification(alloc, NULLABLE)?;
     let joined = has_parts(&spec) && is_reduced_so(alloc, spec.grammar());

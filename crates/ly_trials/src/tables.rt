@@ -1,4 +1,5 @@
-//! Table sets that a version of the table file has no room for, which no run shows: `build` refuses such files before.
+//! Table sets that are too large for a version of the table file. No run shows this, since `build` rejects such files
+//! before.
 
 use crate::answers::table_set;
 use ly_engine::{FormatFault, TableSet, Version, write_tables};
@@ -11,7 +12,7 @@ fn push_token(alloc: Global, yacc: &mut Vec<u8>, number: u32) -> Result<(), Allo
     yacc.extend_from_slice(name.as_bytes())
 }
 
-/// A yacc file that declares so many tokens.
+/// A yacc file that declares this many tokens.
 fn with_tokens(alloc: Global, count: u32) -> Result<Vec<u8>, AllocError> {
     let mut yacc = Vec::from_slice(alloc, b"%token")?;
     for number in 0..count {
@@ -21,7 +22,7 @@ fn with_tokens(alloc: Global, count: u32) -> Result<Vec<u8>, AllocError> {
     Ok(yacc)
 }
 
-/// The table set of a yacc file that declares so many tokens.
+/// The table set of a yacc file that declares this many tokens.
 fn set_of_tokens(alloc: Global, count: u32) -> Result<TableSet, Fail> {
     let yacc = with_tokens(alloc, count)?;
     table_set(alloc, b"%%", &yacc)
@@ -35,7 +36,7 @@ fn is_too_large(alloc: Global, set: &TableSet) -> bool {
     )
 }
 
-/// Whether the set of a yacc file that declares so many tokens is too large for version 1.
+/// Whether the set of a yacc file that declares this many tokens is too large for version 1.
 fn are_too_many(alloc: Global, count: u32) -> Result<bool, Fail> {
     let set = set_of_tokens(alloc, count)?;
     let large = is_too_large(alloc, &set);

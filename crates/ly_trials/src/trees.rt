@@ -1,4 +1,4 @@
-//! Trees as JSON, without places and with them, where memory runs out and where a writer fails in mid-line.
+//! Trees as JSON, without spans and with them, if memory runs out and if a writer fails in mid-line.
 
 use crate::answers::table_file;
 use crate::memory::{Attempt, Trial, trials_of_all_room};
@@ -20,7 +20,7 @@ const PLACED: &[u8] = b"{\"node\":\"Add\",\"start\":[0,1,1],\"end\":[7,2,4],\"ch
     {\"token\":\"NUM\",\"start\":[0,1,1],\"end\":[1,1,2],\"text\":\"1\"},\
     {\"token\":\"NUM\",\"start\":[5,2,2],\"end\":[7,2,4],\"text\":\"23\"}]}\n";
 
-/// How often an answer is tried: a parser takes more room than a scanner.
+/// The number of tries: a parser takes more memory than a scanner.
 const TRIES: u32 = 16_000;
 
 /// How the tree of `TEXT` is written.
@@ -28,7 +28,7 @@ const TRIES: u32 = 16_000;
 enum Form {
     /// As JSON.
     Json,
-    /// As JSON with places.
+    /// As JSON with spans.
     Placed,
 }
 
@@ -41,7 +41,7 @@ impl Form {
         }
     }
 
-    /// Answers the text by a table file.
+    /// Parses the text with a table file.
     fn answer<W: Sink>(
         self,
         alloc: Global,
@@ -55,7 +55,7 @@ impl Form {
         }
     }
 
-    /// Answers it into some room.
+    /// Parses it and writes the output to a block.
     fn answer_into(
         self,
         alloc: Global,
@@ -66,7 +66,7 @@ impl Form {
         self.answer(alloc, tables, &mut writer)
     }
 
-    /// Whether a writer that fails behind so many bytes is told of, and these went out.
+    /// Whether the failure of a writer after this many bytes is reported, and exactly these were written.
     fn tells_of_a_failed_write(self, alloc: Global, tables: &[u8], count: usize) -> bool {
         let mut writer = MemSink::failing_after(alloc, count);
         let answered = self.answer(alloc, tables, &mut writer);
@@ -77,7 +77,7 @@ impl Form {
         is_told && Some(writer.bytes()) == self.line().get(..count)
     }
 
-    /// The first number of bytes in mid-line behind which a failure isn't told.
+    /// The first number of bytes in mid-line after which a failure isn't reported.
     fn untold(self, alloc: Global, tables: &[u8]) -> Option<usize> {
         for count in 0..self.line().len() {
             if !self.tells_of_a_failed_write(alloc, tables, count) {
@@ -88,7 +88,7 @@ impl Form {
     }
 }
 
-/// The answer to `TEXT` by a table file, with room for one byte more than its line has.
+/// Parses `TEXT` with a table file, with memory for one byte more than the line of its output has.
 #[derive(Drop)]
 struct Answer<'t> {
     form: Form,
@@ -110,7 +110,7 @@ impl Attempt for Answer<'_> {
     }
 }
 
-/// How many answers are refused for want of memory, and how many are right.
+/// How many tries run out of memory, and how many succeed.
 fn trials_of(alloc: Global, tables: &[u8], form: Form) -> Result<(u32, u32), Fail> {
     let mut answer = Answer {
         form,
@@ -120,7 +120,7 @@ fn trials_of(alloc: Global, tables: &[u8], form: Form) -> Result<(u32, u32), Fai
     trials_of_all_room(alloc, &mut answer, TRIES)
 }
 
-/// Both for either form.
+/// Both numbers for either form.
 fn trials_of_both(alloc: Global) -> Result<[(u32, u32); 2], Fail> {
     let tables = table_file(alloc, WORDS, SUMS)?;
     let json = trials_of(alloc, &tables, Form::Json)?;
@@ -139,7 +139,7 @@ fn want_of_memory_for_trees_is_told(rt: HostRuntime) -> Result<(), Fail> {
     Ok(())
 }
 
-/// The first untold failures of either form.
+/// The first unreported failures of either form.
 fn untold_of_both(alloc: Global) -> Result<[Option<usize>; 2], Fail> {
     let tables = table_file(alloc, WORDS, SUMS)?;
     Ok([

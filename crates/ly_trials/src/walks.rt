@@ -1,4 +1,4 @@
-//! The lexeme at the front of a text, over rows that were made by hand.
+//! The first lexeme of a text, over rows that were made by hand.
 
 use crate::row_walk::{Row, RowWalk};
 use ly_base::{Cut, End, Lexeme, Place, RuleNo};
@@ -6,8 +6,8 @@ use ly_scan::{KnownWalks, next_lexeme};
 use std::alloc::{AllocError, Global};
 use std::test::Fail;
 
-/// The bytes that lead on from each state, one more than the states that they lead to, and the rule that
-/// ends there: rule 0 is `ab`, and rule 1 is `abc+d`.
+/// The edges of each state: the byte, and the state that it leads to plus one; and the rule that ends there. Rule 0 is
+/// `ab`, and rule 1 is `abc+d`.
 const STATES: [(&[(u8, u16)], Option<u32>); 5] = [
     (&[(b'a', 2)], None),
     (&[(b'b', 3)], None),
@@ -16,10 +16,10 @@ const STATES: [(&[(u8, u16)], Option<u32>); 5] = [
     (&[], Some(1)),
 ];
 
-/// What is found at the front of a text: a lexeme, or how a run over the text ends.
+/// What is found at the start of a text: a lexeme, or how lexing the text ends.
 type Found = Result<Option<Lexeme>, End>;
 
-/// No rule matches at the front of a text.
+/// No rule matches at the start of a text.
 const STUCK: Found = Err(End::Stuck { byte: 0 });
 
 /// A rule matches there, and its cut leaves no byte or more than the match.
@@ -125,7 +125,7 @@ const LEXEMES: [(&[u8], bool, Cut, Found); 15] = [
     (b"ab", true, Cut::Whole, STUCK),
 ];
 
-/// A state by the bytes that lead on from it.
+/// A state with these edges.
 fn row(edges: &[(u8, u16)], rule: Option<u32>) -> Row {
     let mut next = [0; 256];
     for (byte, entry) in edges {
@@ -146,13 +146,13 @@ fn rows(alloc: Global) -> Result<Vec<Row>, AllocError> {
     Ok(rows)
 }
 
-/// What is found at the front of a text that ends behind these bytes, from a condition of a walk.
+/// What is found at the start of a text that ends after these bytes, from a condition of a walk.
 fn found_over(alloc: Global, walk: &RowWalk<'_>, text: &[u8], line: bool, condition: u32) -> Found {
     let place = Place::behind(text, 0, line, condition);
     next_lexeme(walk, &place, &mut KnownWalks::new(alloc), true)
 }
 
-/// Whether this is found at the front of a text over rows, and nothing from a condition that there isn't.
+/// Whether this is found at the start of a text over rows, and nothing from a condition that doesn't exist.
 fn is_found_so(
     alloc: Global,
     rows: &[Row],
@@ -170,7 +170,7 @@ fn is_found_so(
         && found_over(alloc, &walk, text, line, 1) == STUCK
 }
 
-/// The number of the first of `LEXEMES` that isn't so.
+/// The index of the first of `LEXEMES` for which it isn't.
 fn found_otherwise(alloc: Global) -> Result<Option<usize>, AllocError> {
     let rows = rows(alloc)?;
     for (number, (text, line, cut, wanted)) in LEXEMES.iter().enumerate() {

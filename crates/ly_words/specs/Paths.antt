@@ -1,4 +1,4 @@
--- Words that are paths, and the words that ask for something.
+-- Arguments that are paths, and the arguments that ask for something.
 use Rattle.std.specs.Prelude.{◌≡◌, ◌⊎◌, ◌++◌, ◌∷◌, [], ℕ, Bool, List, Option, Some, None, codes, false, map, option_map}
 use Rattle.std.specs.Prelude.{true, unwrap_or}
 use Rattle.std.specs.List.{flat_map, insert}
@@ -12,7 +12,7 @@ use Rattle.ly_words.specs.Request.{Request, build, check, explain, lines, run, r
 use Rattle.ly_words.specs.Request.{tokens, try, try_placed}
 use Rattle.ly_words.specs.declared.command.Answering.{Answering}
 
--- a word that is no option: a minus sign alone, or one that doesn't begin with it
+-- an argument that is no option: a single minus sign, or one that doesn't begin with a minus sign
 abbrev pub IsPathWord : Text → Type 0
 IsPathWord word = (word ≡ codes "-") ⊎ ((rest : Text) → ¬ (word ≡ codes "-" ++ rest))
 
@@ -36,7 +36,7 @@ name_of (try_placed lex yacc text points) = codes "try"
 name_of (check table_file by) = codes "check"
 name_of (explain lex yacc states graph strictness form) = codes "explain"
 
--- the words that stand behind the command's name in this order
+-- the arguments that follow the command's name, in this order
 abbrev pub operands_of : Request → List Text
 operands_of (tokens lex text by) = lex ∷ as_list text
 operands_of (table_tokens table_file text by) = table_file ∷ as_list text
@@ -49,48 +49,48 @@ operands_of (try_placed lex yacc text points) = lex ∷ yacc ∷ as_list text
 operands_of (check table_file by) = table_file ∷ []
 operands_of (explain lex yacc states graph strictness form) = as_list lex ++ yacc ∷ []
 
--- the files beside these that are written
+-- the other files that are written
 abbrev pub written_of : Request → List Text
 written_of (build lex yacc table_file report version expected points) = as_list report
 written_of (explain lex yacc states graph strictness form) = as_list states ++ as_list graph
 written_of _ = []
 
--- the version that is said is the one that is meant, which is the second where none is said; a build points at nothing
+-- the version that is given is the one that is meant, which is the second if none is given; `build` has no `--where`
 abbrev pub IsMeant : Request → Option Version → Type 0
 IsMeant (build lex yacc table_file report version expected points) format =
     (version ≡ unwrap_or format V2) × (points ≡ false)
 IsMeant _ format = format ≡ None
 
--- the flag that points
+-- `--where`, if it is given
 abbrev pub pointing_words : Bool → List Text
 pointing_words true = codes "--where" ∷ []
 pointing_words false = []
 
--- the flag of a form, which the plain one has not
+-- the flag for a form; plain output has none
 abbrev pub form_words : AnswerForm → List Text
 form_words Json = codes "--json" ∷ []
 form_words Plain = []
 
--- the flags of a command that is answered so
+-- the flags for how a result is written
 abbrev pub answering_words : Answering → List Text
 answering_words by = form_words by.form ++ pointing_words by.points
 
--- the flag of files without conflicts and doubts
+-- `--strict`, if it is given
 abbrev pub strict_words : Bool → List Text
 strict_words true = codes "--strict" ∷ []
 strict_words false = []
 
--- the flag of a grammar that is explained by itself
+-- `--yacc`, if a yacc file is checked alone
 abbrev pub alone_words : Option Text → List Text
 alone_words (Some lex) = []
 alone_words None = codes "--yacc" ∷ []
 
--- a count of conflicts, if it is said
+-- `--expect` with its count, if it is given
 abbrev pub count_words : Option Text → List Text
 count_words None = []
 count_words (Some count) = codes "--expect" ∷ count ∷ []
 
--- the flags that stand in front of the operands, and with them the count of conflicts
+-- the flags before the operands, and the count of conflicts
 abbrev pub flags_of : Request → Option Text → List Text
 flags_of (tokens lex text by) count = answering_words by
 flags_of (table_tokens table_file text by) count = codes "--tables" ∷ answering_words by
@@ -104,17 +104,17 @@ flags_of (check table_file by) count = answering_words by
 flags_of (explain lex yacc states graph strictness form) count =
     alone_words lex ++ (form_words form ++ (strict_words strictness.strict ++ count_words count))
 
--- how many conflicts there are to be
+-- how many conflicts are expected
 abbrev pub expected_of : Request → Option ℕ
 expected_of (build lex yacc table_file report version expected points) = expected
 expected_of (explain lex yacc states graph strictness form) = strictness.expected
 expected_of _ = None
 
--- the count that is said is the one that is expected
+-- the count that is given is the one that is expected
 abbrev pub IsCount : Request → Option Text → Type 0
 IsCount request count = (expected_by count ≡ Some (expected_of request)) × ArePathWords (as_list count)
 
--- no option stands beside a count, or a flag of `explain`
+-- no other option is given with a count or a flag of `explain`
 abbrev pub StandAlone : Request → Option Text → Option Version → Type 0
 StandAlone (build lex yacc table_file report version expected points) count format =
     (count ≡ None) ⊎ ((report ≡ None) × (format ≡ None))
@@ -123,7 +123,7 @@ StandAlone (explain (Some lex) yacc states graph strictness form) count format =
     ((strictness.strict ≡ false) × (count ≡ None) × (form ≡ Plain)) ⊎ ((states ≡ None) × (graph ≡ None))
 StandAlone _ count format = Unit {0}
 
--- how a version is said
+-- the number of a version
 abbrev pub number_of : Version → Text
 number_of V1 = codes "1"
 number_of V2 = codes "2"
@@ -132,42 +132,42 @@ number_of V2 = codes "2"
 abbrev pub option_words : Text → Option Text → Option (List Text)
 option_words name value = option_map (λ v. name ∷ v ∷ []) value
 
--- the first option of a command, if it is said
+-- the first option of a command, if it is given
 abbrev pub first_option : Request → Option (List Text)
 first_option (build lex yacc table_file report version expected points) = option_words (codes "--report") report
 first_option (explain lex yacc states graph strictness form) = option_words (codes "--states") states
 first_option _ = None
 
--- the second option, where this version is said
+-- the second option, if this version is given
 abbrev pub second_option : Request → Option Version → Option (List Text)
 second_option (build lex yacc table_file report version expected points) format =
     option_words (codes "--format") (option_map number_of format)
 second_option (explain lex yacc states graph strictness form) format = option_words (codes "--graph") graph
 second_option _ format = None
 
--- the words of an option behind so many groups of words, or nothing
+-- the arguments of an option inserted after this many groups of arguments, or nothing inserted
 abbrev pub with_option : ℕ → Option (List Text) → List (List Text) → List (List Text)
 with_option place None groups = groups
 with_option place (Some words) groups = insert groups place words
 
--- the words behind the command's name: the operands, the first option in front of them, among them or behind them, and
--- the second in front of these, among them or behind them
+-- the arguments after the command's name: the operands, with the first option before, among or after them, and the
+-- second one before, among or after all of these
 abbrev pub words_at : ℕ → ℕ → Request → Option Version → List Text
 words_at first_place second_place request format = flat_map (λ group. group)
     (with_option second_place (second_option request format)
     (with_option first_place (first_option request) (map (λ word. word ∷ []) (operands_of request))))
 
--- The words ask for this: they are the program's name, the command's, the flags, and the operands, with the options
--- among these wherever; and all its paths are words of paths. (Words of other forms may mean it too: a flag behind its
--- operands, one that points of a build, or a count beside other options.)
+-- The arguments ask for this. They are the program's name, the command's name, the flags and the operands, with the
+-- options anywhere among these, and all their paths are valid as paths. (Arguments in other forms may mean it too: a
+-- flag after the operands, `--where` of `build`, or a count with other options.)
 pub record AskFor (words : List Text) (request : Request) : Type 0 where
   pub program : Text
   pub first_place : ℕ
   pub second_place : ℕ
-  -- the version that is said, if one is
+  -- the version that is given, if any
   pub format : Option Version
   pub format_is_meant : IsMeant request format
-  -- the count of conflicts that is said, if one is
+  -- the count of conflicts that is given, if any
   pub count : Option Text
   pub is_count : IsCount request count
   pub alone : StandAlone request count format

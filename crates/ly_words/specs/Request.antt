@@ -1,4 +1,4 @@
--- What the words of a line ask for.
+-- What the arguments ask for.
 use Rattle.std.specs.Prelude.{Bool, Option, ℕ}
 use Rattle.clap.specs.Words.{Text}
 use Rattle.ly_base.specs.declared.version.Version.{Version}
@@ -6,8 +6,8 @@ use Rattle.ly_print.specs.declared.answer_form.AnswerForm.{AnswerForm}
 use Rattle.ly_words.specs.declared.command.Answering.{Answering}
 use Rattle.ly_words.specs.declared.command.Strictness.{Strictness}
 
--- A command, with the paths that it is given, the version of a table file that is written, how strictly files are
--- judged, and how it is answered, or whether it points at what is wrong.
+-- A command: the paths that it is given, the version of the table file to write, which warnings and conflicts are
+-- allowed, and how the result is written or whether `--where` is given.
 pub data Request : Type 0 where
   tokens : (lex : Text) → (text : Option Text) → (by : Answering) → Request
   table_tokens : (tables : Text) → (text : Option Text) → (by : Answering) → Request

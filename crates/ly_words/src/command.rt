@@ -5,7 +5,7 @@ use ly_base::Version;
 use ly_print::AnswerForm;
 use std::alloc::AllocError;
 
-/// What the words ask for. Each `&str` is a path; standard input is read where there is no `text`.
+/// What the arguments ask for. Each `&str` is a path. Without `text`, standard input is read.
 #[derive(Clone, Copy, Debug, PartialEq, Eq)]
 pub enum Command<'a> {
     /// Write the tokens of a text under a lex file.
@@ -17,7 +17,7 @@ pub enum Command<'a> {
         /// How they are written.
         by: Answering,
     },
-    /// Write the tokens of a text by the scanner of a table file.
+    /// Write the tokens of a text with the scanner of a table file.
     TableTokens {
         /// The table file.
         tables: &'a str,
@@ -28,34 +28,35 @@ pub enum Command<'a> {
     },
     /// Write the table file of a lex file and a yacc file.
     Build {
-        /// What is read and written.
+        /// The paths to read and write.
         paths: Paths<'a>,
         /// The version of the table file.
         version: Version,
-        /// How many shift/reduce conflicts there are to be, and no others, where a count is said.
+        /// The exact number of shift/reduce conflicts that is expected, with no other conflicts, if `--expect` is
+        /// given.
         expected: Option<usize>,
-        /// Whether standard error says where something is wrong, and shows it.
+        /// Whether to print the location of an error and its source line to standard error.
         points: bool,
     },
-    /// Answer a text by a table file.
+    /// Parse a text with a table file.
     Run {
         /// The table file.
         tables: &'a str,
         /// The text.
         text: Option<&'a str>,
-        /// How it is answered.
+        /// How the result is written.
         by: Answering,
     },
-    /// Answer each line of a text as a text of its own, by a table file.
+    /// Parse each line of a text as a text of its own, with a table file.
     Lines {
         /// The table file.
         tables: &'a str,
         /// The text.
         text: Option<&'a str>,
-        /// How each line is answered.
+        /// How the result of each line is written.
         by: Answering,
     },
-    /// Answer a text by a lex file and a yacc file.
+    /// Parse a text with a lex file and a yacc file.
     Try {
         /// The lex file.
         lex: &'a str,
@@ -63,19 +64,19 @@ pub enum Command<'a> {
         yacc: &'a str,
         /// The text.
         text: Option<&'a str>,
-        /// How it is answered.
+        /// How the result is written.
         by: Answering,
     },
-    /// Answer a text by a table file, with where each part of its tree stands.
+    /// Parse a text with a table file, and write the span of each part of its tree.
     RunPlaced {
         /// The table file.
         tables: &'a str,
         /// The text.
         text: Option<&'a str>,
-        /// Whether standard error says where something is wrong, and shows it.
+        /// Whether to print the location of an error and its source line to standard error.
         points: bool,
     },
-    /// Answer a text by a lex file and a yacc file, with where each part of its tree stands.
+    /// Parse a text with a lex file and a yacc file, and write the span of each part of its tree.
     TryPlaced {
         /// The lex file.
         lex: &'a str,
@@ -83,46 +84,46 @@ pub enum Command<'a> {
         yacc: &'a str,
         /// The text.
         text: Option<&'a str>,
-        /// Whether standard error says where something is wrong, and shows it.
+        /// Whether to print the location of an error and its source line to standard error.
         points: bool,
     },
-    /// Count what a table file is made of.
+    /// Check a table file and print its sizes.
     Check {
         /// The table file.
         tables: &'a str,
-        /// How this is answered.
+        /// How they are written.
         by: Answering,
     },
-    /// Say what is wrong with a lex file and a yacc file, or doubtful in them, or with a yacc file alone.
+    /// Report the errors, warnings and conflicts of a lex file and a yacc file, or of a yacc file alone.
     Explain {
-        /// What is read and written.
+        /// The paths to read and write.
         paths: ExplainPaths<'a>,
-        /// How strictly the files are judged.
+        /// Which warnings and conflicts make the command exit with 1.
         strictness: Strictness,
-        /// How this is answered.
+        /// How the report is written.
         form: AnswerForm,
     },
 }
 
-/// How strictly files are judged that are explained: where they are accepted and don't pass, the exit status says so.
+/// Which warnings and conflicts accepted files may have. If they have others, `explain` exits with 1.
 #[derive(Clone, Copy, Debug, PartialEq, Eq)]
 pub struct Strictness {
-    /// Whether there are to be no conflicts and no doubts.
+    /// Whether warnings and conflicts are not allowed.
     pub strict: bool,
-    /// How many shift/reduce conflicts there are to be, and no others, where a count is said.
+    /// The exact number of shift/reduce conflicts that is expected, with no other conflicts, if `--expect` is given.
     pub expected: Option<usize>,
 }
 
-/// How something is answered.
+/// How a result is written.
 #[derive(Clone, Copy, Debug, PartialEq, Eq)]
 pub struct Answering {
-    /// How the answer is written.
+    /// The form of the output.
     pub form: AnswerForm,
-    /// Whether standard error says where something is wrong, and shows it.
+    /// Whether to print the location of an error and its source line to standard error.
     pub points: bool,
 }
 
-/// The paths of what is read and written where tables are built.
+/// The paths that `build` reads and writes.
 #[derive(Clone, Copy, Debug, PartialEq, Eq)]
 pub struct Paths<'a> {
     /// The lex file.
@@ -131,31 +132,31 @@ pub struct Paths<'a> {
     pub yacc: &'a str,
     /// The table file.
     pub tables: &'a str,
-    /// The report, if it is asked for.
+    /// The report, if requested.
     pub report: Option<&'a str>,
 }
 
-/// The paths of what is read and written where files are explained.
+/// The paths that `explain` reads and writes.
 #[derive(Clone, Copy, Debug, PartialEq, Eq)]
 pub struct ExplainPaths<'a> {
-    /// The lex file; none where a grammar is explained by itself.
+    /// The lex file; `None` if a yacc file is checked alone.
     pub lex: Option<&'a str>,
     /// The yacc file.
     pub yacc: &'a str,
-    /// The states of the parser, if they are asked for.
+    /// The states of the parser, if requested.
     pub states: Option<&'a str>,
-    /// Their picture, if it is asked for.
+    /// The graph of the states, if requested.
     pub graph: Option<&'a str>,
 }
 
 /// Why there is no command.
 #[derive(Debug, Drop)]
 pub enum CommandFault {
-    /// A help text was asked for, or the version: the text.
+    /// A help text or the version was requested: the text.
     Help(String),
-    /// Any other refusal of the words: what is wrong.
+    /// Any other usage error: the message.
     Bad(String),
-    /// A growth was refused.
+    /// Out of memory.
     OutOfMemory,
 }
 

@@ -15,7 +15,7 @@ use ly_base::Version;
 use ly_print::AnswerForm;
 use std::alloc::{AllocError, Global};
 
-/// What can be wrong with words that `clap` takes.
+/// Usage errors in arguments that `clap` accepts.
 const NO_VERSION: &str = "error: invalid value for '--format <VERSION>': it must be 1 or 2\n";
 
 const NO_COUNT: &str =
@@ -26,17 +26,17 @@ const NO_PAIR: &str =
 
 const NO_LINES: &str = "error: the argument '--lines' cannot be used with '--places'\n";
 
-/// Reads the words of the line, of which the first is the program's name: `tokens LEX [TEXT] [--json] [--where]`,
+/// Reads the arguments, the first of which is the program's name: `tokens LEX [TEXT] [--json] [--where]`,
 /// `tokens --tables TABLES [TEXT] [--json] [--where]`,
 /// `build LEX YACC TABLES [--report FILE] [--format 1|2] [--expect COUNT] [--where]`,
 /// `run TABLES [TEXT] [--lines] [--json] [--places] [--where]`,
 /// `try LEX YACC [TEXT] [--json] [--places] [--where]`, `check TABLES [--json] [--where]` or
 /// `explain LEX YACC [--json] [--states FILE] [--graph FILE] [--strict] [--expect COUNT]`, or this with `--yacc YACC`
-/// for both files. `--places` means JSON, also without `--json`.
+/// in place of both files. `--places` implies `--json`.
 ///
-/// `Help` comes where a help text or the version is asked for, `Bad` where `clap` refuses the words for another reason,
-/// they ask for another version of a table file, for a count that is no number, for lines with places, or for one file
-/// too few or too many to be explained, `OutOfMemory` where a growth was refused.
+/// Returns `Help` if a help text or the version is requested. Returns `Bad` if `clap` rejects the arguments for another
+/// reason, if `--format` is neither 1 nor 2, if `--expect` has no number, if `--lines` comes with `--places`, or if
+/// `explain` gets a file too few or too many. Returns `OutOfMemory` if an allocation fails.
 pub fn read_command<'a>(alloc: Global, words: &'a [String]) -> Result<Command<'a>, CommandFault>
     ensures said { IfOk result (λ c. request_of (map string_bytes words.entry.now) ≡ Some (said c)) }
     ensures faultless { OnOk result (line_faults (map string_bytes words.entry.now) ≡ []) }
@@ -52,7 +52,7 @@ pub fn read_command<'a>(alloc: Global, words: &'a [String]) -> Result<Command<'a
     }
 }
 
-/// What is wrong with words that name no command.
+/// The message for arguments that name no command.
 fn wrong_with(matches: &ArgMatches<'_>) -> &'static str {
     match matches.subcommand() {
         Some(("build", values)) if version_of(values.get_str("VERSION")).is_none() => NO_VERSION,
@@ -62,7 +62,7 @@ fn wrong_with(matches: &ArgMatches<'_>) -> &'static str {
     }
 }
 
-/// What `clap` finds in the words.
+/// What `clap` finds in the arguments.
 fn matched<'a>(alloc: Global, words: &'a [String]) -> Result<ArgMatches<'a>, CommandFault>
     ensures found { IfOk result (λ m. subcommand_rows_of m ≡ subcommand_in (map string_bytes words.entry.now)) }
     ensures faultless { OnOk result (line_faults (map string_bytes words.entry.now) ≡ []) }
@@ -113,7 +113,7 @@ fn tokens_in<'a>(values: &ArgMatches<'a>) -> Option<Command<'a>>
     })
 }
 
-/// How something is answered, by the flags that are said.
+/// How a result is written, by the flags.
 fn answering_in(values: &ArgMatches<'_>) -> Answering
     ensures { result ≡ answering_by (first_value (found_of values.now)) }
 {
@@ -123,7 +123,7 @@ fn answering_in(values: &ArgMatches<'_>) -> Answering
     }
 }
 
-/// The form in which something is answered, by the flag of JSON.
+/// The form of the output, by `--json`.
 fn form_in(values: &ArgMatches<'_>) -> AnswerForm
     ensures { result ≡ form_by (first_value (found_of values.now)) }
 {
@@ -134,7 +134,7 @@ fn form_in(values: &ArgMatches<'_>) -> AnswerForm
     }
 }
 
-/// Whether a flag is said.
+/// Whether a flag is given.
 fn is_said(values: &ArgMatches<'_>, id: &str) -> bool
     ensures { result ≡ is_said (first_value (found_of values.now)) id.now }
 {
@@ -162,7 +162,7 @@ fn build_in<'a>(values: &ArgMatches<'a>) -> Option<Command<'a>>
     })
 }
 
-/// How many conflicts there are to be, if a count is said; nothing where it is no number.
+/// How many conflicts are expected, if `--expect` is given. Returns `None` if its value is no number.
 fn expected_in(values: &ArgMatches<'_>) -> Option<Option<usize>>
     ensures { result ≡ expected_by (first_value (found_of values.now) (codes "COUNT")) }
 {
@@ -172,7 +172,7 @@ fn expected_in(values: &ArgMatches<'_>) -> Option<Option<usize>>
     }
 }
 
-/// The number that digits say, a plus before them or none, if it is there.
+/// The number that digits stand for. A plus may precede them. Returns `None` if there is no such number.
 fn count_of(word: &str) -> Option<usize>
     ensures { result ≡ count_by word.now }
 {
@@ -182,7 +182,7 @@ fn count_of(word: &str) -> Option<usize>
     }
 }
 
-/// The version that a number says, or the one that is meant where none is said. There are no others.
+/// The version with a number, or the default version without one. Returns `None` for any other number.
 fn version_of(number: Option<&str>) -> Option<Version>
     ensures { result ≡ version_by (option_map (λ s. s.now) number.entry) }
 {
@@ -285,7 +285,7 @@ fn explain_in<'a>(values: &ArgMatches<'a>) -> Option<Command<'a>>
     }
 }
 
-/// How strictly files are judged; nothing where the count is no number.
+/// Which warnings and conflicts are allowed. Returns `None` if the count is no number.
 fn strictness_in(values: &ArgMatches<'_>) -> Option<Strictness>
     ensures { result ≡ strictness_by (first_value (found_of values.now)) }
 {
@@ -295,7 +295,7 @@ fn strictness_in(values: &ArgMatches<'_>) -> Option<Strictness>
     })
 }
 
-/// The fault that stands for `clap`'s error.
+/// The error for an error of `clap`.
 fn refusal(alloc: Global, error: &clap::Error) -> CommandFault
     ensures { kind_of error.now ≡ ErrorKind.OutOfMemory → result ≡ CommandFault.OutOfMemory }
 {

@@ -4,7 +4,7 @@ ghost use Rattle.ly_words.specs.CommandLine.{Mean};
 ghost use Rattle.ly_words.specs.Paths.{AskFor};
 ghost use Rattle.ly_words.specs.Request.{Request};
 
-/// Words that ask for something, an option and its value being words of their own, mean it.
+/// Arguments that ask for something, with an option and its value as two arguments, mean it.
 pub fn words_that_ask_mean()
     ensures { (words : List Text) (request : Request) → AskFor words request → Mean words request }
 {}

@@ -1,9 +1,11 @@
-//! From the words of the command line to what they ask for: a `Command`.
+//! Parses the command line into a `Command`.
 //!
-//! `line` has the line as `clap` knows it; `read_command` finds the command that the words mean (`Mean`). Words in
-//! their plain form (`AskFor`), an option and its value being two words, mean what they say (`words_that_ask_mean`).
+//! `line` declares the arguments for `clap`, and `read_command` finds the command that they mean (`Mean`). A theorem
+//! states that arguments in their plain form (`AskFor`), with an option and its value as two arguments, mean what they
+//! ask for (`words_that_ask_mean`).
 //!
-//! Left out: what a command does, which is the program's.
+//! This is a crate of its own since its proofs rest on `clap`'s contracts and need little of the other crates. Carrying
+//! out a command is up to the program.
 #![tactic(auto)]
 
 mod command;

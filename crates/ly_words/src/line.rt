@@ -8,20 +8,20 @@ ghost use Rattle.ly_words.specs.CommandLine.{states_rule, text_rule, tokens_app,
 use clap::{Arg, ArgAction, Command};
 use std::alloc::{AllocError, Global};
 
-/// The version of the program. Table files have versions of their own.
+/// The version of the program. Table files have their own versions.
 const VERSION: &str = "1.0";
 
-/// What stands at the end of the program's help.
+/// The end of the program's help.
 const FIRST_STEPS: &str = "\
-Begin with explain, which says what is wrong with both files and how to mend it; then try a text:
+Start with explain, which reports errors and suggests fixes; then try a text:
   lytab explain sums.l sums.y
   lytab try sums.l sums.y sums.txt --where
 
-Exit status: 0 where all is done, 1 where the text is refused or files don't pass --strict or
---expect, 2 where a lex file, a yacc file or a table file is refused, 3 where a device fails or
-memory runs out, 4 where the words are wrong";
+Exit status: 0 on success, 1 for a syntax error in the text or if the files fail --strict or
+--expect, 2 if a lex file, a yacc file or a table file is rejected, 3 for a read or write error
+or if memory runs out, 4 for a usage error";
 
-/// The line as `clap` has it.
+/// The command line as `clap` declares it.
 pub fn line<'a>(alloc: Global) -> Result<Command<'a>, AllocError>
     ensures { IfOk result (λ c. app_of c ≡ line_app) }
 {
@@ -33,18 +33,20 @@ pub fn line<'a>(alloc: Global) -> Result<Command<'a>, AllocError>
     with(line, explain_line(alloc))
 }
 
-/// The line without its subcommands.
+/// The command line without its subcommands.
 fn top<'a>(alloc: Global) -> Command<'a>
     ensures { app_of result ≡ top_app }
 {
     Command::new(alloc, "lytab")
-        .about("Lexical analysis and parsing by POSIX lex and yacc files, proved correct")
+        .about(
+            "A proved lex and yacc: generates tables from POSIX lex and yacc files, and parses with them",
+        )
         .version(VERSION)
         .subcommand_required(true)
         .after_help(FIRST_STEPS)
 }
 
-/// A command with one more subcommand, if memory sufficed for that.
+/// A command with one more subcommand. Returns an error if an allocation failed.
 fn with<'a>(
     command: Command<'a>,
     sub: Result<Command<'a>, AllocError>,
@@ -70,7 +72,7 @@ fn tokens_paths<'a>(alloc: Global) -> Result<Command<'a>, AllocError>
     ensures { IfOk result (IsApp tokens_paths_app) }
 {
     Command::new(alloc, "tokens")
-        .about("Writes the tokens of a text, one a line")
+        .about("Print the tokens of a text, one per line")
         .arg(path(alloc, "LEX", LEX))?
         .arg(text(alloc))
 }
@@ -90,11 +92,12 @@ fn build_line<'a>(alloc: Global) -> Result<Command<'a>, AllocError>
 fn build_paths<'a>(alloc: Global) -> Result<Command<'a>, AllocError>
     ensures { IfOk result (IsApp build_paths_app) }
 {
-    files(alloc, "build", "Writes the table file of a grammar")?.arg(path(
+    files(
         alloc,
-        "TABLES",
-        "The table file, which is written",
-    ))
+        "build",
+        "Generate a table file from a lex file and a yacc file",
+    )?
+    .arg(path(alloc, "TABLES", "The table file to write"))
 }
 
 /// The subcommand `run`.
@@ -113,7 +116,7 @@ fn run_paths<'a>(alloc: Global) -> Result<Command<'a>, AllocError>
     ensures { IfOk result (IsApp run_paths_app) }
 {
     Command::new(alloc, "run")
-        .about("Writes the tree of a text by a table file")
+        .about("Parse a text with a table file and print its tree")
         .arg(path(alloc, "TABLES", BUILT))?
         .arg(text(alloc))
 }
@@ -122,7 +125,7 @@ fn run_paths<'a>(alloc: Global) -> Result<Command<'a>, AllocError>
 fn try_line<'a>(alloc: Global) -> Result<Command<'a>, AllocError>
     ensures { IfOk result (IsApp try_app) }
 {
-    let about = "Writes the tree of a text by a grammar, at once";
+    let about = "Parse a text directly with a lex file and a yacc file and print its tree";
     files(alloc, "try", about)?
         .arg(text(alloc))?
         .arg(json(alloc))?
@@ -135,7 +138,7 @@ fn check_line<'a>(alloc: Global) -> Result<Command<'a>, AllocError>
     ensures { IfOk result (IsApp check_app) }
 {
     Command::new(alloc, "check")
-        .about("Reads a table file, and counts what it is made of")
+        .about("Check a table file and print its sizes")
         .arg(path(alloc, "TABLES", BUILT))?
         .arg(json(alloc))?
         .arg(pointing(alloc))
@@ -157,9 +160,7 @@ fn explain_paths<'a>(alloc: Global) -> Result<Command<'a>, AllocError>
     ensures { IfOk result (IsApp explain_paths_app) }
 {
     Command::new(alloc, "explain")
-        .about(
-            "Says what is wrong with both files, or doubtful in them, and where their conflicts are",
-        )
+        .about("Report the errors, warnings and conflicts of a lex file and a yacc file")
         .arg(path(alloc, "LEX", LEX))?
         .arg(other_file(alloc))?
         .arg(states(alloc))?
@@ -180,9 +181,9 @@ const LEX: &str = "The lex file: definitions, %%, rules";
 
 const YACC: &str = "The yacc file: declarations, %%, rules";
 
-const BUILT: &str = "The table file, as build writes it";
+const BUILT: &str = "The table file, made by build";
 
-/// A path that must be there.
+/// A required path.
 fn path<'a>(alloc: Global, id: &'a str, help: &'a str) -> Arg<'a>
     ensures rule { rule_of result ≡ path_rule id.entry.now }
     ensures local { result.global ≡ false }
@@ -190,7 +191,7 @@ fn path<'a>(alloc: Global, id: &'a str, help: &'a str) -> Arg<'a>
     Arg::new(alloc, id).required(true).help(help)
 }
 
-/// The path of the text, which may be left out.
+/// The optional path of the text.
 fn text<'a>(alloc: Global) -> Arg<'a>
     ensures rule { rule_of result ≡ text_rule }
     ensures local { result.global ≡ false }
@@ -198,7 +199,7 @@ fn text<'a>(alloc: Global) -> Arg<'a>
     Arg::new(alloc, "TEXT").help("The text; standard input if it is left out")
 }
 
-/// The path of the yacc file, which is left out where a grammar is explained by itself.
+/// The path of the yacc file. It is left out with `--yacc`.
 fn other_file<'a>(alloc: Global) -> Arg<'a>
     ensures rule { rule_of result ≡ other_rule }
     ensures local { result.global ≡ false }
@@ -206,7 +207,7 @@ fn other_file<'a>(alloc: Global) -> Arg<'a>
     Arg::new(alloc, "YACC").help(YACC)
 }
 
-/// The flag of a grammar that is explained by itself.
+/// `--yacc`: check a yacc file alone.
 fn alone<'a>(alloc: Global) -> Arg<'a>
     ensures rule { rule_of result ≡ flag_rule (codes "GRAMMAR") (codes "yacc") }
     ensures local { result.global ≡ false }
@@ -214,10 +215,10 @@ fn alone<'a>(alloc: Global) -> Arg<'a>
     Arg::new(alloc, "GRAMMAR")
         .long("yacc")
         .action(ArgAction::SetTrue)
-        .help("Takes LEX as a yacc file, and says what there is to say of it alone")
+        .help("Check a yacc file alone: give it in place of LEX, without YACC")
 }
 
-/// The flag of a table file in place of a lex file.
+/// `--tables`: a table file in place of a lex file.
 fn by_tables<'a>(alloc: Global) -> Arg<'a>
     ensures rule { rule_of result ≡ flag_rule (codes "SCANNER") (codes "tables") }
     ensures local { result.global ≡ false }
@@ -225,10 +226,10 @@ fn by_tables<'a>(alloc: Global) -> Arg<'a>
     Arg::new(alloc, "SCANNER")
         .long("tables")
         .action(ArgAction::SetTrue)
-        .help("Takes LEX as a table file, whose scanner finds the tokens")
+        .help("Use the scanner of a table file: give it in place of LEX")
 }
 
-/// The flag of lines.
+/// `--lines`.
 fn lines<'a>(alloc: Global) -> Arg<'a>
     ensures rule { rule_of result ≡ flag_rule (codes "LINES") (codes "lines") }
     ensures local { result.global ≡ false }
@@ -236,10 +237,10 @@ fn lines<'a>(alloc: Global) -> Arg<'a>
     Arg::new(alloc, "LINES")
         .long("lines")
         .action(ArgAction::SetTrue)
-        .help("Answers each line as a text of its own, before it reads the next")
+        .help("Parse each line as a text of its own, before the next line is read")
 }
 
-/// The flag of JSON.
+/// `--json`.
 fn json<'a>(alloc: Global) -> Arg<'a>
     ensures rule { rule_of result ≡ flag_rule (codes "JSON") (codes "json") }
     ensures local { result.global ≡ false }
@@ -247,10 +248,10 @@ fn json<'a>(alloc: Global) -> Arg<'a>
     Arg::new(alloc, "JSON")
         .long("json")
         .action(ArgAction::SetTrue)
-        .help("Writes the answer as one line of JSON")
+        .help("Print the result as JSON")
 }
 
-/// The flag of places.
+/// `--places`.
 fn places<'a>(alloc: Global) -> Arg<'a>
     ensures rule { rule_of result ≡ flag_rule (codes "PLACES") (codes "places") }
     ensures local { result.global ≡ false }
@@ -258,10 +259,10 @@ fn places<'a>(alloc: Global) -> Arg<'a>
     Arg::new(alloc, "PLACES")
         .long("places")
         .action(ArgAction::SetTrue)
-        .help("Writes as JSON where each part of the answer begins and ends")
+        .help("Print JSON with the span of each part of the tree")
 }
 
-/// The flag of what points at a fault.
+/// `--where`.
 fn pointing<'a>(alloc: Global) -> Arg<'a>
     ensures rule { rule_of result ≡ flag_rule (codes "WHERE") (codes "where") }
     ensures local { result.global ≡ false }
@@ -269,40 +270,40 @@ fn pointing<'a>(alloc: Global) -> Arg<'a>
     Arg::new(alloc, "WHERE")
         .long("where")
         .action(ArgAction::SetTrue)
-        .help("Says on standard error where something is wrong, and shows it")
+        .help("Print the location of an error and its source line to standard error")
 }
 
-/// The option of a report.
+/// `--report FILE`.
 fn report<'a>(alloc: Global) -> Arg<'a>
     ensures rule { rule_of result ≡ report_rule }
     ensures local { result.global ≡ false }
 {
     Arg::new(alloc, "FILE")
         .long("report")
-        .help("The report, which is written too")
+        .help("Write a report of removed rules and conflicts to FILE")
 }
 
-/// The option of a version.
+/// `--format VERSION`.
 fn format<'a>(alloc: Global) -> Arg<'a>
     ensures rule { rule_of result ≡ format_rule }
     ensures local { result.global ≡ false }
 {
     Arg::new(alloc, "VERSION")
         .long("format")
-        .help("The version of the table file: 1, or 2 if it is left out")
+        .help("The version of the table file: 1 or 2 (the default)")
 }
 
-/// The option of a count.
+/// `--expect COUNT`.
 fn expect<'a>(alloc: Global) -> Arg<'a>
     ensures rule { rule_of result ≡ expect_rule }
     ensures local { result.global ≡ false }
 {
     Arg::new(alloc, "COUNT").long("expect").help(
-        "How many shift/reduce conflicts there are to be, and no others; else the status is 1",
+        "Exit with 1 unless there are exactly COUNT shift/reduce conflicts and no reduce/reduce conflicts",
     )
 }
 
-/// The flag of files without conflicts and doubts.
+/// `--strict`.
 fn strict<'a>(alloc: Global) -> Arg<'a>
     ensures rule { rule_of result ≡ flag_rule (codes "STRICT") (codes "strict") }
     ensures local { result.global ≡ false }
@@ -310,25 +311,25 @@ fn strict<'a>(alloc: Global) -> Arg<'a>
     Arg::new(alloc, "STRICT")
         .long("strict")
         .action(ArgAction::SetTrue)
-        .help("Where there is a conflict or a doubt, the status is 1")
+        .help("Exit with 1 if there is a warning, or a conflict that --expect doesn't allow")
 }
 
-/// The option of states.
+/// `--states STATES`.
 fn states<'a>(alloc: Global) -> Arg<'a>
     ensures rule { rule_of result ≡ states_rule }
     ensures local { result.global ≡ false }
 {
     Arg::new(alloc, "STATES")
         .long("states")
-        .help("The states of the parser, which are written too")
+        .help("Write the states of the parser to STATES")
 }
 
-/// The option of a picture.
+/// `--graph GRAPH`.
 fn graph<'a>(alloc: Global) -> Arg<'a>
     ensures rule { rule_of result ≡ graph_rule }
     ensures local { result.global ≡ false }
 {
-    Arg::new(alloc, "GRAPH").long("graph").help(
-        "A picture of the states for Graphviz's dot, which is written too",
-    )
+    Arg::new(alloc, "GRAPH")
+        .long("graph")
+        .help("Write the states as a graph for Graphviz's dot to GRAPH")
 }

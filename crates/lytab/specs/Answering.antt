@@ -1,4 +1,4 @@
--- What the commands that answer a text have written.
+-- What the commands that parse a text have written.
 use Rattle.std.specs.Prelude.{◌≡◌, ◌<◌, ℕ, List, None, Option, Some, length, take}
 use Rattle.std.specs.Io.KnownBytes.{Appends}
 use Rattle.ly_base.specs.Limits.{version_2}
@@ -20,25 +20,25 @@ use Rattle.lytab.specs.declared.answering.Rules.{Rules}
 use Rattle.lytab.specs.declared.answering.Rules.TheVariants as rules
 use Rattle.lytab.specs.declared.completion.Completion.{Completion}
 
--- The text that is answered, as far as it is known: without a path what standard input had, and that of a file is not.
+-- the text that is parsed, if it is known: without a path it is what standard input had; that of a file isn't known
 abbrev pub text_from : {A : Type 0} → Option A → Option (List ℕ) → Option (List ℕ)
 text_from None given = given
 text_from (Some path) given = None
 
--- The tokens of the text that a reader gave were written in a form, by a lex file.
+-- The tokens that a lex file defines for the text of a reader were written in a form.
 abbrev pub AreTokensPrinted :
     AnswerForm → List ℕ → Option (List ℕ) → Option (List ℕ) → Option (List ℕ) → Completion → Type 0
 AreTokensPrinted form lex given before after c = (end : TokenEnd) × (answer : List ℕ)
     × Answers form version_2 lex given (end_of end) answer × Appends before after answer
     × (c ≡ completion_of_tokens end)
 
--- so many bytes of them were written, and these are not all
+-- this many bytes of them were written, and more should follow
 abbrev pub AreTokensBegun : AnswerForm → List ℕ → Option (List ℕ) → Option (List ℕ) → Option (List ℕ) → Type 0
 AreTokensBegun form lex given before after = (written : ℕ) × (end : End) × (answer : List ℕ)
     × Answers form version_2 lex given end answer × (written < length answer)
     × Appends before after (take written answer)
 
--- The answer to the text was written in a form that the set of a table file gives.
+-- The output that the set of a table file gives for the text was written in a form.
 abbrev pub IsAnsweredByTables :
     AnswerForm → List ℕ → Option (List ℕ) → Option (List ℕ) → Option (List ℕ) → Completion → Type 0
 IsAnsweredByTables form tables given before after c = (o : Outcome) × (s : TableSet) × IsDriven tables s
@@ -48,7 +48,7 @@ abbrev pub IsBegunByTables : AnswerForm → List ℕ → Option (List ℕ) → O
 IsBegunByTables form tables given before after = (written : ℕ) × (s : TableSet) × IsDriven tables s
     × IsBegunBy form s given before after written
 
--- The answer to the text was written in a form that a lex file and a yacc file say.
+-- The output that a lex file and a yacc file define for the text was written in a form.
 abbrev pub IsAnsweredByFiles : AnswerForm → List ℕ → List ℕ → Option (List ℕ) → Option (List ℕ) → Option (List ℕ)
     → Completion → Type 0
 IsAnsweredByFiles form lex yacc given before after c = (o : Outcome) × (s : TableSet)
@@ -59,7 +59,7 @@ abbrev pub IsBegunByFiles : AnswerForm → List ℕ → List ℕ → Option (Lis
 IsBegunByFiles form lex yacc given before after = (written : ℕ) × (s : TableSet) × IsGenerated V2 version_2 lex yacc s
     × IsBegunBy form s given before after written
 
--- The whole answer was written that these rules give to the text, and the command is completed so.
+-- The whole output that these rules give for the text was written, and the command has this result.
 abbrev pub IsAnswered : Rules → Option (List ℕ) → Option (List ℕ) → Option (List ℕ) → Completion → Type 0
 IsAnswered (rules.Tokens lex form) given before after c = AreTokensPrinted form lex.now given before after c
 IsAnswered (rules.TableTokens tables form) given before after c =
@@ -72,12 +72,12 @@ IsAnswered (rules.BothPlaced lex yacc) given before after c =
 IsAnswered (rules.Both lex yacc form) given before after c =
     IsAnsweredByFiles form lex.now yacc.now given before after c
 
--- the text is answered as one
+-- the text is parsed as one text
 abbrev pub IsOneText : Rules → Type 0
 IsOneText (rules.Lines tables form) = ⊥
 IsOneText _ = Unit {0}
 
--- So many bytes of it were written, and these are not all. What is written of lines is said where they are.
+-- This many bytes of it were written, and more should follow. For `--lines` the definitions are in `Lines`.
 abbrev pub IsAnswerBegun : Rules → Option (List ℕ) → Option (List ℕ) → Option (List ℕ) → Type 0
 IsAnswerBegun (rules.Tokens lex form) given before after = AreTokensBegun form lex.now given before after
 IsAnswerBegun (rules.TableTokens tables form) given before after =

@@ -1,5 +1,5 @@
--- What a command has written, or why it failed, and what it read of standard input. Of what the files of its words hold
--- nothing is known, so it is said for some bytes.
+-- What a command has written, or why it failed, and what it read of standard input. The contents of the named files are
+-- unknown to contracts, so this holds for some bytes.
 use Rattle.std.specs.Prelude.{◌≡◌, ◌⊎◌, ◌++◌, ℕ, Bool, IfErr, IfOk, List, MatchResult}
 use Rattle.std.specs.Prelude.{None, OnErr, OnOk, Option, Result, Some, codes, false, length, true}
 use Rattle.std.specs.Fmt.{decimal}
@@ -42,19 +42,19 @@ use Rattle.lytab.specs.declared.completion.Completion.{Completion}
 use Rattle.lytab.specs.declared.completion.Completion.TheVariants.{Done}
 use Rattle.lytab.specs.declared.failure.Failure.{Failure}
 
--- a report is wanted where a file is named for it
+-- a report is requested if a file is named for it
 abbrev pub wanted_for : {A : Type 0} → Option A → Report
 wanted_for (Some path) = Wanted
 wanted_for None = Unwanted
 
--- a specification has the conflicts that it is to have: so many between a shift and a reduction, and no others
+-- a specification has the expected conflicts: exactly this many shift/reduce and no reduce/reduce conflicts
 abbrev pub AreAsExpected : Option ℕ → ConflictCounts → Type 0
 AreAsExpected None counts = Unit {0}
 AreAsExpected (Some n) counts = (counts.shift_reduce ≡ n) × (counts.reduce_reduce ≡ 0)
 
--- A table set was made of the specification that a lex file and a yacc file say within limits. Its table file was
--- written, and the specification's report where a file is named for it; and it is told how many conflicts there are,
--- which are as many as there are to be.
+-- A table set was made from the specification that a lex file and a yacc file define within limits. Its table file was
+-- written, and the specification's report if a file is named for it. The line with the numbers of conflicts was
+-- written, and these are as expected.
 pub record IsBuildTold {D A : Type 0} (contents : D → Option (List ℕ)) (limits : Sizes) (version : Version)
     (report_path : Option A) (expected : Option ℕ) (before after : Option (List ℕ))
     (result : Result Completion Failure) : Type 0 where
@@ -74,7 +74,7 @@ pub record IsBuildTold {D A : Type 0} (contents : D → Option (List ℕ)) (limi
   pub line : IsSaid result before after (counts_line counts.shift_reduce counts.reduce_reduce)
   pub done : IfOk result (λ c. c ≡ Done)
 
--- what the table set is made of that the bytes of a table file of a version spell
+-- the sizes of the table set that the bytes of a table file of a version encode
 pub record HasCounts (bytes : List ℕ) (version : Version) (counts : SetCounts) : Type 0 where
   pub set : TableSet
   pub spelled : TableText bytes version set
@@ -89,7 +89,7 @@ abbrev pub version_number : Version → ℕ
 version_number V1 = 1
 version_number V2 = 2
 
--- how many there are, in words, up to the number of the version
+-- the sizes as text, up to the number of the version
 abbrev pub counts_text : SetCounts → List ℕ
 counts_text counts = codes "tables: " ++ (decimal counts.terminals ++ codes " terminals, ")
     ++ (decimal counts.nonterminals ++ codes " nonterminals, ")
@@ -97,11 +97,11 @@ counts_text counts = codes "tables: " ++ (decimal counts.terminals ++ codes " te
     ++ (decimal counts.scanner_states ++ codes " scanner states, ")
     ++ (decimal counts.rules ++ codes " rules, ") ++ (decimal counts.parser_states ++ codes " parser states, version ")
 
--- the line that says how many there are, and which version the file has
+-- the line with the sizes and the version of the file
 abbrev pub set_line : SetCounts → Version → List ℕ
 set_line counts version = counts_text counts ++ (decimal (version_number version) ++ codes "\n")
 
--- how many there are, as JSON, up to the number of the version
+-- the sizes as JSON, up to the number of the version
 abbrev pub counts_json : SetCounts → List ℕ
 counts_json counts = codes "{\"terminals\":" ++ (decimal counts.terminals ++ codes ",\"nonterminals\":")
     ++ (decimal counts.nonterminals ++ codes ",\"scanner_rules\":")
@@ -130,19 +130,18 @@ pub record IsCheckTold (form : AnswerForm) (before after : Option (List ℕ)) (r
     pub line : IsSaid result before after (set_told form counts version)
     pub done : IfOk result (λ c. c ≡ Done)
 
--- the bytes of the lex file: where none is named it is one without rules
+-- the bytes of the lex file; if none is named, those of one without rules
 abbrev pub lex_text : {A : Type 0} → Option A → List ℕ → List ℕ
 lex_text (Some path) bytes = bytes
 lex_text None bytes = no_rules
 
--- whether an answer is written as JSON
+-- whether the form is JSON
 abbrev pub is_json : AnswerForm → Bool
 is_json Plain = false
 is_json Json = true
 
--- what there is to say of a lex file and a yacc file, in this form, and whether they are accepted; the states of their
--- parser and a picture of them were written where files are named for them, as far as there are any; and the end tells
--- whether they pass
+-- the report of a lex file and a yacc file was written in this form, with the right verdict; the states of their parser
+-- and a graph of them were written if files are named for them and they exist; and the result is whether the files pass
 pub record IsExplanationTold {D A : Type 0} (contents : D → Option (List ℕ))
     (lex_path states_path graph_path : Option A)
     (strictness : Strictness) (form : AnswerForm) (before after : Option (List ℕ))
@@ -157,8 +156,8 @@ pub record IsExplanationTold {D A : Type 0} (contents : D → Option (List ℕ))
   pub text : IsSaid result before after explanation.text.items
   pub completed : IfOk result (λ c. c ≡ completion_of_findings strictness explanation.findings)
 
--- What a command's devices were before it and after it: standard input, what it had and has left, and what stood and
--- stands on standard output.
+-- A command's standard input and output before and after it: what standard input had and has left, and what was and is
+-- on standard output.
 pub record Ends (R : Type 0) : Type 0 where
   pub input_before : R
   pub input_after : R
@@ -167,24 +166,24 @@ pub record Ends (R : Type 0) : Type 0 where
   pub before : Option (List ℕ)
   pub after : Option (List ℕ)
 
--- Standard input is as it was where the text is a file's. Where it is the text, it is as it was where the files are
--- refused that answer it, and this holds of what was read.
+-- Standard input is unchanged if the text is a file. Otherwise it is unchanged if the files that the text is parsed
+-- with are rejected, and this holds of what was read.
 abbrev pub IsInputTold : {A R : Type 0} → Option A → Result Completion Failure → Ends R → Type 0 → Type 0
 IsInputTold (Some path) result e read = e.input_after ≡ e.input_before
 IsInputTold None result e read = IfErr result (λ f. IsOfRules f → e.input_after ≡ e.input_before) × read
 
--- The set of a table file answers the text, and no more is read than that takes; or nothing is.
+-- The set of a table file parses the text, and no more is read than it needs; or nothing is read.
 abbrev pub IsReadForTables : {R : Type 0} → List ℕ → Result Completion Failure → Ends R → Type 0
 IsReadForTables tables result e = (e.input_after ≡ e.input_before) ⊎ IsReadByTables tables result e.given e.left
 
 abbrev pub IsReadForFiles : {R : Type 0} → List ℕ → List ℕ → Result Completion Failure → Ends R → Type 0
 IsReadForFiles lex yacc result e = IsReadByFiles lex yacc result e.input_before e.input_after e.given e.left
 
--- where a command failed that answers a text, nothing was written to standard output, or a beginning of the answer
+-- if a command that parses a text failed, a prefix of its output was written to standard output, or nothing
 abbrev pub HasBegunAtMost : {R : Type 0} → Result Completion Failure → Ends R → Type 0 → Type 0
 HasBegunAtMost result e begun = OnErr result ((e.after ≡ e.before) ⊎ begun)
 
--- what a command did that asks for this, and how it ended, where of a file that it writes this is known
+-- what a command did and how it ended, where `contents` is what is known of a written file
 abbrev pub IsCarriedOut : {R D : Type 0} → (D → Option (List ℕ)) → Request → Result Completion Failure → Ends R
     → Type 0
 IsCarriedOut contents (tokens lex text by) result e = (bytes : List ℕ)
@@ -237,16 +236,17 @@ IsCarriedOut contents (explain lex yacc states graph strictness form) result e =
     × IfErr result IsOfDevice
     × (e.input_after ≡ e.input_before)
 
--- the exit status of a command that ended so; where it failed also 3, if there is no memory for the line that says why
+-- the exit status of a command with this result; if it failed it may also be 3, if there is no memory for the line of
+-- the failure
 abbrev pub IsStatusOf : ℕ → Result Completion Failure → Type 0
 IsStatusOf status result = MatchResult result (λ c. status ≡ completion_status c)
     (λ f. (status ≡ failure_status f) ⊎ (status ≡ 3))
 
--- A command was carried out that asks for this, with its exit status. Where it is completed standard output's count of
--- failures is as it was. Where it failed standard output and its count of failures are as they were, or a write to it
--- failed: the count went on by one, the status is 3, and a beginning of what the command says stands there. So standard
--- output is as it was with status 1 or 2 of a failure, and with any where its count of failures is; but the answers of
--- the lines in front of a failure stand there, where each line is a text of its own.
+-- A command was carried out, with its exit status. If it succeeded, no write to standard output failed. If it failed,
+-- standard output and its failure count are unchanged; or a write failed, the count is one more, the status is 3, and a
+-- prefix of the output was written. So standard output is unchanged for a failure with status 1 or 2, and for any
+-- failure if its failure count is unchanged. With `--lines`, however, the output for the lines before the failure was
+-- written.
 pub record HasPerformed {R D : Type 0} (contents : D → Option (List ℕ)) (request : Request) (e : Ends R)
     (failures new_failures status : ℕ) : Type 0 where
   pub result : Result Completion Failure

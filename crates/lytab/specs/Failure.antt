@@ -1,4 +1,4 @@
--- Which device a failure is of, and its exit status.
+-- Which device a failure belongs to, and its exit status.
 use Rattle.std.specs.Prelude.{◌≡◌, ℕ}
 use Rattle.ly_drive.specs.declared.fault.DriveFault.{DriveFault}
 use Rattle.ly_drive.specs.declared.fault.DriveFault.TheVariants as drive
@@ -14,7 +14,7 @@ use Rattle.lytab.specs.declared.failure.Failure.TheVariants.{Refused, Tables, To
 use Rattle.lytab.specs.declared.files.FileFault.{FileFault}
 use Rattle.lytab.specs.declared.files.FileFault.TheVariants as of_file
 
--- why a file isn't read or written, as why there is no answer
+-- the failure for a file that isn't read or written
 abbrev pub failure_of_file : FileFault → Failure
 failure_of_file (of_file.CannotRead path) = CannotRead path
 failure_of_file (of_file.CannotWrite path) = CannotWrite path
@@ -30,7 +30,7 @@ abbrev pub IsOfWriter : Failure → Type 0
 IsOfWriter (CannotWrite path) = Unit {0}
 IsOfWriter _ = ⊥
 
--- why a text has no answer for a fault of answering it
+-- the failure for an error of parsing a text
 abbrev pub IsOfAnswering : TextFault → Failure → Type 0
 IsOfAnswering text.FaultyTables f = f ≡ FaultyTables
 IsOfAnswering text.TooLong f = f ≡ TooLong
@@ -38,12 +38,12 @@ IsOfAnswering text.Read f = IsOfReader f
 IsOfAnswering (text.Write written) f = IsOfWriter f
 IsOfAnswering text.OutOfMemory f = f ≡ OutOfMemory
 
--- why it has none by a table file
+-- the failure for an error of parsing a text with a table file
 abbrev pub IsOfDriving : DriveFault → Failure → Type 0
 IsOfDriving (drive.Tables fault) f = f ≡ Tables fault
 IsOfDriving (drive.Text fault) f = IsOfAnswering fault f
 
--- a device fails or memory runs out
+-- a read or write error, or out of memory
 abbrev pub IsOfDevice : Failure → Type 0
 IsOfDevice (CannotRead path) = Unit {0}
 IsOfDevice (Unreadable path reason) = Unit {0}
@@ -51,18 +51,18 @@ IsOfDevice (CannotWrite path) = Unit {0}
 IsOfDevice OutOfMemory = Unit {0}
 IsOfDevice _ = ⊥
 
--- where a lex file and a yacc file aren't accepted: 2, and 3 where memory runs out
+-- if a lex file and a yacc file aren't accepted: 2, or 3 if memory runs out
 abbrev pub refusal_status : GenFault → ℕ
 refusal_status gen.OutOfMemory = 3
 refusal_status _ = 2
 
--- where a table file isn't read: 2, and 3 where memory runs out
+-- if a table file isn't accepted: 2, or 3 if memory runs out
 abbrev pub table_fault_status : TableFault → ℕ
 table_fault_status file.OutOfMemory = 3
 table_fault_status _ = 2
 
--- 1 where the text is too long, or there are other conflicts than there are to be, 2 where a file is refused, 3 where a
--- device fails or memory runs out
+-- 1 if the text is too long or there are other conflicts than expected, 2 if a file is rejected, 3 for a read or write
+-- error or if memory runs out
 abbrev pub failure_status : Failure → ℕ
 failure_status (CannotRead path) = 3
 failure_status (Unreadable path reason) = 3

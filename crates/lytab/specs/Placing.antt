@@ -1,4 +1,4 @@
--- What is written where a text is answered with places.
+-- What is written if a text is parsed with `--places`.
 use Rattle.std.specs.Prelude.{◌≡◌, ℕ, List, Option}
 use Rattle.ly_base.specs.Limits.{version_2}
 use Rattle.ly_base.specs.declared.version.Version.TheVariants.{V2}
@@ -10,23 +10,23 @@ use Rattle.ly_tables.specs.TableSet.{TableSet}
 use Rattle.lytab.specs.Completion.{completion_of_outcome}
 use Rattle.lytab.specs.declared.completion.Completion.{Completion}
 
--- The answer to the text was written, with places, that the set of a table file gives.
+-- The output with spans that the set of a table file gives for the text was written.
 abbrev pub IsPlacedByTables : List ℕ → Option (List ℕ) → Option (List ℕ) → Option (List ℕ) → Completion → Type 0
 IsPlacedByTables tables given before after c = (o : Outcome) × (s : TableSet) × IsDriven tables s
     × IsPlacedFor s given before after o × (c ≡ completion_of_outcome o)
 
--- so many bytes of it were written, and these are not all
+-- this many bytes of it were written, and more should follow
 abbrev pub IsPlacingBegunByTables : List ℕ → Option (List ℕ) → Option (List ℕ) → Option (List ℕ) → Type 0
 IsPlacingBegunByTables tables given before after = (written : ℕ) × (s : TableSet) × IsDriven tables s
     × IsPlacingBegun s given before after written
 
--- The answer to the text was written, with places, that a lex file and a yacc file say.
+-- The output with spans that a lex file and a yacc file define for the text was written.
 abbrev pub IsPlacedByFiles : List ℕ → List ℕ → Option (List ℕ) → Option (List ℕ) → Option (List ℕ) → Completion
     → Type 0
 IsPlacedByFiles lex yacc given before after c = (o : Outcome) × (s : TableSet) × IsGenerated V2 version_2 lex yacc s
     × IsPlacedFor s given before after o × (c ≡ completion_of_outcome o)
 
--- so many bytes of it were written, and these are not all
+-- this many bytes of it were written, and more should follow
 abbrev pub IsPlacingBegunByFiles : List ℕ → List ℕ → Option (List ℕ) → Option (List ℕ) → Option (List ℕ) → Type 0
 IsPlacingBegunByFiles lex yacc given before after = (written : ℕ) × (s : TableSet)
     × IsGenerated V2 version_2 lex yacc s × IsPlacingBegun s given before after written

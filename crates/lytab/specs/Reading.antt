@@ -17,29 +17,29 @@ use Rattle.lytab.specs.declared.failure.Failure.TheVariants.{Refused, Tables}
 abbrev pub HasReadFailed : Result Completion Failure → Type 0
 HasReadFailed result = MatchResult result (λ c. ⊥) IsOfReader
 
--- the files that a text is answered by are refused
+-- the files that a text is parsed with are rejected
 abbrev pub IsOfRules : Failure → Type 0
 IsOfRules (Refused fault line) = Unit {0}
 IsOfRules (Tables fault) = Unit {0}
 IsOfRules _ = ⊥
 
--- What is read for the answer that a table set gives: no more than it asks for, and at most 4,096 bytes behind, where
--- no read failed; and where one did no answer was known, so that it had to be made.
+-- What is read to parse with a table set. Without a failed read it is no more than is needed, and at most 4,096 bytes
+-- beyond that. If a read failed, the result wasn't known yet, so that the read was needed.
 pub record IsReadFor (s : TableSet) (result : Result Completion Failure) (before after : Option (List ℕ)) : Type 0 where
   pub needed : (HasReadFailed result → ⊥) → IsReadAsNeeded 4096 s before after
   pub asked : HasReadFailed result → IsOpenBehind s before after
 
--- where a table file's set answers
+-- the same if the set is that of a table file
 abbrev pub IsReadByTables : List ℕ → Result Completion Failure → Option (List ℕ) → Option (List ℕ) → Type 0
 IsReadByTables tables result before after = (s : TableSet) → IsDriven tables s → IsReadFor s result before after
 
--- Where that answers which is made of a lex file and a yacc file; or the reader is as it was.
+-- The same if the set is generated from a lex file and a yacc file; or the reader is unchanged.
 abbrev pub IsReadByFiles : {R : Type 0} → List ℕ → List ℕ → Result Completion Failure → R → R → Option (List ℕ)
     → Option (List ℕ) → Type 0
 IsReadByFiles lex yacc result old new before after = (new ≡ old)
     ⊎ ((s : TableSet) × IsGenerated V2 version_2 lex yacc s × IsReadFor s result before after)
 
--- what these rules ask for: all of a text whose tokens are printed, or that is answered with places
+-- what these rules read: all of a text if its tokens are printed or with `--places`
 abbrev pub IsReadBy : {R : Type 0} → Rules → Result Completion Failure → R → R → Option (List ℕ) → Option (List ℕ)
     → Type 0
 IsReadBy (rules.Tokens lex form) result old new before after = OnOk result (IsAtEnd after)
@@ -51,7 +51,7 @@ IsReadBy (rules.BothPlaced lex yacc) result old new before after = OnOk result (
 IsReadBy (rules.Both lex yacc form) result old new before after =
     IsReadByFiles lex.now yacc.now result old new before after
 
--- A reader is as it was where the files are refused, and else it gave what these rules ask for.
+-- A reader is unchanged if the files are rejected, and otherwise it returned what these rules read.
 pub record IsTextRead {R : Type 0} (by : Rules) (result : Result Completion Failure) (old new : R)
     (before after : Option (List ℕ)) : Type 0 where
   pub unread : IfErr result (λ f. IsOfRules f → new ≡ old)

@@ -1,4 +1,4 @@
--- What a failure says of the files that a text is answered by, and of the text.
+-- What a failure implies for the files that a text is parsed with, and for the text.
 use Rattle.std.specs.Prelude.{◌≡◌, ◌≢◌, ℕ, List, [], Option, Some, length}
 use Rattle.ly_base.specs.Limits.{Sizes, least_of, sizes_in, version_2}
 use Rattle.ly_base.specs.declared.version.Version.{Version}
@@ -28,7 +28,7 @@ use Rattle.lytab.specs.declared.failure.Failure.{Failure}
 use Rattle.lytab.specs.declared.failure.Failure.TheVariants.{CannotRead, CannotWrite, FaultyTables, OutOfMemory}
 use Rattle.lytab.specs.declared.failure.Failure.TheVariants.{Refused, Tables, TooLong, Unexpected}
 
--- The bytes are those of no lex file, or of one that is past the limits.
+-- The bytes are no lex file, or one that exceeds the limits.
 abbrev pub IsRefusedLex : List ℕ → GenFault → Type 0
 IsRefusedLex lex (gen.Lex fault) = (fault ≢ lex_fault.OutOfMemory) × IsAtMost (length lex) fault
     × ((IsTooHeavy fault → ⊥) → (f : LexFile) → LexText lex f → ⊥)
@@ -38,7 +38,7 @@ IsRefusedLex lex (gen.Positions fault) = (fault ≡ TooManyPositions) × AreTooH
 IsRefusedLex lex (gen.States fault) = (fault ≡ TooManyStates) × HaveTooManyStates version_2 lex
 IsRefusedLex lex _ = ⊥
 
--- where tokens are printed
+-- if tokens are printed
 abbrev pub IsRefusalOfLex : List ℕ → Failure → Type 0
 IsRefusalOfLex lex (Refused fault line) = IsRefusedLex lex fault × (line ≡ gen_line fault lex [])
 IsRefusalOfLex lex (CannotRead path) = Unit {0}
@@ -46,7 +46,7 @@ IsRefusalOfLex lex (CannotWrite path) = Unit {0}
 IsRefusalOfLex lex OutOfMemory = Unit {0}
 IsRefusalOfLex lex _ = ⊥
 
--- where a table file answers what a reader gave
+-- if a table file is used to parse what a reader returned
 abbrev pub IsRefusalOfTables : List ℕ → Option (List ℕ) → Failure → Type 0
 IsRefusalOfTables tables given (Tables fault) = (fault ≢ file.OutOfMemory) × IsRefusedAs tables fault
 IsRefusalOfTables tables given FaultyTables = (s : TableSet) × IsDriven tables s × IsFaultyOn s given
@@ -56,7 +56,7 @@ IsRefusalOfTables tables given (CannotWrite path) = Unit {0}
 IsRefusalOfTables tables given OutOfMemory = Unit {0}
 IsRefusalOfTables tables given _ = ⊥
 
--- where a lex file and a yacc file answer it
+-- if a lex file and a yacc file are used to parse it
 abbrev pub IsRefusalOfFiles : List ℕ → List ℕ → Option (List ℕ) → Failure → Type 0
 IsRefusalOfFiles lex yacc given (Refused fault line) = (fault ≢ gen.OutOfMemory)
     × IsRefusedFor version_2 lex yacc fault × (line ≡ gen_line fault lex yacc)
@@ -66,8 +66,8 @@ IsRefusalOfFiles lex yacc given (CannotWrite path) = Unit {0}
 IsRefusalOfFiles lex yacc given OutOfMemory = Unit {0}
 IsRefusalOfFiles lex yacc given _ = ⊥
 
--- The specification that a lex file and a yacc file say within limits, of which a table set is made, has so many
--- conflicts; and there are to be so many between a shift and a reduction, and no others.
+-- The specification that a lex file and a yacc file define within limits, from which a table set is made, has these
+-- conflicts; but exactly this many shift/reduce and no reduce/reduce conflicts are expected.
 pub record HasOtherCounts (limits : Sizes) (version : Version) (expected : Option ℕ) (counts : ConflictCounts)
     (wanted : ℕ) : Type 0 where
   pub lex : List ℕ
@@ -78,20 +78,20 @@ pub record HasOtherCounts (limits : Sizes) (version : Version) (expected : Optio
   pub is_expected : expected ≡ Some wanted
   pub others : (counts.shift_reduce ≡ wanted) × (counts.reduce_reduce ≡ 0) → ⊥
 
--- where a table file of a version is built of some lex file and some yacc file, which are to have so many conflicts
+-- if a table file of a version is built from some lex file and some yacc file, with this expected count
 abbrev pub IsRefusalOfBuild : Version → Option ℕ → Failure → Type 0
 IsRefusalOfBuild version expected (Refused fault line) = (lex yacc : List ℕ)
     × IsRefusedFor (least_of version_2 (sizes_in version)) lex yacc fault × (line ≡ gen_line fault lex yacc)
 IsRefusalOfBuild version expected (Unexpected counts wanted) = HasOtherCounts version_2 version expected counts wanted
 IsRefusalOfBuild version expected f = IsOfDevice f
 
--- where it is said what some table file is made of
+-- if some table file is checked
 abbrev pub IsRefusalOfCheck : Failure → Type 0
 IsRefusalOfCheck (Tables fault) = (tables : List ℕ) × IsRefusedAs tables fault
 IsRefusalOfCheck f = IsOfDevice f
 
--- What a failure says of these rules, and of what a reader gave; that a device fails or memory runs out says nothing.
--- What it says of lines is said where they are.
+-- What a failure implies for these rules and for what a reader returned. A read or write error and out of memory imply
+-- nothing. For `--lines` the definitions are in `Lines`.
 abbrev pub IsRefusalOf : Rules → Option (List ℕ) → Failure → Type 0
 IsRefusalOf (rules.Tokens lex form) given f = IsRefusalOfLex lex.now f
 IsRefusalOf (rules.TableTokens tables form) given f = IsRefusalOfScanner tables.now given f

@@ -1,4 +1,4 @@
-//! The commands that answer a text.
+//! The commands that parse a text.
 ghost use Rattle.std.specs.Prelude.{◌≡◌, IfErr, IfOk, IsSome, None, Ok, OnOk};
 ghost use Rattle.std.specs.Io.KnownBytes.{IsAtEnd};
 ghost use Rattle.lytab.specs.Answering.{AreTokensBegun, AreTokensPrinted, IsAnswerBegun, IsAnswered};
@@ -26,17 +26,17 @@ use ly_print::{AnswerForm, Counted, Sink, Source};
 use std::alloc::Global;
 use std::rt::Files;
 
-/// What a text is answered by: the bytes of the files that are asked for; and how the answer is written.
+/// What a text is parsed with, as the bytes of the files, and the form of the output.
 #[derive(Clone, Copy)]
 pub enum Rules<'a> {
-    /// A lex file, for the tokens.
+    /// A lex file, to print the tokens.
     Tokens {
         /// The lex file.
         lex: &'a [u8],
         /// How they are written.
         form: AnswerForm,
     },
-    /// A table file, for the tokens that its scanner finds.
+    /// A table file, to print the tokens that its scanner finds.
     TableTokens {
         /// The table file.
         tables: &'a [u8],
@@ -47,19 +47,19 @@ pub enum Rules<'a> {
     Tables {
         /// The table file.
         tables: &'a [u8],
-        /// How the answer is written.
+        /// The form of the output.
         form: AnswerForm,
     },
-    /// A table file, each line of the text as a text of its own.
+    /// A table file, for each line of the text as a text of its own.
     Lines {
         /// The table file.
         tables: &'a [u8],
-        /// How each answer is written.
+        /// The form of the output for each line.
         form: AnswerForm,
     },
-    /// A table file, with where each part of the answer stands.
+    /// A table file, to print the span of each part of the tree.
     TablesPlaced(&'a [u8]),
-    /// A lex file and a yacc file, with where each part of the answer stands.
+    /// A lex file and a yacc file, to print the span of each part of the tree.
     BothPlaced {
         /// The lex file.
         lex: &'a [u8],
@@ -72,12 +72,12 @@ pub enum Rules<'a> {
         lex: &'a [u8],
         /// The yacc file.
         yacc: &'a [u8],
-        /// How the answer is written.
+        /// The form of the output.
         form: AnswerForm,
     },
 }
 
-/// Answers a text, standard input if there is no path. A file is opened before anything is judged.
+/// Parses a text, or standard input without a path. A file is opened before anything is judged.
 pub fn answer_text<'a, F: Files, R: Source + Recall, W: Sink>(
     files: &F,
     alloc: Global,
@@ -118,7 +118,7 @@ pub fn answer_text<'a, F: Files, R: Source + Recall, W: Sink>(
     }
 }
 
-/// Answers all that a reader of this name gives.
+/// Parses all that a reader with this name returns.
 fn answer_by<'a, R: Source + Recall, W: Sink>(
     alloc: Global,
     rules: Rules<'_>,
@@ -165,7 +165,7 @@ fn answer_by<'a, R: Source + Recall, W: Sink>(
     }
 }
 
-/// Prints the tokens of all that a reader of this name gives.
+/// Prints the tokens of all that a reader with this name returns.
 fn print_tokens<'a, R: Source + Recall, W: Sink>(
     alloc: Global,
     lex: &[u8],
@@ -203,7 +203,7 @@ fn print_tokens<'a, R: Source + Recall, W: Sink>(
     }
 }
 
-/// Prints the tokens of all that a reader of this name gives, by the scanner of a table file.
+/// Prints the tokens of all that a reader with this name returns, with the scanner of a table file.
 fn print_table_tokens<'a, R: Source + Recall, W: Sink>(
     alloc: Global,
     tables: &[u8],
@@ -233,7 +233,7 @@ fn print_table_tokens<'a, R: Source + Recall, W: Sink>(
     }
 }
 
-/// Answers all that a reader of this name gives, by a table file.
+/// Parses all that a reader with this name returns, with a table file.
 fn answer_by_tables<'a, R: Source + Recall, W: Sink>(
     alloc: Global,
     tables: &[u8],
@@ -269,7 +269,7 @@ fn answer_by_tables<'a, R: Source + Recall, W: Sink>(
     }
 }
 
-/// Answers each line of what a reader of this name gives as a text of its own, by a table file.
+/// Parses each line that a reader with this name returns as a text of its own, with a table file.
 fn answer_lines<'a, R: Source, W: Sink>(
     alloc: Global,
     tables: &[u8],
@@ -301,7 +301,7 @@ fn answer_lines<'a, R: Source, W: Sink>(
     }
 }
 
-/// Answers all that a reader of this name gives, by a table file, with where each part stands.
+/// Parses all that a reader with this name returns, with a table file, and prints the span of each part.
 fn place_by_tables<'a, R: Source + Recall, W: Sink>(
     alloc: Global,
     tables: &[u8],
@@ -330,7 +330,7 @@ fn place_by_tables<'a, R: Source + Recall, W: Sink>(
     }
 }
 
-/// Answers all that a reader of this name gives, by a lex file and a yacc file, with where each part stands.
+/// Parses all that a reader with this name returns, with a lex file and a yacc file, and prints the span of each part.
 fn place_by_files<'a, R: Source + Recall, W: Sink>(
     alloc: Global,
     lex: &[u8],
@@ -361,7 +361,7 @@ fn place_by_files<'a, R: Source + Recall, W: Sink>(
     }
 }
 
-/// Answers all that a reader of this name gives, by a lex file and a yacc file.
+/// Parses all that a reader with this name returns, with a lex file and a yacc file.
 fn answer_by_files<'a, R: Source + Recall, W: Sink>(
     alloc: Global,
     lex: &[u8],

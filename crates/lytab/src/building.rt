@@ -21,9 +21,9 @@ use ly_words::Paths;
 use std::alloc::{AllocError, Global};
 use std::rt::Files;
 
-/// Writes the table file of a lex file and a yacc file in a version, their report if it is asked for, and to standard
-/// output how many conflicts there are. Both files are read before anything is judged, and nothing is written before it
-/// is known, nor where there are to be so many conflicts, and there are others.
+/// Writes the table file of a lex file and a yacc file in a version, their report if requested, and the numbers of
+/// conflicts to standard output. Both files are read before anything is judged. Nothing is written before all of it is
+/// known, or if there are other conflicts than `expected`.
 pub fn build_tables<'a, F: Files, W: Sink>(
     files: &F,
     alloc: Global,
@@ -60,7 +60,7 @@ pub fn build_tables<'a, F: Files, W: Sink>(
     Completion::Done.said(output, &line)
 }
 
-/// The count that is expected, where there are other conflicts.
+/// The expected count, if there are other conflicts.
 fn missed_count(expected: Option<usize>, conflicts: &ConflictCounts) -> Option<usize>
     ensures { result ≡ missed_count expected conflicts.now }
 {
@@ -70,7 +70,7 @@ fn missed_count(expected: Option<usize>, conflicts: &ConflictCounts) -> Option<u
     expected
 }
 
-/// Whether a report is wanted: where a file is named for it.
+/// Whether a report is requested: a file is named for it.
 fn wanted(path: Option<&str>) -> Report
     ensures { result ≡ wanted_for path.entry }
 {
@@ -80,7 +80,7 @@ fn wanted(path: Option<&str>) -> Report
     }
 }
 
-/// The line that says how many conflicts there are.
+/// The line with the numbers of conflicts.
 fn conflicts_line(alloc: Global, conflicts: &ConflictCounts) -> Result<Vec<u8>, AllocError>
     ensures { IfOk result (λ line. line.items ≡ counts_line conflicts.now.shift_reduce conflicts.now.reduce_reduce) }
 {
@@ -89,7 +89,7 @@ fn conflicts_line(alloc: Global, conflicts: &ConflictCounts) -> Result<Vec<u8>, 
     Ok(line)
 }
 
-/// Writes the table file, and the report if it is asked for.
+/// Writes the table file, and the report if requested.
 fn write_files<'a, F: Files>(
     files: &F,
     alloc: Global,

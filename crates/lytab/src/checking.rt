@@ -18,8 +18,7 @@ use std::alloc::{AllocError, Global};
 use std::fmt::Write;
 use std::rt::Files;
 
-/// Reads a table file, and writes to standard output how many there are of what it is made of, and its
-/// version.
+/// Reads a table file, and writes its sizes and its version to standard output.
 pub fn check_tables<'a, F: Files, W: Sink>(
     files: &F,
     alloc: Global,
@@ -39,7 +38,7 @@ pub fn check_tables<'a, F: Files, W: Sink>(
     Completion::Done.said(output, line.as_bytes())
 }
 
-/// How many there are of what the table file of these bytes is made of, and its version.
+/// The sizes and the version of the table file with these bytes.
 fn counts_of(alloc: Global, bytes: &[u8]) -> Result<(SetCounts, Version), TableFault>
     ensures counted { IfOk result (λ found. HasCounts bytes.now found.1 found.0) }
     ensures refused { IfErr result (IsRefusedAs bytes.now) }
@@ -50,7 +49,7 @@ fn counts_of(alloc: Global, bytes: &[u8]) -> Result<(SetCounts, Version), TableF
     Ok((counted, version))
 }
 
-/// The line that says how many there are, and the version of the file, in a form.
+/// The line with the sizes and the version of the file, in a form.
 fn line_in(
     alloc: Global,
     form: AnswerForm,
@@ -65,7 +64,7 @@ fn line_in(
     }
 }
 
-/// The line that says how many there are, and the version of the file.
+/// The line with the sizes and the version of the file.
 fn line_of(alloc: Global, counts: &SetCounts, version: Version) -> Result<String, AllocError>
     ensures { IfOk result (λ line. string_bytes line ≡ set_line counts.now version) }
 {
@@ -74,7 +73,7 @@ fn line_of(alloc: Global, counts: &SetCounts, version: Version) -> Result<String
     Ok(line)
 }
 
-/// That line up to the number of the version.
+/// The same line up to the number of the version.
 fn text_of(alloc: Global, counts: &SetCounts) -> Result<String, AllocError>
     ensures { IfOk result (λ line. string_bytes line ≡ counts_text counts.now) }
 {
@@ -88,7 +87,7 @@ fn text_of(alloc: Global, counts: &SetCounts) -> Result<String, AllocError>
     Ok(line)
 }
 
-/// How many there are, and the version of the file, as JSON.
+/// The sizes and the version of the file as JSON.
 fn json_of(alloc: Global, counts: &SetCounts, version: Version) -> Result<String, AllocError>
     ensures { IfOk result (λ line. string_bytes line ≡ set_json counts.now version) }
 {
@@ -97,7 +96,7 @@ fn json_of(alloc: Global, counts: &SetCounts, version: Version) -> Result<String
     Ok(line)
 }
 
-/// That JSON up to the number of the version.
+/// The same JSON up to the number of the version.
 fn json_text_of(alloc: Global, counts: &SetCounts) -> Result<String, AllocError>
     ensures { IfOk result (λ line. string_bytes line ≡ counts_json counts.now) }
 {
@@ -121,7 +120,7 @@ fn number_of(version: Version) -> usize
     }
 }
 
-/// Appends a number, and what it counts.
+/// Appends a number and what it counts.
 fn push_count(line: &mut String, count: usize, of: &str) -> Result<(), AllocError>
     ensures { OnOk result (string_bytes line.new ≡ string_bytes line.old ++ (decimal count ++ of.now)) }
 {

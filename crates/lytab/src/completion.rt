@@ -1,4 +1,4 @@
-//! How a command is completed.
+//! The results of commands.
 ghost use Rattle.std.specs.Prelude.{◌≡◌, IfErr, IfOk};
 ghost use Rattle.lytab.specs.Completion.{completion_of_findings, completion_of_lines, completion_of_outcome};
 ghost use Rattle.lytab.specs.Completion.{are_expected, completion_of_tokens, completion_status, count_due};
@@ -13,21 +13,21 @@ use ly_explain::Findings;
 use ly_print::Sink;
 use ly_words::Strictness;
 
-/// How a command is completed where nothing fails.
+/// The result of a command without failures.
 #[derive(Clone, Copy)]
 pub enum Completion {
-    /// What was asked for is done.
+    /// Success.
     Done,
-    /// The text is refused, or one of its lines.
+    /// The text, or one of its lines, has a syntax error.
     TextRefused,
-    /// The files that are explained are accepted, and don't pass as strictly as they are judged.
+    /// The explained files are accepted, but have warnings or conflicts that aren't allowed.
     NotPassed,
-    /// The files that are explained are refused.
+    /// The explained files are rejected.
     FilesRefused,
 }
 
 impl Completion {
-    /// How a command is completed that prints tokens, which end so.
+    /// The result of printing tokens that end like this.
     pub fn of_tokens(end: TokenEnd) -> Completion
         ensures { result ≡ completion_of_tokens end }
     {
@@ -37,7 +37,7 @@ impl Completion {
         }
     }
 
-    /// How a command is completed that answers a text so.
+    /// The result of parsing a text with this outcome.
     pub fn of_outcome(outcome: &Outcome) -> Completion
         ensures { result ≡ completion_of_outcome outcome.now }
     {
@@ -47,7 +47,7 @@ impl Completion {
         }
     }
 
-    /// How a command is completed that answers lines so.
+    /// The result of parsing lines with this outcome.
     pub fn of_lines(outcome: LinesOutcome) -> Completion
         ensures { result ≡ completion_of_lines outcome }
     {
@@ -57,8 +57,7 @@ impl Completion {
         }
     }
 
-    /// How a command is completed that explains files, where this is found in them if they are accepted, and they are
-    /// judged so strictly.
+    /// The result of explaining files. `findings` is what was found in them, if they are accepted.
     pub fn of_findings(findings: &Option<Findings>, strictness: Strictness) -> Completion
         ensures { result ≡ completion_of_findings strictness findings.now }
     {
@@ -69,7 +68,7 @@ impl Completion {
         }
     }
 
-    /// Writes what a command says to standard output, which completes it so.
+    /// Writes the output of a command to standard output, and returns this result.
     pub fn said<'a, W: Sink>(self, output: &mut W, text: &[u8]) -> Result<Completion, Failure<'a>>
         ensures said { IsSaid result (W.contents output.old) (W.contents output.new) text.now }
         ensures completed { IfOk result (λ c. c ≡ self) }
@@ -94,7 +93,7 @@ impl Completion {
     }
 }
 
-/// Whether files in which this is found pass, judged so strictly.
+/// Whether files with these findings pass: they have only the warnings and conflicts that are allowed.
 fn pass(strictness: Strictness, findings: &Findings) -> bool
     ensures { result ≡ pass strictness findings.now }
 {
@@ -104,7 +103,7 @@ fn pass(strictness: Strictness, findings: &Findings) -> bool
     are_expected(count_due(strictness), &findings.conflicts)
 }
 
-/// How many conflicts there are to be: the count that is said, or else none where doubts aren't allowed either.
+/// How many conflicts are expected: the given count, or 0 if warnings aren't allowed either.
 fn count_due(strictness: Strictness) -> Option<usize>
     ensures { result ≡ count_due strictness }
 {
@@ -115,7 +114,8 @@ fn count_due(strictness: Strictness) -> Option<usize>
     }
 }
 
-/// Whether there are so many conflicts between a shift and a reduction, and no others, where a count is expected.
+/// Whether there are exactly as many shift/reduce conflicts as expected and no reduce/reduce conflicts. True if no
+/// count is expected.
 pub fn are_expected(expected: Option<usize>, counts: &ConflictCounts) -> bool
     ensures { result ≡ are_expected expected counts.now }
 {

@@ -20,11 +20,9 @@ use ly_words::{ExplainPaths, Strictness};
 use std::alloc::Global;
 use std::rt::Files;
 
-/// Writes to standard output what there is to say of a lex file and a yacc file, or of a yacc file alone, and, where
-/// they are accepted, the states of their parser and a picture of them if they are asked for. All files are read before
-/// anything is judged.
-/// How strictly they are judged changes nothing that is written. As JSON the text begins with whether they are
-/// accepted, and with how many conflicts there are.
+/// Writes the report of a lex file and a yacc file, or of a yacc file alone, to standard output. If they are accepted,
+/// it also writes the states of their parser and a graph of them, if requested. All files are read before anything is
+/// judged. `strictness` doesn't change what is written. JSON begins with the verdict and the numbers of conflicts.
 pub fn explain_files<'a, F: Files, W: Sink>(
     files: &F,
     alloc: Global,
@@ -53,7 +51,7 @@ pub fn explain_files<'a, F: Files, W: Sink>(
     Completion::of_findings(&explanation.findings, strictness).said(output, &explanation.text)
 }
 
-/// Whether an answer is written as JSON.
+/// Whether the form is JSON.
 fn is_json(form: AnswerForm) -> bool
     ensures { result ≡ is_json form }
 {
@@ -63,8 +61,7 @@ fn is_json(form: AnswerForm) -> bool
     }
 }
 
-/// What there is to say of these files, by their names as people see them; of the yacc file alone, where no lex file is
-/// named.
+/// The report of these files, under the names that the user gave. Without a lex file it is that of the yacc file alone.
 fn explained(
     alloc: Global,
     paths: ExplainPaths<'_>,
@@ -86,7 +83,7 @@ fn explained(
     }
 }
 
-/// Reads a file whole, if one is named. What is read where none is, is empty.
+/// Reads a file whole, if one is named; otherwise returns no bytes.
 fn read_if_named<'a, F: Files>(
     files: &F,
     alloc: Global,
@@ -101,7 +98,7 @@ fn read_if_named<'a, F: Files>(
     }
 }
 
-/// Writes the states of the parser and a picture of them, if they are there and asked for.
+/// Writes the states of the parser and a graph of them, if they exist and are requested.
 fn write_files<'a, F: Files>(
     files: &F,
     alloc: Global,
@@ -119,7 +116,7 @@ fn write_files<'a, F: Files>(
     Ok(())
 }
 
-/// Reads a file whole. A failure has the system's reason, where a second look at the file finds one.
+/// Reads a file whole. A failure has the operating system's reason, if opening the file again yields one.
 fn read_or_say_why<'a, F: Files>(
     files: &F,
     alloc: Global,

@@ -1,4 +1,4 @@
-//! Why there is no answer, and the line that says so.
+//! Failures of commands, and their lines on standard error.
 ghost use Rattle.std.specs.Prelude.{◌≡◌, ◌⊎◌, ◌≤◌};
 ghost use Rattle.ly_generate.specs.GenFault.{gen_line};
 ghost use Rattle.lytab.specs.Failure.{failure_of_file, failure_status, IsOfAnswering, IsOfDriving};
@@ -23,27 +23,27 @@ const REFUSED: u8 = 2;
 
 const DEVICE_OR_MEMORY: u8 = 3;
 
-/// Why the program gives no answer.
+/// Why a command failed.
 #[derive(Drop)]
 pub enum Failure<'a> {
-    /// The file of this path, or standard input, can't be read.
+    /// The file with this path, or standard input, can't be read.
     CannotRead(&'a str),
-    /// The file of this path can't be read, for this reason.
+    /// The file with this path can't be read, for this reason.
     Unreadable(&'a str, io::Error),
-    /// The file of this path, or standard output, can't be written.
+    /// The file with this path, or standard output, can't be written.
     CannotWrite(&'a str),
-    /// The lex file, the yacc file, or both together are refused; with the line at fault, where one of them is.
+    /// The lex file, the yacc file, or both together are rejected; with the line of the error, if it is in one of them.
     Refused(GenFault, Option<u64>),
-    /// The lex file and the yacc file have so many conflicts, and there are to be so many between a shift and a
-    /// reduction, and no others.
+    /// The lex file and the yacc file have these conflicts, but exactly this many shift/reduce conflicts and no
+    /// reduce/reduce conflicts are expected.
     Unexpected(ConflictCounts, usize),
-    /// The table file is refused.
+    /// The table file is rejected.
     Tables(TableFault),
-    /// The tables are at fault on the text.
+    /// The tables fail on the text.
     FaultyTables,
     /// The text has more than 2^64-1 bytes.
     TooLong,
-    /// A growth was refused.
+    /// Out of memory.
     OutOfMemory,
 }
 
@@ -60,7 +60,7 @@ impl<'a> From<FileFault<'a>> for Failure<'a> {
 }
 
 impl Failure<'_> {
-    /// Why files of these bytes give no answer that are refused for this fault.
+    /// The failure for files with these bytes that are rejected with this error.
     pub fn of_files(fault: GenFault, lex: &[u8], yacc: &[u8]) -> Self
         ensures { result ≡ failure.Refused fault (gen_line fault lex.now yacc.now) }
     {
@@ -70,7 +70,7 @@ impl Failure<'_> {
 }
 
 impl<'a> Failure<'a> {
-    /// Why a text of this name has no answer for this fault.
+    /// The failure for a text with this name and this error.
     pub fn of_answering(fault: TextFault, path: &'a str) -> Self
         ensures { IsOfAnswering fault result }
     {
@@ -83,7 +83,7 @@ impl<'a> Failure<'a> {
         }
     }
 
-    /// Why a text of this name has no answer by a table file for this fault.
+    /// The failure for a text with this name and this error, parsed with a table file.
     pub fn of_driving(fault: DriveFault, path: &'a str) -> Self
         ensures { IsOfDriving fault result }
     {
@@ -118,7 +118,8 @@ impl From<AllocError> for Failure<'_> {
     }
 }
 
-/// Writes the line of a failure, and answers the exit status: that of want of memory where there is none for the line.
+/// Writes the line of a failure, and returns the exit status. If there is no memory for the line, the failure is out of
+/// memory.
 pub fn told<E: Write>(alloc: Global, failure: Failure<'_>, faults: &mut E) -> u8
     ensures range { (1 ≤ result) × (result ≤ 3) }
     ensures status { (result ≡ failure_status failure.entry) ⊎ (result ≡ 3) }
@@ -132,8 +133,8 @@ pub fn told<E: Write>(alloc: Global, failure: Failure<'_>, faults: &mut E) -> u8
     status_of(&failure)
 }
 
-/// The exit status of a failure: 1 where the text is too long, or there are other conflicts than there are to be, 2
-/// where a file is refused, 3 where a device fails or memory runs out.
+/// The exit status of a failure: 1 if the text is too long or there are other conflicts than expected, 2 if a file is
+/// rejected, 3 for a read or write error or if memory runs out.
 fn status_of(failure: &Failure<'_>) -> u8
     ensures range { (1 ≤ result) × (result ≤ 3) }
     ensures status { result ≡ failure_status failure.entry.now }
@@ -151,7 +152,7 @@ fn status_of(failure: &Failure<'_>) -> u8
     }
 }
 
-/// Appends the line of a failure. It fails where memory runs out.
+/// Appends the line of a failure. Returns an error if memory runs out.
 fn push_line(out: &mut Vec<u8>, failure: &Failure<'_>) -> io::Result<()> {
     out.write_all(b"lytab: ")?;
     match failure {
@@ -169,7 +170,7 @@ fn push_line(out: &mut Vec<u8>, failure: &Failure<'_>) -> io::Result<()> {
     }
 }
 
-/// Appends why a lex file and a yacc file are refused, and the line at fault of one of them.
+/// Appends why a lex file and a yacc file are rejected, and the line of the error in one of them.
 fn push_refusal(out: &mut Vec<u8>, fault: &GenFault, line: Option<u64>) -> io::Result<()> {
     match fault {
         GenFault::Lex(_) => push_place(out, "lex", line)?,
@@ -193,7 +194,7 @@ fn push_refusal(out: &mut Vec<u8>, fault: &GenFault, line: Option<u64>) -> io::R
     out.write_all(b"\n")
 }
 
-/// Appends how many conflicts there are, and how many there are to be.
+/// Appends how many conflicts there are, and how many are expected.
 fn push_unexpected(out: &mut Vec<u8>, counts: &ConflictCounts, expected: usize) -> io::Result<()> {
     let (shifts, reductions) = (counts.shift_reduce, counts.reduce_reduce);
     writeln!(
@@ -202,7 +203,7 @@ fn push_unexpected(out: &mut Vec<u8>, counts: &ConflictCounts, expected: usize) 
     )
 }
 
-/// Appends the place of a fault: the file, and its line if there is one.
+/// Appends the location of an error: the file, and its line if there is one.
 fn push_place(out: &mut Vec<u8>, file: &str, line: Option<u64>) -> io::Result<()> {
     match line {
         Some(line) => write!(out, "{file}:{line}: "),
@@ -210,7 +211,7 @@ fn push_place(out: &mut Vec<u8>, file: &str, line: Option<u64>) -> io::Result<()
     }
 }
 
-/// Appends a fault by its number and its name. Want of memory has no number.
+/// Appends the number and the name of an error. Out of memory has no number.
 fn push_fault(out: &mut Vec<u8>, number: Option<u8>, name: &str) -> io::Result<()> {
     match number {
         Some(number) => write!(out, "fault {number} {name}"),
@@ -218,7 +219,7 @@ fn push_fault(out: &mut Vec<u8>, number: Option<u8>, name: &str) -> io::Result<(
     }
 }
 
-/// Appends what is at fault where both files make no specification.
+/// Appends what an error of both files is about.
 fn push_at_fault(out: &mut Vec<u8>, fault: &JoinFault) -> io::Result<()> {
     match fault {
         JoinFault::UndefinedSymbol(name)
@@ -239,7 +240,7 @@ fn push_at_fault(out: &mut Vec<u8>, fault: &JoinFault) -> io::Result<()> {
     }
 }
 
-/// Appends why a table file is refused.
+/// Appends why a table file is rejected.
 fn push_table_fault(out: &mut Vec<u8>, fault: &TableFault) -> io::Result<()> {
     if fault.number().is_some() {
         out.write_all(b"tables: ")?;

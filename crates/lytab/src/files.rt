@@ -1,4 +1,4 @@
-//! Files, read and written whole.
+//! Files that are read and written whole.
 ghost use Rattle.std.specs.Prelude.{◌≡◌, ◌⊎◌, ◌<◌, ℕ, IfErr, length, OnErr, OnOk, take};
 ghost use Rattle.std.specs.Io.KnownBytes.{Appends};
 ghost use Rattle.ly_print.specs.Device.{next_count};
@@ -12,17 +12,17 @@ use std::alloc::{AllocError, Global};
 use std::fs;
 use std::rt::Files;
 
-/// How standard input and output are named.
+/// The name of standard input and output.
 pub const STANDARD: &str = "-";
 
-/// Why a file, or a device of that name, isn't read or written.
+/// Why a file, or standard input or output, wasn't read or written.
 #[derive(Clone, Copy)]
 pub enum FileFault<'a> {
-    /// The file of this path can't be read.
+    /// The file with this path can't be read.
     CannotRead(&'a str),
-    /// The file of this path can't be written.
+    /// The file with this path can't be written.
     CannotWrite(&'a str),
-    /// A growth was refused.
+    /// Out of memory.
     OutOfMemory,
 }
 
@@ -34,7 +34,7 @@ impl From<AllocError> for FileFault<'_> {
     }
 }
 
-/// Opens a file to read it.
+/// Opens a file for reading.
 pub fn open<'a, F: Files>(
     files: &F,
     path: &'a str,
@@ -71,10 +71,10 @@ pub fn read_file<'a, F: Files>(
     }
 }
 
-/// Makes a file of these bytes, in place of an older one.
+/// Writes these bytes to a file, in place of an older one.
 ///
-/// A new file beside it takes its name once it is whole: where something fails, the older file stands as it was, and
-/// there is none where there was none. What can't be replaced so (`Replacement::begin`) is written to as it stands.
+/// A new file beside it is renamed once it is complete. On a failure the older file is unchanged, and if there was
+/// none, none is created. What can't be replaced like this (`Replacement::begin`) is overwritten in place.
 pub fn write_file<'a, F: Files>(
     files: &F,
     alloc: Global,
@@ -92,7 +92,7 @@ pub fn write_file<'a, F: Files>(
     }
 }
 
-/// Writes bytes to a file under its own name, in place of what it held.
+/// Writes bytes to a file under its own name, and replaces its content.
 fn write_in_place<'a, F: Files>(
     files: &F,
     path: &'a str,
@@ -115,7 +115,7 @@ fn write_in_place<'a, F: Files>(
     }
 }
 
-/// Makes a file of bytes that there may be, where a path is named for it.
+/// Writes a file if a path is named for it and there are bytes for it.
 pub fn write_if_named<'a, F: Files>(
     files: &F,
     alloc: Global,
@@ -134,7 +134,7 @@ pub fn write_if_named<'a, F: Files>(
     }
 }
 
-/// Writes the bytes to a device of this name.
+/// Writes the bytes to a writer with this name.
 pub fn write_to<'a, W: Sink>(
     writer: &mut W,
     path: &'a str,

@@ -1,8 +1,11 @@
-//! The program: reads its words, and does what they ask for.
+//! The program: reads its arguments and carries out the command.
 //!
-//! `ly_words` finds the command in the words; `perform` carries it out: `answering` has the commands with a text,
-//! `building`, `checking` and `explaining` the others. `completion` says how they are completed, `failure` why there is
-//! no answer.
+//! `ly_cli` parses the arguments into a command, and `perform` carries it out. `answering` has the commands that parse
+//! a text, `building`, `checking` and `explaining` have the others. `completion` and `failure` have their results,
+//! their exit statuses and the lines on standard error.
+//!
+//! Files are read whole and in the order of the arguments before anything is judged. But for `run --lines`, nothing is
+//! written before the result is known. A regular file is replaced only once its new content is complete (`files`).
 #![tactic(auto)]
 
 ghost use Rattle.std.specs.Prelude.{◌≡◌, ◌⊎◌};
@@ -26,7 +29,7 @@ use std::env;
 use std::io::{self, ErrorKind, Write};
 use std::process::ExitCode;
 
-/// What is said of words that aren't all UTF-8.
+/// The error for arguments that aren't UTF-8.
 const NO_UTF_8: &str =
     "error: invalid UTF-8 was detected in one or more arguments\n\nFor more information, try '--help'.\n";
 
@@ -47,8 +50,8 @@ fn main(rt: HostRuntime) -> ExitCode {
     ExitCode::from(status)
 }
 
-/// Says why there are no words, and answers the exit status: one of them isn't UTF-8, as `clap` says it, or memory ran
-/// out.
+/// Reports why there are no arguments, and returns the exit status: an argument isn't UTF-8, which is a usage error in
+/// `clap`'s words, or memory ran out.
 fn without_words<E: Write>(why: &io::Error, faults: &mut E) -> u8
     ensures { (result ≡ 3) ⊎ (result ≡ 4) }
 {
@@ -60,7 +63,7 @@ fn without_words<E: Write>(why: &io::Error, faults: &mut E) -> u8
     status
 }
 
-/// Whether words may ask to point into a text, which has to be remembered for that from its first byte on.
+/// Whether the arguments may ask for locations in the text. Then the text is kept from its first byte on.
 fn may_point(words: &[String]) -> bool {
     for word in words {
         if word.as_str() == "--where" {

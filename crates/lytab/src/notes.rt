@@ -1,4 +1,4 @@
-//! What `--where` adds to standard error: where something is wrong, and why.
+//! What `--where` adds to standard error: the location of an error and its reason.
 ghost use Rattle.lytab.specs.Notes.{SaysPlaceOf};
 
 use crate::completion::Completion;
@@ -16,22 +16,22 @@ use std::fs;
 use std::io::{self, Read, Write};
 use std::rt::Files;
 
-/// How many bytes of a token are shown.
+/// How many bytes of a token are printed.
 const LONGEST: usize = 60;
 
-/// What is said on standard error behind the line of a failure, or where a text is refused, if it is asked for.
+/// The text for standard error that `--where` requests: it follows the line of a failure, or a syntax error.
 #[derive(Drop)]
 pub struct Notes {
-    /// What is said.
+    /// The text so far.
     page: Page,
-    /// Whether it is asked for.
+    /// Whether it is requested.
     are_wanted: bool,
-    /// Where what is made for it stands.
+    /// The allocator for what is made for it.
     alloc: Global,
 }
 
 impl Notes {
-    /// Nothing so far, of what a command asks for.
+    /// No text yet, for a command.
     pub fn new(alloc: Global, command: &Command<'_>) -> Notes {
         let are_wanted = match command {
             Command::Build { points, .. }
@@ -52,19 +52,19 @@ impl Notes {
         }
     }
 
-    /// Whether anything is asked for.
+    /// Whether the text is requested.
     pub fn are_wanted(&self) -> bool {
         self.are_wanted
     }
 
-    /// Writes what is said; nothing where no memory was left for it.
+    /// Writes the text. Writes nothing if there was no memory for it.
     pub fn write<E: Write>(self, faults: &mut E) {
         if let Ok(text) = self.page.finish() {
             let _ = faults.write_all(&text);
         }
     }
 
-    /// Where a text is refused that a reader of this path gave, as it is answered.
+    /// The location of a syntax error in a text from a reader with this path, given by the outcome.
     pub fn point_at_outcome<R: Recall>(&mut self, path: &str, reader: &R, outcome: &Outcome) {
         let (Some(bytes), Ok(name)) = (reader.recalled(), ShownPath(path).text(self.alloc)) else {
             return;
@@ -77,7 +77,7 @@ impl Notes {
         }
     }
 
-    /// Where no rule matches a text that a reader of this path gave, as its tokens end.
+    /// The location at which no rule matches, in a text from a reader with this path, given by how its tokens end.
     pub fn point_at_end<R: Recall>(&mut self, path: &str, reader: &R, end: TokenEnd) {
         if let (Some(bytes), TokenEnd::Stuck { byte }) = (reader.recalled(), end) {
             if let Ok(name) = ShownPath(path).text(self.alloc) {
@@ -86,7 +86,7 @@ impl Notes {
         }
     }
 
-    /// A token that can't stand at a byte of a text, or its end, which has no bytes.
+    /// An unexpected token at a byte of a text, or its unexpected end, which has no bytes.
     fn point_at_token(&mut self, text: Named<'_>, byte: u64, length: usize)
         ensures { SaysPlaceOf text.entry.name.now text.entry.bytes.now byte self.old.page self.new.page }
     {
@@ -119,7 +119,7 @@ impl Notes {
         self.page.say_page(rest);
     }
 
-    /// That no rule matches at an offset of a text, and the line of its location.
+    /// That no rule matches at an offset of a text, and the line at its location.
     fn unmatched(&self, text: Named<'_>, start: usize, at: Location) -> Page {
         let mut page = self.page.beside();
         page.say(b"no rule matches ");
@@ -129,8 +129,8 @@ impl Notes {
         page
     }
 
-    /// All faults of a lex file and a yacc file by which a command ended that are refused within limits, as `explain`
-    /// says them.
+    /// All errors of a lex file and a yacc file, if a command failed because they are rejected within limits, as
+    /// `explain` reports them.
     pub fn explain(
         &mut self,
         alloc: Global,
@@ -140,12 +140,12 @@ impl Notes {
         ended: &Result<Completion, Failure<'_>>,
     ) {
         if let (true, Err(Failure::Refused(fault, _))) = (self.are_wanted, ended) {
-            // what there is no memory for isn't said
+            // what there is no memory for isn't reported
             let _ = self.say_faults_of(alloc, lex, yacc, limits, fault);
         }
     }
 
-    /// All faults of both files, by their names as people see them. It fails where memory runs out.
+    /// All errors of both files, under the names that the user gave. Returns an error if memory runs out.
     fn say_faults_of(
         &mut self,
         alloc: Global,
@@ -161,7 +161,7 @@ impl Notes {
         say_faults(alloc, &mut self.page, lex, yacc, limits, fault)
     }
 
-    /// All faults of a lex file by which a command ended that is refused, as `explain` says them.
+    /// All errors of a lex file, if a command failed because it is rejected, as `explain` reports them.
     pub fn explain_lex(
         &mut self,
         alloc: Global,
@@ -176,7 +176,7 @@ impl Notes {
         }
     }
 
-    /// Why a table file by which a command ended is refused, or at fault on a text.
+    /// Why a table file is rejected or fails on a text, if a command failed because of it.
     pub fn explain_tables(&mut self, path: &str, ended: &Result<Completion, Failure<'_>>) {
         match ended {
             Err(Failure::Tables(fault)) => self.say_fault(
@@ -193,7 +193,7 @@ impl Notes {
         }
     }
 
-    /// A fault of a file: its number, its name and what it is.
+    /// An error of a file: its number, its name and its message.
     fn say_fault<T: Display>(&mut self, path: &str, number: Option<u8>, name: &str, fault: &T) {
         let (true, Some(number)) = (self.are_wanted, number) else {
             return;
@@ -216,7 +216,7 @@ impl Notes {
         }
     }
 
-    /// Why a text can't be read, where that ended a command.
+    /// Why a text can't be read, if a command failed because of that.
     pub fn look_at_text<F: Files>(
         &mut self,
         files: &F,
@@ -228,7 +228,7 @@ impl Notes {
         }
     }
 
-    /// Why a file can't be read, where a second look at it finds a reason.
+    /// Why a file can't be read, if opening it again yields a reason.
     pub fn look_again<F: Files>(&mut self, files: &F, path: &str) {
         if self.are_wanted {
             if let Some(reason) = reason(files, path) {
@@ -237,7 +237,7 @@ impl Notes {
         }
     }
 
-    /// The name of a file, as editors read it.
+    /// The name of a file and a colon, as editors read it.
     fn say_file(&mut self, path: &str) {
         self.page.say_words(&ShownPath(path));
         self.page.say(b": ");

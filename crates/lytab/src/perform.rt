@@ -25,15 +25,14 @@ use std::rt::Files;
 
 const BAD_WORDS: u8 = 4;
 
-/// Does what the words ask for, and answers the exit status: 0 for clean tokens, a tree, a build, files that are
-/// explained and accepted, or a help text, 1 where the text is refused, or files are accepted and aren't as they are to
-/// be, 2 where a lex file, a yacc file or a table file is refused, 3 where a device fails or memory runs out, 4 where
-/// the words are wrong. The answer goes to `output`, and a line that says what failed to `faults`. What is said of
-/// files that are explained is the answer, also where they are refused.
+/// Carries out what the arguments ask for, and returns the exit status. The status is 0 for a text without syntax
+/// error, a build, files that are explained and accepted, or a help text. It is 1 for a syntax error, or for accepted
+/// files with warnings or conflicts that aren't allowed. It is 2 if a lex file, a yacc file or a table file is
+/// rejected, 3 for a read or write error or if memory runs out, and 4 for a usage error. The output goes to `output`,
+/// and the line of a failure to `faults`. The report of explained files is output too, even if they are rejected.
 ///
-/// What files hold is known to no contract, so what the answer says of them is said for some bytes. Tests alone show
-/// that these are the bytes of the files that the words name, what is written to files and to `faults`, and which
-/// failure comes where there is one.
+/// No contract knows what files contain, so what it states about the output holds for some bytes. Only tests show that
+/// these are the bytes of the named files, what is written to files and to `faults`, and which failure occurs.
 pub fn perform<F: Files, R: Source + Recall, W: Sink, E: Write>(
     files: &F,
     alloc: Global,
@@ -76,7 +75,7 @@ pub fn perform<F: Files, R: Source + Recall, W: Sink, E: Write>(
     }
 }
 
-/// The exit status of a command that ended so. Where it failed, the line that says why is written.
+/// The exit status of a command with this result. If it failed, the line of the failure is written.
 fn concluded<E: Write>(alloc: Global, ended: Result<Completion, Failure<'_>>, faults: &mut E) -> u8
     ensures range { result ≤ 3 }
     ensures status { IsStatusOf result ended.entry }
@@ -87,8 +86,8 @@ fn concluded<E: Write>(alloc: Global, ended: Result<Completion, Failure<'_>>, fa
     }
 }
 
-/// Does what a command says. The files that it reads are opened in the order of the words, all but the text read
-/// whole, before anything is judged.
+/// Carries out a command. The files that it reads are opened in the order of the arguments. All but the text are read
+/// whole before anything is judged.
 fn carry_out<'a, F: Files, R: Source + Recall, W: Sink>(
     files: &F,
     alloc: Global,

@@ -1,26 +1,26 @@
-//! Readers that can show what they gave.
+//! Readers that keep what they returned.
 ghost use Rattle.std.specs.Prelude.{◌≡◌};
 
 use ly_print::{DeviceFailed, Source};
 use std::alloc::Global;
 use std::marker::Model;
 
-/// A reader that can show what it gave.
+/// A reader that keeps what it returned.
 pub trait Recall {
-    /// What was read; nothing where it isn't remembered, or where no memory was left for it.
+    /// What was read; `None` if it isn't kept, or if there was no memory for it.
     fn recalled(&self) -> Option<&[u8]>;
 }
 
-/// A reader that can show what it gave.
+/// A reader that keeps what it returned.
 #[derive(Drop)]
 pub struct Remembering<R> {
     /// The reader.
     reader: R,
-    /// What it gave, where that is remembered.
+    /// What it returned, if that is kept.
     text: Option<Vec<u8>>,
 }
 
-// The reader: what is remembered of it changes nothing.
+// The value is that of the inner reader, whatever is kept.
 impl<R> Model for Remembering<R> {
     ghost Value = { R };
 
@@ -30,7 +30,7 @@ impl<R> Model for Remembering<R> {
 }
 
 impl<R> Remembering<R> {
-    /// A reader that remembers what it gives, where that is wanted.
+    /// A reader that keeps what it returns, if that is requested.
     pub fn new(alloc: Global, reader: R, is_wanted: bool) -> Self
         ensures { result ≡ reader }
     {
@@ -42,7 +42,7 @@ impl<R> Remembering<R> {
         Remembering { reader, text }
     }
 
-    /// Adds what was read to what is remembered, which ends where memory does.
+    /// Keeps what was read. Once memory runs out, nothing is kept.
     fn add(&mut self, bytes: &[u8])
         ensures { self.new ≡ self.old }
     {

@@ -1,4 +1,4 @@
-//! Files that take the place of older ones once they are whole.
+//! New files that replace older ones once they are complete.
 ghost use Rattle.std.specs.Prelude.{◌≡◌, IfErr, OnOk};
 ghost use Rattle.lytab.specs.Files.{HasTaken};
 
@@ -16,20 +16,20 @@ use std::rt::Files;
 /// How many paths are tried for a new file.
 const TRIES: u32 = 100;
 
-/// A new file beside the one whose place it is to take.
+/// A new file beside the one that it will replace.
 #[derive(Drop)]
 pub struct Replacement<T> {
     /// The new file.
     file: T,
-    /// Its path, as long as it has taken no other one's place.
+    /// Its path, until it has replaced the other file.
     path: String,
-    /// The path of the one whose place it is to take, which is no link.
+    /// The path of the file to replace, with links resolved.
     place: PathBuf,
 }
 
 impl<T: Write + OpenFile + Drop> Replacement<T> {
-    /// A new file for the place of the one of this path, or none where nothing can take its place, or no file can be
-    /// made beside it. It fails where memory runs out.
+    /// Creates a new file to replace the one with this path. Returns `None` if that one can't be replaced or no file
+    /// can be created beside it. Returns an error if memory runs out.
     pub fn begin<F: Files<File = T>>(
         files: &F,
         alloc: Global,
@@ -51,8 +51,8 @@ impl<T: Write + OpenFile + Drop> Replacement<T> {
         Ok(Some(Replacement { file, path, place }))
     }
 
-    /// Writes the bytes to the new file, which takes the place of the older one when they are on its device. Where
-    /// that fails the older one stands as it was, and the new one is removed.
+    /// Writes the bytes to the new file, and renames it over the older one once they are on the device. On a failure
+    /// the older file is unchanged and the new one is removed.
     pub fn complete<'a, F: Files<File = T>>(
         self,
         files: &F,
@@ -82,13 +82,13 @@ impl<T: Write + OpenFile + Drop> Replacement<T> {
     }
 }
 
-/// Has a new file of this path take a place once its bytes are on their device.
+/// Renames the new file with this path over another one, once its bytes are on the device.
 fn take_place<F: Files>(files: &F, new: &F::File, path: &str, place: &PathBuf) -> io::Result<()> {
     new.sync_all()?;
     fs::rename(files, path, place)
 }
 
-/// The path that links lead to from this one, or this one where there is no file.
+/// The path with links resolved, or this path if there is no file.
 fn behind_links<F: Files>(files: &F, alloc: Global, path: &str) -> Result<PathBuf, AllocError> {
     match files.canonicalize(alloc, path) {
         Ok(place) => Ok(place),
@@ -96,12 +96,12 @@ fn behind_links<F: Files>(files: &F, alloc: Global, path: &str) -> Result<PathBu
     }
 }
 
-/// Whether a file may be replaced: a regular one without another name, into which one may write.
+/// Whether a file may be replaced: a regular file with one name that may be written to.
 fn may_be_replaced<F: Files>(files: &F, place: &PathBuf, older: &Metadata) -> bool {
     older.is_file() && older.nlink() == 1 && File::options().write(true).open(files, place).is_ok()
 }
 
-/// Gives a new file the permissions of the older one, if there is one. It fails where they have other owners.
+/// Gives a new file the permissions of the older one, if there is one. Returns an error if they have different owners.
 fn take_after<T: OpenFile>(new: &T, older: Option<Metadata>) -> io::Result<()> {
     let Some(older) = older else {
         return Ok(());
@@ -113,7 +113,7 @@ fn take_after<T: OpenFile>(new: &T, older: Option<Metadata>) -> io::Result<()> {
     new.set_permissions(older.permissions())
 }
 
-/// A new file beside a path, with its own, or none where none can be made there.
+/// A new file beside a path, with its own path. `None` if none can be created there.
 fn new_beside<F: Files>(
     files: &F,
     alloc: Global,

@@ -1,14 +1,14 @@
-//! Paths as people see them.
+//! Paths as they are printed.
 use std::alloc::{AllocError, Global};
 use std::fmt::{self, Display, Formatter};
 
-/// A path whose control characters are escaped byte by byte, as those of texts are: a file's name can't move a
-/// terminal's cursor, or begin a line.
+/// A path in which control characters are escaped byte by byte, like those of texts. So the name of a file can't move
+/// the cursor of a terminal or begin a line.
 #[derive(Clone, Copy)]
 pub struct ShownPath<'a>(pub &'a str);
 
 impl ShownPath<'_> {
-    /// The path as text. It fails where memory runs out.
+    /// The path as text. Returns an error if memory runs out.
     pub fn text(&self, alloc: Global) -> Result<String, AllocError> {
         Ok(format!(in alloc; "{self}")?)
     }
@@ -28,7 +28,7 @@ impl Display for ShownPath<'_> {
     }
 }
 
-/// Writes the bytes of a character by their numbers.
+/// Writes the bytes of a character as their numbers.
 fn escape<W: fmt::Write>(f: &mut Formatter<W>, shown: char) -> fmt::Result {
     let mut room = [0; 4];
     for byte in shown.encode_utf8(&mut room).bytes() {

@@ -1,4 +1,4 @@
--- What a call that answers a text says, by its status.
+-- The results of `lytab_answer` and `lytab_json`, by status.
 use Rattle.std.specs.Prelude.{◌≡◌, ◌≢◌, ◌<◌, ℕ, List, length}
 use Rattle.ly_drive.specs.Answering.{IsDriven}
 use Rattle.ly_drive.specs.declared.fault.DriveFault.{DriveFault}
@@ -14,13 +14,13 @@ use Rattle.lytab_c.specs.declared.report.Report.{Report}
 use Rattle.lytab_c.specs.declared.status.Status.{Status}
 use Rattle.lytab_c.specs.declared.status.Status.TheVariants.{Done, Fault, Memory, Misused, Refused, Short}
 
--- A set that the bytes of the table file spell answers the text with this outcome and, in a form, these bytes.
+-- A set with these table file bytes gives for the text this outcome and, in a form, this output.
 abbrev pub IsAnswer : AnswerForm → List ℕ → List ℕ → Outcome → List ℕ → Type 0
 IsAnswer form tables text outcome answer = (s : TableSet) × IsDriven tables s × TableAnswer form s text outcome answer
 
--- The text has a tree, whose answer is put into the block; it is refused, and so is its answer; the table file is
--- refused, or the tables are at fault on the text; memory ran out; or there is an answer for which the block is too
--- short. Where no answer is put into the block, it is as it was.
+-- The text has a tree, and the output is in the block. Or the text has a syntax error, and the output is in the block.
+-- Or the table file is rejected, or the tables fail on the text. Or memory ran out. Or the block is too short for the
+-- output. Without an output in the block, the block is unchanged.
 abbrev pub IsAnswered : AnswerForm → List ℕ → List ℕ → List ℕ → List ℕ → Report → Status → Type 0
 IsAnswered form tables text old new report Done = (answer : List ℕ) × IsAnswer form tables text Tree answer
     × IsPut answer old new × (report ≡ needing (length answer))

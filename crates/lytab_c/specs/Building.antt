@@ -1,4 +1,4 @@
--- What a call that builds a table file says, by its status.
+-- The results of `lytab_build`, by status.
 use Rattle.std.specs.Prelude.{◌≡◌, ◌<◌, ℕ, List, Some, length, take}
 use Rattle.ly_base.specs.Limits.{version_2}
 use Rattle.ly_base.specs.Location.{column_behind, line_behind}
@@ -19,7 +19,7 @@ use Rattle.lytab_c.specs.declared.build_report.BuildReport.{BuildReport}
 use Rattle.lytab_c.specs.declared.status.Status.{Status}
 use Rattle.lytab_c.specs.declared.status.Status.TheVariants.{Done, Fault, Memory, Misused, Refused, Short}
 
--- there is nothing to tell
+-- a report with all fields 0
 abbrev pub nothing_built : BuildReport
 nothing_built = record {
   fault = 0;
@@ -31,7 +31,7 @@ nothing_built = record {
   reduce_reduce = 0;
 }
 
--- a table file of so many bytes, and so many conflicts
+-- the report for a table file of this length with these conflicts
 abbrev pub built_of : ℕ → ConflictCounts → BuildReport
 built_of needed conflicts = record nothing_built {
   needed = needed;
@@ -39,7 +39,7 @@ built_of needed conflicts = record nothing_built {
   reduce_reduce = conflicts.reduce_reduce;
 }
 
--- a fault of this number, at this byte of one file
+-- an error with this number, at this byte of one file
 abbrev pub fault_at : ℕ → ℕ → List ℕ → ℕ → BuildReport
 fault_at number file bytes offset = record nothing_built {
   fault = number;
@@ -48,19 +48,21 @@ fault_at number file bytes offset = record nothing_built {
   column = column_behind (take offset bytes);
 }
 
--- what is told of a fault of this number of a lex file and a yacc file: of one of them with where it stands there
+-- the report for an error with this number of a lex file and a yacc file; if the error is in one of them, it has the
+-- location
 abbrev pub fault_built : GenFault → ℕ → List ℕ → List ℕ → BuildReport
 fault_built (Lex (lex_fault.Refused kind offset)) number lex yacc = fault_at number 1 lex offset
 fault_built (Yacc (yacc_fault.Refused kind offset)) number lex yacc = fault_at number 2 yacc offset
 fault_built fault number lex yacc = record nothing_built { fault = number }
 
--- The files are accepted, these bytes are the table file of a set that they generate, and so many conflicts there are.
+-- The files are accepted, these bytes are the table file of a set that is generated from them, and these are the
+-- numbers of conflicts.
 abbrev pub IsBuildOf : List ℕ → List ℕ → List ℕ → ConflictCounts → Type 0
 IsBuildOf lex yacc bytes conflicts = (s : TableSet) × (g : IsGenerated V2 version_2 lex yacc s)
     × TableText bytes V2 s × AreCounts g.spec conflicts
 
--- The table file is put into the block; the files are refused; memory ran out; or the block is too short for the table
--- file. Where none is put into the block, it is as it was.
+-- The table file is in the block. Or the files are rejected. Or memory ran out. Or the block is too short for the table
+-- file. Without a table file in the block, the block is unchanged.
 abbrev pub IsBuilt : List ℕ → List ℕ → List ℕ → List ℕ → BuildReport → Status → Type 0
 IsBuilt lex yacc old new built Done = (bytes : List ℕ) × (conflicts : ConflictCounts)
     × IsBuildOf lex yacc bytes conflicts × IsPut bytes old new × (built ≡ built_of (length bytes) conflicts)

@@ -1,4 +1,4 @@
--- What a call that parses many texts says, by its status.
+-- The results of `lytab_parse_all`, by status.
 use Rattle.std.specs.Prelude.{◌≡◌, ◌≢◌, ◌<◌, ◌≤◌, ◌⊎◌, ℕ, suc, ◌+◌, ◌-◌, List, [], ◌∷◌, drop, length, take}
 use Rattle.std.specs.List.{flat_map}
 use Rattle.ly_drive.specs.Answering.{IsDriven}
@@ -17,36 +17,36 @@ use Rattle.lytab_c.specs.declared.status.Status.{Status}
 use Rattle.lytab_c.specs.declared.status.Status.TheVariants.{Done, Fault, Memory, Misused, Refused, Short}
 use Rattle.lytab_c.specs.declared.text_report.TextReport.{TextReport}
 
--- each of these stands at the one in front of it or behind it, from a byte on, and none behind so many bytes
+-- the ends are in ascending order, equal ones allowed, from a first byte on, and none is past this many bytes
 abbrev pub AreEnds : ℕ → ℕ → List ℕ → Type 0
 AreEnds start count [] = Unit {0}
 AreEnds start count (end ∷ ends) = ((start ≤ end) × (end ≤ count)) × AreEnds end count ends
 
--- the first that doesn't has this number, counted from 1
+-- the first end that is out of order or out of range has this number; the first end has number 1
 abbrev pub IsWrongEnd : ℕ → ℕ → List ℕ → ℕ → Type 0
 IsWrongEnd start count [] number = ⊥
 IsWrongEnd start count (end ∷ ends) number = (((end < start) ⊎ (count < end)) × (number ≡ 1))
     ⊎ (((start ≤ end) × (end ≤ count)) × (before : ℕ) × (number ≡ suc before) × IsWrongEnd end count ends before)
 
--- texts one behind another, of which the first begins at a byte
+-- texts one after another, the first of which begins at a byte
 abbrev pub texts_from : ℕ → List ℕ → List ℕ → List (List ℕ)
 texts_from start texts [] = []
 texts_from start texts (end ∷ ends) = take (end - start) (drop start texts) ∷ texts_from end texts ends
 
--- What is said of one of many texts.
+-- The result for one of many texts.
 pub record TextAnswer : Type 0 where
   pub status : Status
   pub report : Report
   pub blocks : ParseBlocks
 
--- of a text it is said that it has a tree, or a flaw, or that the tables are at fault on it
+-- the text has a tree or a syntax error, or the tables fail on it
 abbrev pub IsOfText : Status → Type 0
 IsOfText Done = Unit {0}
 IsOfText Refused = Unit {0}
 IsOfText Fault = Unit {0}
 IsOfText _ = ⊥
 
--- That is what a call with the text alone says, where its blocks are as long as what it writes.
+-- This is the result of a call with the text alone, with blocks that are exactly long enough.
 pub record IsSaidAlone (tables text : List ℕ) (x : TextAnswer) : Type 0 where
   pub old : ParseBlocks
   pub parts_room : length old.parts ≡ length x.blocks.parts
@@ -56,21 +56,21 @@ pub record IsSaidAlone (tables text : List ℕ) (x : TextAnswer) : Type 0 where
   pub parts : x.report.needed ≡ length x.blocks.parts
   pub expected : x.report.expected ≡ length x.blocks.expected
 
--- each text is answered so
+-- each text has the result that it has alone
 abbrev pub AreSaidAlone : List ℕ → List (List ℕ) → List TextAnswer → Type 0
 AreSaidAlone tables [] [] = Unit {0}
 AreSaidAlone tables [] (x ∷ xs) = ⊥
 AreSaidAlone tables (text ∷ texts) [] = ⊥
 AreSaidAlone tables (text ∷ texts) (x ∷ xs) = IsSaidAlone tables text x × AreSaidAlone tables texts xs
 
--- the parts of all, and the terminals that are expected, one behind another
+-- the parts of all texts, and the expected terminals of all texts, one after another
 abbrev pub all_parts : List TextAnswer → List Part
 all_parts xs = flat_map (λ x. x.blocks.parts) xs
 
 abbrev pub all_expected : List TextAnswer → List ℕ
 all_expected xs = flat_map (λ x. x.blocks.expected) xs
 
--- what is told of each, where the parts and the terminals of the first begin there
+-- the reports of the texts, if the parts and the terminals of the first begin at these indices
 abbrev pub text_reports : ℕ → ℕ → List TextAnswer → List TextReport
 text_reports parts expected [] = []
 text_reports parts expected (x ∷ xs) = record {
@@ -81,19 +81,19 @@ text_reports parts expected (x ∷ xs) = record {
   report = x.report;
 } ∷ text_reports (parts + length x.blocks.parts) (expected + length x.blocks.expected) xs
 
--- how many there are of both
+-- the report with the total numbers of parts and expected terminals
 abbrev pub total_report : List TextAnswer → Report
 total_report xs = record (needing (length (all_parts xs))) { expected = length (all_expected xs) }
 
--- The blocks of many texts.
+-- The blocks of `lytab_parse_all`.
 pub record ManyBlocks : Type 0 where
   pub told : List TextReport
   pub parts : List Part
   pub expected : List ℕ
 
--- Each text is answered as it is alone, and the blocks have that, with as many terminals as there is room for; the
--- table file is refused; memory ran out; an end is wrong; or a block is too short for the reports or the parts. What
--- isn't said to be written is as it was.
+-- Each text has the result that it has alone, and the results are in the blocks, with as many expected terminals as
+-- their block holds. Or the table file is rejected. Or memory ran out. Or an end is invalid. Or a block is too short
+-- for the reports or the parts. Whatever isn't written is unchanged.
 abbrev pub AreAllParsed : List ℕ → List ℕ → List ℕ → ManyBlocks → ManyBlocks → Report → Status → Type 0
 AreAllParsed tables texts ends old new report Done = AreEnds 0 (length texts) ends
     × (s : TableSet) × IsDriven tables s × (xs : List TextAnswer) × AreSaidAlone tables (texts_from 0 texts ends) xs

@@ -1,4 +1,4 @@
--- What a call that lists the names of a table file says, by its status.
+-- The results of `lytab_names`, by status.
 use Rattle.std.specs.Prelude.{◌≡◌, ◌≢◌, ◌<◌, ◌⊎◌, ℕ, ◌+◌, List, [], ◌∷◌, ◌++◌, Some, length, map}
 use Rattle.std.specs.List.{flat_map}
 use Rattle.ly_drive.specs.Answering.{IsDriven}
@@ -14,20 +14,20 @@ use Rattle.lytab_c.specs.declared.name_counts.NameCounts.{NameCounts}
 use Rattle.lytab_c.specs.declared.status.Status.{Status}
 use Rattle.lytab_c.specs.declared.status.Status.TheVariants.{Done, Fault, Memory, Misused, Refused, Short}
 
--- the names of a set: those of its terminals, and behind them the constructors of its rules
+-- the names of a set: those of its terminals, then the constructors of its rules
 abbrev pub names_of : TableSet → List (List ℕ)
 names_of s = s.terminals ++ map (λ r. constructor_of r.shape) s.rules
 
--- names one behind another
+-- names one after another
 abbrev pub joined : List (List ℕ) → List ℕ
 joined names = flat_map (λ name. name) names
 
--- where each of them ends, if the first begins at this byte
+-- where each name ends, if the first begins at this byte
 abbrev pub ends_from : ℕ → List (List ℕ) → List ℕ
 ends_from at [] = []
 ends_from at (name ∷ names) = (at + length name) ∷ ends_from (at + length name) names
 
--- how many names a set has, and how many bytes they have
+-- how many names a set has, and how many bytes these have
 abbrev pub counts_of : TableSet → NameCounts
 counts_of s = record {
   fault = 0;
@@ -37,22 +37,22 @@ counts_of s = record {
   bytes = length (joined (names_of s));
 }
 
--- there is nothing to tell
+-- counts that are all 0
 abbrev pub nothing_counted : NameCounts
 nothing_counted = record { fault = 0; section = 0; terminals = 0; rules = 0; bytes = 0 }
 
--- a fault that has a number is told
+-- an error that has a number is reported
 abbrev pub TellsRefusal : TableFault → NameCounts → Type 0
 TellsRefusal fault counts = (number : ℕ) × (table_number fault ≡ Some number)
     × (counts ≡ record nothing_counted { fault = number; section = section_of fault })
 
--- The two blocks.
+-- The two blocks of `lytab_names`.
 pub record NameBlocks : Type 0 where
   pub ends : List ℕ
   pub names : List ℕ
 
--- The names of the set that the bytes of the table file spell are put into the blocks; the table file is refused;
--- memory ran out; or a block is too short for them. What isn't said to be written is as it was.
+-- The names of the set with these table file bytes are in the blocks. Or the table file is rejected. Or memory ran out.
+-- Or a block is too short. Whatever isn't written is unchanged.
 abbrev pub AreNamesTold : List ℕ → NameBlocks → NameBlocks → NameCounts → Status → Type 0
 AreNamesTold tables old new counts Done = (s : TableSet) × IsDriven tables s × (counts ≡ counts_of s)
     × IsPut (ends_from 0 (names_of s)) old.ends new.ends × IsPut (joined (names_of s)) old.names new.names

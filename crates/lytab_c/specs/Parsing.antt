@@ -1,4 +1,4 @@
--- What a call that parses a text says, by its status.
+-- The results of `lytab_parse`, by status.
 use Rattle.std.specs.Prelude.{◌≡◌, ◌<◌, ℕ, suc, ◌+◌, List, [], ◌∷◌, length, map}
 use Rattle.ly_drive.specs.Answering.{IsDriven}
 use Rattle.ly_drive.specs.declared.fault.DriveFault.{DriveFault}
@@ -21,7 +21,7 @@ use Rattle.lytab_c.specs.declared.report.Report.{Report}
 use Rattle.lytab_c.specs.declared.status.Status.{Status}
 use Rattle.lytab_c.specs.declared.status.Status.TheVariants.{Done, Fault, Memory, Misused, Refused, Short}
 
--- of which kind a part is
+-- the number of a part's kind
 abbrev pub kind_number : PartKind → ℕ
 kind_number Nothing = 0
 kind_number (Token terminal) = 1
@@ -33,7 +33,7 @@ kind_symbol Nothing = 0
 kind_symbol (Token terminal) = terminal.0
 kind_symbol (Node rule) = rule.0
 
--- a part of a list at this index, as C has it
+-- the C form of a part with this index in its list
 abbrev pub part_at : ℕ → tree.Part → Part
 part_at index p = record {
   kind = kind_number p.kind;
@@ -43,33 +43,33 @@ part_at index p = record {
   next = index + p.parts;
 }
 
--- the parts of a list from this index on, as C has them
+-- the C form of the parts of a list, from this index on
 abbrev pub listed : ℕ → List tree.Part → List Part
 listed index [] = []
 listed index (p ∷ ps) = part_at index p ∷ listed (suc index) ps
 
--- A set that the bytes of the table file spell gives the text this tree, with its places.
+-- A set with these table file bytes gives for the text this tree, with the spans of its parts.
 abbrev pub IsTreeOf : List ℕ → List ℕ → Placed → Type 0
 IsTreeOf tables text t = (s : TableSet) × IsDriven tables s × IsPlacedBy s text t
 
--- Such a set says that this is wrong with the text.
+-- Such a set gives for the text this syntax error.
 abbrev pub IsFlawOf : List ℕ → List ℕ → Flaw → Type 0
 IsFlawOf tables text flaw = (s : TableSet) × IsDriven tables s × IsVerdict s text (verdict_of flaw)
 
--- the numbers of the terminals that are expected where a token is refused
+-- the numbers of the expected terminals of a syntax error
 abbrev pub expected_in : Flaw → List ℕ
 expected_in (flaws.Refused number token expected) = map (λ t. t.0) expected.items
 expected_in (flaws.NoRule byte) = []
 
--- What becomes of the two blocks and the report.
+-- What a call does to its two blocks and its report.
 pub record ParseBlocks : Type 0 where
   pub parts : List Part
   pub expected : List ℕ
 
--- What is said of something that has a tree, or a flaw, or on which tables are at fault. It has a tree, whose parts are
--- put into the block of parts; something is wrong with it, and of the terminals that are expected as many are in the
--- other block as there is room for; the tables are refused or at fault; memory ran out; or there is a tree for whose
--- parts the block is too short. What isn't said to be written is as it was.
+-- The results of parsing something, given what it means that it has a tree, that it has a syntax error, and that the
+-- tables fail on it. It has a tree, whose parts are in the block of parts. Or it has a syntax error, and as many
+-- expected terminals are in the other block as it holds. Or the tables are rejected or fail. Or memory ran out. Or it
+-- has a tree, and the block is too short for its parts. Whatever isn't written is unchanged.
 abbrev pub IsSaid : (Placed → Type 0) → (Flaw → Type 0) → (DriveFault → Type 0) → ParseBlocks → ParseBlocks → Report
     → Status → Type 0
 IsSaid IsTree IsFlaw IsFault old new report Done = (t : Placed) × IsTree t
@@ -84,6 +84,6 @@ IsSaid IsTree IsFlaw IsFault old new report Misused = ⊥
 IsSaid IsTree IsFlaw IsFault old new report Short = (t : Placed) × IsTree t
     × (length old.parts < length (parts_of t)) × (report ≡ needing (length (parts_of t))) × (new ≡ old)
 
--- the same of a text by a table file
+-- the same for a text and a table file
 abbrev pub IsParsed : List ℕ → List ℕ → ParseBlocks → ParseBlocks → Report → Status → Type 0
 IsParsed tables text = IsSaid (IsTreeOf tables text) (IsFlawOf tables text) (IsFaultOn tables text)

@@ -1,4 +1,4 @@
--- What is told of a text beside the status.
+-- What a call reports about a text beside the status.
 use Rattle.std.specs.Prelude.{◌≡◌, ℕ, ◌+◌, Some, length}
 use Rattle.ly_drive.specs.DriveFault.{drive_number}
 use Rattle.ly_drive.specs.declared.fault.DriveFault.{DriveFault}
@@ -9,7 +9,7 @@ use Rattle.ly_feed.specs.declared.outcome.Outcome.TheVariants.{NoRule, Syntax, T
 use Rattle.lytab_c.specs.Faults.{drive_section}
 use Rattle.lytab_c.specs.declared.report.Report.{Report}
 
--- an answer has so many items; of the text there is nothing else to tell
+-- a report for an output of this many items, with all other fields 0
 abbrev pub needing : ℕ → Report
 needing needed = record {
   fault = 0;
@@ -23,24 +23,24 @@ needing needed = record {
   expected = 0;
 }
 
--- there is nothing to tell
+-- a report with all fields 0
 abbrev pub nothing_told : Report
 nothing_told = needing 0
 
--- what was given is none, of which this is the number
+-- a report for an invalid argument with this number
 abbrev pub numbering : ℕ → Report
 numbering number = record nothing_told { number = number }
 
--- a fault of this number, in this section
+-- a report for an error with this number, in this section
 abbrev pub at_fault : ℕ → ℕ → Report
 at_fault number section = record nothing_told { fault = number; section = section }
 
--- a fault that has a number is told
+-- an error that has a number is reported
 abbrev pub TellsFault : DriveFault → Report → Type 0
 TellsFault fault report = (number : ℕ) × (drive_number fault ≡ Some number)
     × (report ≡ at_fault number (drive_section fault))
 
--- what is told of an outcome whose answer has so many bytes
+-- the report for an outcome with an output of this many bytes
 abbrev pub outcome_report : Outcome → ℕ → Report
 outcome_report Tree needed = needing needed
 outcome_report (Syntax token byte count expected) needed = record (needing needed) {
@@ -51,7 +51,7 @@ outcome_report (Syntax token byte count expected) needed = record (needing neede
 }
 outcome_report (NoRule byte) needed = record (needing needed) { start = byte; end = byte }
 
--- what is told of what is wrong with a text of which there are no parts
+-- the report for a syntax error, without parts
 abbrev pub flaw_report : flaw.Flaw → Report
 flaw_report (flaws.Refused number token expected) = record nothing_told {
   terminal = token.terminal.0;

@@ -3,7 +3,7 @@ use Rattle.std.specs.Prelude.{ℕ}
 use Rattle.lytab_c.specs.declared.status.Status.{Status}
 use Rattle.lytab_c.specs.declared.status.Status.TheVariants.{Done, Fault, Memory, Misused, Refused, Short}
 
--- those of `lytab_status` in C
+-- the numbers of `lytab_status` in C
 abbrev pub status_number : Status → ℕ
 status_number Done = 0
 status_number Refused = 1

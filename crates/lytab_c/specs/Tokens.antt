@@ -1,4 +1,4 @@
--- What a call that parses tokens over a text says, by its status.
+-- The results of `lytab_parse_tokens`, by status.
 use Rattle.std.specs.Prelude.{◌≡◌, ◌≢◌, ◌⊎◌, ℕ, suc, List, [], ◌∷◌, length, map}
 use Rattle.ly_drive.specs.Answering.{IsDriven}
 use Rattle.ly_drive.specs.declared.fault.DriveFault.{DriveFault}
@@ -21,40 +21,41 @@ use Rattle.lytab_c.specs.declared.status.Status.{Status}
 use Rattle.lytab_c.specs.declared.status.Status.TheVariants.{Misused}
 use Rattle.lytab_c.specs.declared.token.Token.{Token}
 
--- a token as a parser has it
+-- a token as a parser takes it
 abbrev pub placed_from : Token → PlacedToken
 placed_from t = record { terminal = record { 0 = t.terminal }; extent = record { start = t.start; end = t.end } }
 
--- with the bytes of a text that stand there
+-- the tokens with the bytes of a text at their spans
 abbrev pub given_over : List ℕ → List Token → List (lexed.Token ℕ)
 given_over text tokens = map (token_over text) (map placed_from tokens)
 
--- The first token that has none of so many terminals, or that of the end, or that doesn't stand among so many bytes,
--- has this number, counted from 1.
+-- The first invalid token has this number; the first token has number 1. A token is invalid if its terminal isn't below
+-- this count or is the end's, or if its span isn't within this many bytes.
 abbrev pub IsFirstWrong : ℕ → ℕ → List Token → ℕ → Type 0
 IsFirstWrong terminals count [] number = ⊥
 IsFirstWrong terminals count (t ∷ ts) number = ((IsTokenOver terminals count (placed_from t) → ⊥) × (number ≡ 1))
     ⊎ (IsTokenOver terminals count (placed_from t) × (before : ℕ) × (number ≡ suc before)
     × IsFirstWrong terminals count ts before)
 
--- A set that the bytes of the table file spell gives tokens over the text this tree, with its places.
+-- A set with these table file bytes gives for the tokens of the text this tree, with the spans of its parts.
 abbrev pub IsTokenTreeOf : List ℕ → List ℕ → List Token → Placed → Type 0
 IsTokenTreeOf tables text tokens t = (s : TableSet) × IsDriven tables s
     × IsPlacedOver s text (given_over text tokens) t
 
--- Such a set says that this is wrong with them.
+-- Such a set gives for them this syntax error.
 abbrev pub IsTokenFlawOf : List ℕ → List ℕ → List Token → Flaw → Type 0
 IsTokenFlawOf tables text tokens flaw = (s : TableSet) × IsDriven tables s
     × IsTokenVerdict s text (given_over text tokens) (verdict_of flaw)
 
--- The table file is refused as this fault, or the set that it spells is at fault on the tokens.
+-- The table file is rejected with this error, or its set fails on the tokens.
 abbrev pub IsTokenFaultOf : List ℕ → List ℕ → List Token → DriveFault → Type 0
 IsTokenFaultOf tables text tokens (Tables fault) = (fault ≢ OutOfMemory) × IsRefusedAs tables fault
 IsTokenFaultOf tables text tokens (Text FaultyTables) = (s : TableSet) × IsDriven tables s
     × IsTokenVerdict s text (given_over text tokens) faulty
 IsTokenFaultOf tables text tokens (Text _) = ⊥
 
--- What is said of the tokens, if each is one; or which is the first that is none: then no block is written.
+-- The results for the tokens, if all are valid. Otherwise the number of the first invalid one is reported, and no block
+-- is written.
 abbrev pub AreTokensParsed : List ℕ → List ℕ → List Token → ParseBlocks → ParseBlocks → Report → Status → Type 0
 AreTokensParsed tables text tokens old new report Misused = (s : TableSet) × IsDriven tables s × (number : ℕ)
     × IsFirstWrong (length s.terminals) (length text) tokens number × (report ≡ numbering number) × (new ≡ old)

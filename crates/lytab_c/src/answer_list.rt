@@ -14,22 +14,22 @@ use ly_feed::Flaw;
 use ly_places::Part as TreePart;
 use std::alloc::Global;
 
-/// The number of the fault of tables on a text.
+/// The error number for tables that fail on a text.
 const FAULTY_TABLES: u32 = 90;
 
-/// What is said of texts, one behind another.
+/// The results for many texts, one after another.
 #[derive(Drop)]
 pub struct AnswerList {
-    /// A report for each.
+    /// The report of each text.
     pub(crate) texts: Vec<TextReport>,
-    /// The parts of their trees.
+    /// The parts of the texts' trees.
     pub(crate) parts: Vec<Part>,
-    /// The terminals that are expected in those that are refused.
+    /// The expected terminals of the texts with a syntax error.
     pub(crate) expected: Vec<u32>,
 }
 
 impl AnswerList {
-    /// Nothing is said.
+    /// No results.
     pub(crate) fn new(alloc: Global) -> AnswerList
         ensures { AreHeld [] result }
     {
@@ -40,7 +40,7 @@ impl AnswerList {
         }
     }
 
-    /// The next text has a tree of these parts. It fails where memory runs out.
+    /// Appends the result for the next text: a tree of these parts. Returns an error if memory runs out.
     pub(crate) fn push_tree(&mut self, list: &[TreePart]) -> Result<(), OutOfMemory>
         requires { EndWithin (length list.now) 0 list.now }
         ensures { (xs : List TextAnswer) → AreHeld xs self.old
@@ -50,7 +50,7 @@ impl AnswerList {
         self.push_report(Status::Done, Report::needing(list.len() as u64))
     }
 
-    /// This is wrong with the next text. It fails where memory runs out.
+    /// Appends the result for the next text: this syntax error. Returns an error if memory runs out.
     pub(crate) fn push_flaw(&mut self, flaw: &Flaw<'_>) -> Result<(), OutOfMemory>
         requires { FitsFlaw flaw.now }
         ensures { (xs : List TextAnswer) → AreHeld xs self.old
@@ -66,7 +66,7 @@ impl AnswerList {
         }
     }
 
-    /// The tables are at fault on the next text. It fails where memory runs out.
+    /// Appends the result for the next text: the tables fail on it. Returns an error if memory runs out.
     pub(crate) fn push_fault(&mut self) -> Result<(), OutOfMemory>
         ensures { (xs : List TextAnswer) → AreHeld xs self.old
             → OnOk result (AreHeld (xs ++ fault_answer ∷ []) self.new) }
@@ -78,7 +78,7 @@ impl AnswerList {
         self.push_report(Status::Fault, report)
     }
 
-    /// Appends the report of a text, whose parts and terminals stand there.
+    /// Appends the report of a text whose parts and terminals are appended already.
     fn push_report(&mut self, status: Status, report: Report) -> Result<(), OutOfMemory>
         ensures texts { OnOk result (self.new.texts.items ≡ self.old.texts.items
             ++ (record {
@@ -102,7 +102,7 @@ impl AnswerList {
     }
 }
 
-/// Appends the parts of a tree, as C has them. It fails where memory runs out.
+/// Appends the parts of a tree in their C form. Returns an error if memory runs out.
 fn push_parts(parts: &mut Vec<Part>, list: &[TreePart]) -> Result<(), OutOfMemory>
     requires { EndWithin (length list.now) 0 list.now }
     ensures { OnOk result (parts.new.items ≡ parts.old.items ++ listed 0 list.now) }
@@ -113,7 +113,7 @@ fn push_parts(parts: &mut Vec<Part>, list: &[TreePart]) -> Result<(), OutOfMemor
     Ok(())
 }
 
-/// Appends the numbers of terminals. It fails where memory runs out.
+/// Appends the numbers of terminals. Returns an error if memory runs out.
 fn push_terminals(numbers: &mut Vec<u32>, terminals: &[Sym]) -> Result<(), OutOfMemory>
     ensures { OnOk result (numbers.new.items ≡ numbers.old.items ++ map (λ t. t.0) terminals.now) }
 {

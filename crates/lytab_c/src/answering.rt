@@ -14,7 +14,8 @@ use ly_drive::{DriveFault, Outcome, drive};
 use ly_print::{AnswerForm, MemSink};
 use std::alloc::Global;
 
-/// Answers a text by a table file, with the bytes that `lytab run` writes: a line for a tree, two for a refused token.
+/// Parses a text with a table file and writes the bytes that `lytab run` writes: one line for a tree, two for a syntax
+/// error at a token.
 #[unsafe(no_mangle)]
 pub extern "C" fn lytab_answer(
     alloc: Global,
@@ -30,7 +31,7 @@ pub extern "C" fn lytab_answer(
     answer_into(alloc, AnswerForm::Plain, tables, text, answer, report).number()
 }
 
-/// Answers a text by a table file, with the line of JSON that `lytab run --json` writes.
+/// Parses a text with a table file and writes the line of JSON that `lytab run --json` writes.
 #[unsafe(no_mangle)]
 pub extern "C" fn lytab_json(
     alloc: Global,
@@ -46,7 +47,7 @@ pub extern "C" fn lytab_json(
     answer_into(alloc, AnswerForm::Json, tables, text, answer, report).number()
 }
 
-/// Answers a text by a table file in a form, into a block where there is room.
+/// Parses a text with a table file and writes the output in a form to a block, if it fits.
 fn answer_into(
     alloc: Global,
     form: AnswerForm,
@@ -63,7 +64,7 @@ fn answer_into(
     }
 }
 
-/// What a table file answers to a text in a form.
+/// Returns the outcome and the output of a text with a table file, in a form.
 fn answer_to(
     alloc: Global,
     form: AnswerForm,
@@ -79,7 +80,7 @@ fn answer_to(
     Ok((outcome, sink.into_bytes()))
 }
 
-/// Puts an answer into a block where there is room, and tells of it.
+/// Writes the output to a block, if it fits, and reports it.
 fn put_answer(outcome: &Outcome, answer: &[u8], block: &mut [u8], report: &mut Report) -> Status
     requires { FitsOutcome outcome.now }
     ensures { IsAnswerPut outcome.now answer.now block.old block.new report.new result }

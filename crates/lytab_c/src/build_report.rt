@@ -9,28 +9,28 @@ use ly_lexread::LexFault;
 use ly_report::ConflictCounts;
 use ly_yaccread::YaccFault;
 
-/// What there is to tell of a build beside the status. What doesn't belong to a status is 0.
+/// What a build reports beside the status. Fields that don't belong to the status are 0.
 #[repr(C)]
 #[derive(Clone, Copy)]
 pub struct BuildReport {
-    /// The number of a fault.
+    /// The number of the error.
     pub fault: u32,
-    /// The file that is refused by itself, where the fault stands in it: 1 the lex file, 2 the yacc file; else 0.
+    /// The file that the error is in, if it is in one file alone: 1 for the lex file, 2 for the yacc file, else 0.
     pub file: u32,
-    /// The line where it stands there.
+    /// The line of the error in that file. The first is 1.
     pub line: u64,
-    /// The column.
+    /// The column of the error in bytes. The first is 1.
     pub column: u64,
-    /// How many bytes the table file has.
+    /// The length of the table file in bytes.
     pub needed: u64,
-    /// How many conflicts are between a shift and a reduction.
+    /// The number of shift/reduce conflicts.
     pub shift_reduce: u64,
-    /// How many are between two reductions.
+    /// The number of reduce/reduce conflicts.
     pub reduce_reduce: u64,
 }
 
 impl BuildReport {
-    /// What is told of a table file of so many bytes, and of its conflicts.
+    /// The report for a table file of this length, with its conflicts.
     pub(crate) fn of_tables(needed: u64, conflicts: &ConflictCounts) -> BuildReport
         ensures { result ≡ built_of needed conflicts.now }
     {
@@ -42,7 +42,7 @@ impl BuildReport {
         }
     }
 
-    /// Tells a fault of a lex file and a yacc file.
+    /// Reports an error in a lex file and a yacc file.
     pub(crate) fn tell_fault(&mut self, fault: &GenFault, lex: &[u8], yacc: &[u8]) -> Status
         ensures { IsBuildFaultTold fault.now lex.now yacc.now self.new result }
     {
@@ -58,7 +58,7 @@ impl BuildReport {
         }
     }
 
-    /// What is told of a fault of this number.
+    /// The report for an error with this number.
     fn of_fault(fault: &GenFault, number: u32, lex: &[u8], yacc: &[u8]) -> BuildReport
         ensures { result ≡ fault_built fault.now number lex.now yacc.now }
     {
@@ -76,7 +76,7 @@ impl BuildReport {
         }
     }
 
-    /// What is told of a fault of this number at a byte of one file.
+    /// The report for an error with this number at a byte of one file.
     fn at_byte(number: u32, file: u32, bytes: &[u8], offset: usize) -> BuildReport
         ensures { result ≡ fault_at number file bytes.now offset }
     {
@@ -90,7 +90,7 @@ impl BuildReport {
         }
     }
 
-    /// Nothing to tell.
+    /// A report with all fields 0.
     fn nothing() -> BuildReport
         ensures { result ≡ nothing_built }
     {

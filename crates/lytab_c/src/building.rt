@@ -13,7 +13,7 @@ use ly_generate::Report;
 use ly_report::ConflictCounts;
 use std::alloc::Global;
 
-/// The table file of a lex file and a yacc file, as `lytab build` writes it.
+/// Makes the table file of a lex file and a yacc file, as `lytab build` writes it.
 #[unsafe(no_mangle)]
 pub extern "C" fn lytab_build(
     alloc: Global,
@@ -29,7 +29,7 @@ pub extern "C" fn lytab_build(
     build_into(alloc, lex, yacc, tables, built).number()
 }
 
-/// The table file of a lex file and a yacc file, into a block where there is room.
+/// Makes the table file of a lex file and a yacc file, and writes it to a block, if it fits.
 fn build_into(
     alloc: Global,
     lex: &[u8],
@@ -45,7 +45,7 @@ fn build_into(
     }
 }
 
-/// Puts a table file into a block where there is room, and tells of it.
+/// Writes a table file to a block, if it fits, and reports it.
 fn put_tables(
     tables: &[u8],
     conflicts: &ConflictCounts,

@@ -1,13 +1,18 @@
-//! The driver and the generator for C: each call gets all that it needs, and writes into blocks of its caller. Their
-//! declarations are in `include/lytab.h`.
+//! The driver and the generator as a C library. The declarations are in `include/lytab.h`. The caller passes everything
+//! that a call needs and owns each block that it writes. Nothing is kept between calls: there are no handles, nothing
+//! to free and no locks. Each call reads the table file anew.
 //!
-//! `lytab_answer`, `lytab_json` and `lytab_parse` answer a text by the bytes of a table file (`IsAnswered`,
-//! `IsParsed`), `lytab_parse_all` many texts (`AreAllParsed`), and `lytab_parse_tokens` tokens over a text that the
-//! caller found (`AreTokensParsed`). `lytab_names` lists the names of a table file (`AreNamesTold`), `lytab_locate`
-//! tells lines and columns, and `lytab_build` makes a table file (`IsBuilt`). What each says goes by its status. A law
-//! says that a loop over the parts of a tree finds the tree (`walks_meet_children`).
+//! `lytab_answer`, `lytab_json` and `lytab_parse` parse a text with a table file (`IsAnswered`, `IsParsed`).
+//! `lytab_parse_all` parses many texts (`AreAllParsed`), and `lytab_parse_tokens` parses tokens that the caller found
+//! in a text (`AreTokensParsed`). `lytab_names` lists the names of a table file (`AreNamesTold`), `lytab_locate`
+//! returns lines and columns, and `lytab_build` makes a table file (`IsBuilt`). Each contract states the results for
+//! each status. A theorem states that a loop over the `next` of the parts of a tree visits the children of a node
+//! (`walks_meet_children`).
 //!
-//! Left out: how texts are answered and tables are made, which the crates below have.
+//! If a block is too short, only the report is written, and it has the length that is needed. Of the expected terminals
+//! as many are written as the block holds.
+//!
+//! Parsing and table generation are in the crates that this one depends on.
 #![tactic(auto)]
 
 mod answer_list;

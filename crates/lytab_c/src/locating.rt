@@ -3,7 +3,8 @@ ghost use Rattle.ly_base.specs.Location.{column_behind, line_behind};
 
 use ly_base::locate;
 
-/// On which line of a text a byte is, and in which column of it; of a byte past the text, where the text ends.
+/// Sets the line and the column of a byte of a text. The first line and column are 1. For an offset past the text, they
+/// are those of the text's end.
 #[unsafe(no_mangle)]
 pub extern "C" fn lytab_locate(text: &[u8], byte: usize, line: &mut u64, column: &mut u64)
     ensures line { line.new ≡ line_behind (take byte text.now) }

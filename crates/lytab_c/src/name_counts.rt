@@ -8,24 +8,24 @@ use crate::report::table_section;
 use crate::status::Status;
 use ly_tables::{TableFault, TableSet};
 
-/// How many names a table file has. What isn't known is 0.
+/// How many names a table file has. Unknown counts are 0.
 #[repr(C)]
 #[derive(Clone, Copy)]
 pub struct NameCounts {
-    /// The number of a fault.
+    /// The number of the error.
     pub fault: u32,
     /// The section of the table file that is out of range.
     pub section: u32,
-    /// How many names of terminals there are.
+    /// The number of terminal names.
     pub terminals: u64,
-    /// How many names of rules there are.
+    /// The number of rule names.
     pub rules: u64,
-    /// How many bytes all of them have.
+    /// The length of all names together in bytes.
     pub bytes: u64,
 }
 
 impl NameCounts {
-    /// What is told of the names of a set.
+    /// The counts for the names of a set.
     pub(crate) fn of(set: &TableSet, list: &NameList) -> NameCounts
         requires { IsListOf (names_of set.now) list.now }
         ensures { result ≡ counts_of set.now }
@@ -38,7 +38,7 @@ impl NameCounts {
         }
     }
 
-    /// Nothing to tell.
+    /// Counts that are all 0.
     pub(crate) fn nothing() -> NameCounts
         ensures { result ≡ nothing_counted }
     {
@@ -51,7 +51,7 @@ impl NameCounts {
         }
     }
 
-    /// Tells a fault of a table file.
+    /// Reports an error in a table file.
     pub(crate) fn tell_fault(&mut self, fault: &TableFault) -> Status
         ensures { IsRefusalTold fault.now self.new result }
     {

@@ -9,18 +9,18 @@ use ly_pack::TableRule;
 use ly_tables::TableSet;
 use std::alloc::{AllocError, Global};
 
-/// Names one behind another, and where each of them ends.
+/// Names one after another, and where each ends.
 #[derive(Drop)]
 pub struct NameList {
     /// The bytes of all of them.
     pub(crate) bytes: Vec<u8>,
-    /// Where each ends among these.
+    /// The offset in `bytes` at which each name ends.
     pub(crate) ends: Vec<u64>,
 }
 
 impl NameList {
-    /// The names of a set: those of its terminals, and behind them the constructors of its rules. It fails where memory
-    /// runs out.
+    /// The names of a set: those of its terminals, then the constructors of its rules. Returns an error if memory runs
+    /// out.
     pub(crate) fn of(alloc: Global, set: &TableSet) -> Result<NameList, OutOfMemory>
         ensures { IfOk result (IsListOf (names_of set.now)) }
     {
@@ -44,7 +44,7 @@ impl NameList {
         }
     }
 
-    /// Appends a name. It fails where memory runs out.
+    /// Appends a name. Returns an error if memory runs out.
     fn push(&mut self, name: &[u8]) -> Result<(), AllocError>
         ensures { (names : List (List ℕ)) → IsListOf names self.old
             → OnOk result (IsListOf (names ++ name.now ∷ []) self.new) }
@@ -55,7 +55,7 @@ impl NameList {
     }
 }
 
-/// The constructor of a rule, nothing where it makes no node.
+/// The constructor of a rule; empty if the rule makes no node.
 fn constructor_of(rule: &TableRule) -> &[u8]
     ensures { result.now ≡ constructor_of (rule_from rule.now).shape }
 {

@@ -12,8 +12,9 @@ use crate::status::Status;
 use ly_tables::{TableSet, read_tables};
 use std::alloc::Global;
 
-/// The names of a table file: first those of the terminals, as they are printed, then the constructors of the rules,
-/// which are empty for rules that make no node. They stand one behind another, and it is said where each ends.
+/// Writes the names of a table file: first those of the terminals as they are printed, then the constructors of the
+/// rules. The name of a rule that makes no node is empty. The names follow one another, and `ends` gets the offset at
+/// which each ends.
 #[unsafe(no_mangle)]
 pub extern "C" fn lytab_names(
     alloc: Global,
@@ -31,7 +32,7 @@ pub extern "C" fn lytab_names(
     name_into(alloc, tables, ends, names, counts).number()
 }
 
-/// The names of a table file, into blocks where there is room.
+/// Writes the names of a table file to blocks, if they fit.
 fn name_into(
     alloc: Global,
     tables: &[u8],
@@ -48,7 +49,7 @@ fn name_into(
     }
 }
 
-/// The names of a set, into blocks where there is room.
+/// Writes the names of a set to blocks, if they fit.
 fn name_set(
     alloc: Global,
     set: &TableSet,
@@ -68,7 +69,7 @@ fn name_set(
     }
 }
 
-/// Puts the names of a set into blocks where there is room, and tells of them.
+/// Writes the names of a set to blocks, if they fit, and reports their counts.
 fn put_names(
     set: &TableSet,
     list: &NameList,

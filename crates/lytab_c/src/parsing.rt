@@ -18,8 +18,8 @@ use ly_places::{Parsed, Part as TreePart, parse};
 use ly_tables::read_tables;
 use std::alloc::Global;
 
-/// Answers a text by a table file, with the parts of its tree. Where the text is refused the parts are left alone, and
-/// of the terminals that are expected, by rising number, as many are written as there is room for.
+/// Parses a text with a table file and writes the parts of its tree. If the text has a syntax error, the block of parts
+/// is unchanged, and the expected terminals are written in ascending order, as many as the block holds.
 #[unsafe(no_mangle)]
 pub extern "C" fn lytab_parse(
     alloc: Global,
@@ -38,7 +38,7 @@ pub extern "C" fn lytab_parse(
     parse_into(alloc, tables, text, parts, expected, report).number()
 }
 
-/// Answers a text by a table file with the parts of its tree, into blocks where there is room.
+/// Parses a text with a table file and writes the parts of its tree to blocks, if they fit.
 fn parse_into(
     alloc: Global,
     tables: &[u8],
@@ -57,7 +57,7 @@ fn parse_into(
     }
 }
 
-/// The parts of the tree that a text has by a table file, or what is wrong with it.
+/// Returns the parts of a text's tree by a table file, or the syntax error.
 fn parse_by<'t>(alloc: Global, tables: &[u8], text: &'t [u8]) -> Result<Parsed<'t>, DriveFault>
     ensures parsed { IfOk result (IsParsedBy tables.now text.now) }
     ensures fault { IfErr result (IsFaultOn tables.now text.now) }
@@ -68,7 +68,7 @@ fn parse_by<'t>(alloc: Global, tables: &[u8], text: &'t [u8]) -> Result<Parsed<'
     Ok(parsed?)
 }
 
-/// Puts the parts of a tree into a block where there is room, and tells of them.
+/// Writes the parts of a tree to a block, if they fit, and reports them.
 pub(crate) fn put_parts(list: &[TreePart], block: &mut [Part], report: &mut Report) -> Status
     requires { (t : Placed) × (list.now ≡ parts_of t) }
     ensures { ArePartsPut list.now block.old block.new report.new result }
@@ -81,7 +81,7 @@ pub(crate) fn put_parts(list: &[TreePart], block: &mut [Part], report: &mut Repo
     Status::Done
 }
 
-/// Puts a list of parts into the front of a block that is long enough.
+/// Writes a list of parts to the start of a block that is long enough.
 fn put_list(list: &[TreePart], block: &mut [Part])
     requires room { length list.now ≤ length block.old }
     requires ends { EndWithin (length list.now) 0 list.now }
@@ -92,7 +92,7 @@ fn put_list(list: &[TreePart], block: &mut [Part])
     }
 }
 
-/// Tells what is wrong with a text, and puts the terminals that are expected into a block, as far as there is room.
+/// Reports a syntax error, and writes the expected terminals to a block, as many as it holds.
 pub(crate) fn put_flaw(flaw: &Flaw<'_>, block: &mut [u32], report: &mut Report) -> Status
     requires { FitsFlaw flaw.now }
     ensures { IsFlawPut flaw.now block.old block.new report.new result }
@@ -105,7 +105,7 @@ pub(crate) fn put_flaw(flaw: &Flaw<'_>, block: &mut [u32], report: &mut Report) 
     Status::Refused
 }
 
-/// Puts the numbers of terminals into the front of a block, as many as there is room for.
+/// Writes the numbers of terminals to the start of a block, as many as it holds.
 fn fill(terminals: &[Sym], block: &mut [u32])
     ensures { IsFilled (map (λ t. t.0) terminals.now) block.old block.new }
 {

@@ -18,9 +18,9 @@ use ly_places::{Parsed, TextParser};
 use ly_tables::{TableSet, read_tables};
 use std::alloc::Global;
 
-/// Answers many texts by a table file, which is read once: for each just what `lytab_parse` says of that text alone.
-/// The texts stand one behind another, and it is said where each ends. So do their parts, and of the terminals that are
-/// expected as many as there is room for.
+/// Parses many texts with a table file, which is read once. The result for each text is what `lytab_parse` returns for
+/// it alone. The texts follow one another in `texts`, and `ends` has the offset at which each ends. Their parts follow
+/// one another too. So do the expected terminals, of which as many are written as the block holds.
 #[unsafe(no_mangle)]
 pub extern "C" fn lytab_parse_all(
     alloc: Global,
@@ -43,7 +43,7 @@ pub extern "C" fn lytab_parse_all(
     parse_all_into(alloc, tables, texts, ends, told, parts, expected, report).number()
 }
 
-/// Answers many texts by a table file, into blocks where there is room.
+/// Parses many texts with a table file and writes the results to blocks, if they fit.
 fn parse_all_into(
     alloc: Global,
     tables: &[u8],
@@ -68,7 +68,7 @@ fn parse_all_into(
     }
 }
 
-/// The number of the first end that stands before the one in front of it, or behind all bytes; the first is 1.
+/// The number of the first end that is before the previous one or past all bytes. The first end has number 1.
 fn wrong_end(ends: &[u64], count: usize) -> Option<u64>
     ensures wrong { IfSome result (IsWrongEnd 0 count ends.now) }
     ensures right { result ≡ None → AreEnds 0 count ends.now }
@@ -83,7 +83,7 @@ fn wrong_end(ends: &[u64], count: usize) -> Option<u64>
     None
 }
 
-/// What a table file says of texts that end there.
+/// The results of a table file for the texts with these ends.
 fn answer_all(
     alloc: Global,
     tables: &[u8],
@@ -103,7 +103,7 @@ fn answer_all(
     }
 }
 
-/// What a table set says of texts that end there. It fails where memory runs out.
+/// The results of a table set for the texts with these ends. Returns an error if memory runs out.
 fn answers_by(
     alloc: Global,
     set: &TableSet,
@@ -124,7 +124,7 @@ fn answers_by(
     Ok(answers)
 }
 
-/// Appends what a parser says of a text. It fails where memory runs out.
+/// Appends the result of a parser for a text. Returns an error if memory runs out.
 fn answer_next(
     parser: &TextParser<'_>,
     text: &[u8],
@@ -141,7 +141,7 @@ fn answer_next(
     }
 }
 
-/// Puts answers into blocks where there is room, and tells of them.
+/// Writes results to blocks, if they fit, and reports them.
 fn put_all(
     answers: &AnswerList,
     told: &mut [TextReport],

@@ -17,8 +17,9 @@ use ly_places::{Parsed, PlacedToken, parse_tokens};
 use ly_tables::{TableSet, read_tables};
 use std::alloc::Global;
 
-/// Answers tokens over a text by a table file, with the parts of their tree: what the parser says of just these tokens.
-/// The scanner of the table file doesn't run. The blocks are written as by `lytab_parse`.
+/// Parses tokens of a text with a table file and writes the parts of their tree. The parser reads exactly these tokens;
+/// the scanner of the table file doesn't run. The blocks are written as by `lytab_parse`. The tokens may be in any
+/// order.
 #[unsafe(no_mangle)]
 pub extern "C" fn lytab_parse_tokens(
     alloc: Global,
@@ -39,7 +40,7 @@ pub extern "C" fn lytab_parse_tokens(
     parse_tokens_into(alloc, tables, text, tokens, parts, expected, report).number()
 }
 
-/// Answers tokens over a text by a table file, into blocks where there is room.
+/// Parses tokens of a text with a table file and writes the parts of their tree to blocks, if they fit.
 fn parse_tokens_into(
     alloc: Global,
     tables: &[u8],
@@ -59,7 +60,7 @@ fn parse_tokens_into(
     }
 }
 
-/// Answers tokens over a text by a table set, into blocks where there is room.
+/// Parses tokens of a text with a table set and writes the parts of their tree to blocks, if they fit.
 fn answer_tokens(
     alloc: Global,
     set: &TableSet,
@@ -84,7 +85,7 @@ fn answer_tokens(
     }
 }
 
-/// The number of the first token that has no terminal, or doesn't stand in the text; the first is 1.
+/// The number of the first token that has no valid terminal or isn't within the text. The first token has number 1.
 fn wrong_token(tokens: &[Token], terminals: usize, count: usize) -> Option<u64>
     ensures wrong { IfSome result (IsFirstWrong terminals count tokens.now) }
     ensures right { result ≡ None → All (λ t. IsTokenOver terminals count (placed_from t)) tokens.now }
@@ -98,7 +99,7 @@ fn wrong_token(tokens: &[Token], terminals: usize, count: usize) -> Option<u64>
     None
 }
 
-/// Whether a token has one of so many terminals, and not that of the end, and stands among so many bytes.
+/// Whether a token's terminal is below a count and isn't the end, and its span is within this many bytes.
 fn is_over(token: &Token, terminals: usize, count: usize) -> bool
     ensures right { result ≡ true → IsTokenOver terminals count (placed_from token.now) }
     ensures wrong { result ≡ false → IsTokenOver terminals count (placed_from token.now) → ⊥ }
@@ -109,7 +110,7 @@ fn is_over(token: &Token, terminals: usize, count: usize) -> bool
         && token.end <= count as u64
 }
 
-/// What a table set says of tokens over a text.
+/// The result of a table set for tokens of a text.
 fn parse_by<'t>(
     alloc: Global,
     set: &TableSet,
@@ -124,7 +125,7 @@ fn parse_by<'t>(
     parse_tokens(alloc, set, text, &placed)
 }
 
-/// The same tokens for a parser. It fails where memory runs out.
+/// The same tokens as a parser takes them. Returns an error if memory runs out.
 fn placed_tokens(alloc: Global, tokens: &[Token]) -> Result<Vec<PlacedToken>, OutOfMemory>
     ensures { IfOk result (λ placed. placed.items ≡ map placed_from tokens.now) }
 {

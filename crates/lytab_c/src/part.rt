@@ -3,24 +3,24 @@ ghost use Rattle.lytab_c.specs.Parsing.{kind_number, kind_symbol, part_at};
 
 use ly_places::{Part as TreePart, PartKind};
 
-/// A part of a tree. A tree is a list of its parts, each in front of those that it consists of.
+/// A part of a tree. A tree is a list of its parts in preorder: each part comes before its own parts.
 #[repr(C)]
 #[derive(Clone, Copy)]
 pub struct Part {
-    /// What it is: 0 nothing, 1 a token, 2 a node.
+    /// The kind: 0 for nothing, 1 for a token, 2 for a node.
     pub kind: u32,
-    /// The terminal of a token, the rule of a node, of nothing 0.
+    /// The terminal of a token, the rule of a node, 0 for nothing.
     pub number: u32,
-    /// Where it begins in the text.
+    /// The offset of its first byte in the text.
     pub start: u64,
-    /// The byte behind its last one.
+    /// The offset of the byte after its last one.
     pub end: u64,
-    /// The index behind its own last part.
+    /// The index after its own last part.
     pub next: u64,
 }
 
 impl Part {
-    /// A part of a list at an index.
+    /// The C form of a part with an index in its list.
     pub(crate) fn at(index: usize, part: &TreePart) -> Part
         requires { index + part.now.parts < 2 ^ 64 }
         ensures { result ≡ part_at index part.now }
@@ -35,7 +35,7 @@ impl Part {
     }
 }
 
-/// Of which kind a part is.
+/// The number of a part's kind.
 fn kind_number(kind: PartKind) -> u32
     ensures { result ≡ kind_number kind }
 {

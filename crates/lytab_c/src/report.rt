@@ -8,32 +8,32 @@ use ly_drive::{DriveFault, Outcome};
 use ly_feed::Flaw;
 use ly_tables::TableFault;
 
-/// What there is to tell of a text beside the status. What doesn't belong to a status is 0.
+/// What a call reports about a text beside the status. Fields that don't belong to the status are 0.
 #[repr(C)]
 #[derive(Clone, Copy)]
 pub struct Report {
-    /// The number of a fault.
+    /// The number of the error.
     pub fault: u32,
     /// The section of the table file that is out of range.
     pub section: u32,
-    /// The terminal of a refused token; 0 is the end of the text.
+    /// The unexpected terminal of a syntax error; 0 is the end of the text.
     pub terminal: u32,
-    /// Nothing.
+    /// Always 0.
     pub unused: u32,
-    /// The number of a refused token, counted from 1; or of what was given and is none.
+    /// The number of the unexpected token, or of the invalid argument. The first is 1.
     pub number: u64,
-    /// Where it begins, or which byte no rule matches.
+    /// The offset at which the unexpected token begins, or of the byte that no rule matches.
     pub start: u64,
-    /// Where it ends.
+    /// The offset at which the unexpected token ends.
     pub end: u64,
-    /// How many items the answer has, bytes or parts.
+    /// How many items the output has: bytes or parts.
     pub needed: u64,
-    /// How many terminals are expected in its place.
+    /// How many terminals are expected.
     pub expected: u64,
 }
 
 impl Report {
-    /// What is told of an answer of so many items, and of nothing else.
+    /// A report for an output of this many items, with all other fields 0.
     pub(crate) fn needing(needed: u64) -> Report
         ensures { result ≡ needing needed }
     {
@@ -50,7 +50,7 @@ impl Report {
         }
     }
 
-    /// What is told where what was given is none: the number of that.
+    /// A report for an invalid argument with this number.
     pub(crate) fn numbering(number: u64) -> Report
         ensures { result ≡ numbering number }
     {
@@ -60,7 +60,7 @@ impl Report {
         }
     }
 
-    /// What is told of an outcome whose answer has so many bytes.
+    /// The report for an outcome with an output of this many bytes.
     pub(crate) fn of_outcome(outcome: &Outcome, needed: u64) -> Report
         requires { FitsOutcome outcome.now }
         ensures { result ≡ outcome_report outcome.now needed }
@@ -87,7 +87,7 @@ impl Report {
         }
     }
 
-    /// What is told of what is wrong with a text.
+    /// The report for a syntax error.
     pub(crate) fn of_flaw(flaw: &Flaw<'_>) -> Report
         requires { FitsFlaw flaw.now }
         ensures { result ≡ flaw_report flaw.now }
@@ -113,7 +113,7 @@ impl Report {
         }
     }
 
-    /// Tells a fault.
+    /// Reports an error.
     pub(crate) fn tell_fault(&mut self, fault: &DriveFault) -> Status
         ensures { IsFaultTold fault.now self.new result }
     {
@@ -134,7 +134,7 @@ impl Report {
     }
 }
 
-/// The section of the table file that is out of range, where one is.
+/// The section of the table file that is out of range, or 0.
 fn section_of(fault: &DriveFault) -> u32
     ensures { result ≡ drive_section fault.now }
 {
@@ -144,7 +144,7 @@ fn section_of(fault: &DriveFault) -> u32
     }
 }
 
-/// The same of a fault of a table file.
+/// The section of the table file that is out of range, or 0, for an error in a table file.
 pub(crate) fn table_section(fault: &TableFault) -> u32
     ensures { result ≡ section_of fault.now }
 {

@@ -1,18 +1,18 @@
 ghost use Rattle.std.specs.Prelude.{◌≡◌};
 ghost use Rattle.lytab_c.specs.Statuses.{status_number};
 
-/// What a call comes to.
+/// The result of a call.
 #[derive(Clone, Copy)]
 pub enum Status {
-    /// The text has a tree; of other calls: done.
+    /// The text has a tree. For other calls: done.
     Done,
-    /// The text is refused.
+    /// The text has a syntax error.
     Refused,
-    /// A file is refused, or the tables are at fault on the text.
+    /// A file is rejected, or the tables fail on the text.
     Fault,
-    /// Memory ran out.
+    /// Out of memory.
     Memory,
-    /// What was given is none: an end of a text, or a token.
+    /// An argument is invalid: an end of a text, or a token.
     Misused,
     /// A block is too short.
     Short,

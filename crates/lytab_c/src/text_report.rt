@@ -1,16 +1,16 @@
 use crate::report::Report;
 
-/// What is told of one of many texts.
+/// The result for one of many texts.
 #[repr(C)]
 #[derive(Clone, Copy)]
 pub struct TextReport {
     /// What a call with this text alone returns.
     pub status: u32,
-    /// Nothing.
+    /// Always 0.
     pub unused: u32,
-    /// Where its parts end in the block; they begin where those of the text before it end.
+    /// Where its parts end in the block. They begin where those of the previous text end.
     pub parts_end: u64,
-    /// The same of the terminals that are expected.
+    /// Where its expected terminals end in the block. They begin where those of the previous text end.
     pub expected_end: u64,
     /// What a call with this text alone reports.
     pub report: Report,

@@ -3,15 +3,15 @@ ghost use Rattle.lytab_c.specs.Private.Reading.{unread};
 
 use ly_print::{DeviceFailed, Source};
 
-/// A reader of a text in memory. It never fails, so its count of failures stays at 0.
+/// A reader of a text in memory. It never fails, so its count of failures stays 0.
 #[derive(Drop)]
 pub struct TextSource<'t> {
-    /// The bytes that aren't read yet.
+    /// The bytes that weren't read yet.
     rest: &'t [u8],
 }
 
 impl<'t> TextSource<'t> {
-    /// Gives all of a text, and then the end.
+    /// A reader that returns all of a text, then the end.
     pub(crate) fn new(text: &'t [u8]) -> Self
         ensures { unread result ≡ text.now }
     {

@@ -4,22 +4,22 @@ ghost use Rattle.lytab_c.specs.Tokens.{placed_from};
 use ly_base::Sym;
 use ly_places::{Extent, PlacedToken};
 
-/// A token over a text that a caller has found.
+/// A token that the caller found in a text.
 #[repr(C)]
 #[derive(Clone, Copy)]
 pub struct Token {
-    /// Its terminal.
+    /// The number of its terminal.
     pub terminal: u32,
-    /// Nothing.
+    /// Ignored.
     pub unused: u32,
-    /// Where it begins in the text.
+    /// The offset of its first byte in the text.
     pub start: u64,
-    /// The byte behind its last one.
+    /// The offset of the byte after its last one.
     pub end: u64,
 }
 
 impl Token {
-    /// The same token for a parser.
+    /// The same token as a parser takes it.
     pub(crate) fn placed(&self) -> PlacedToken
         ensures { result ≡ placed_from self.now }
     {

@@ -1,6 +1,6 @@
 ghost use Rattle.std.specs.Prelude.{◌≡◌};
 
-/// The version of the calls and of their structs.
+/// Returns the version of the calls and their structs.
 #[unsafe(no_mangle)]
 pub extern "C" fn lytab_version() -> u32
     ensures { result ≡ 1 }
