@@ -19,9 +19,9 @@ use Rattle.ly_resolve.specs.Values.{conflict_from}
 use Rattle.ly_resolve.specs.declared.conflict.Conflict.{Conflict}
 use Rattle.ly_resolve.specs.declared.conflict.ConflictKind.{ConflictKind}
 use Rattle.ly_resolve.specs.declared.conflict.ConflictKind.TheVariants.{ShiftReduce, ReduceReduce}
-use Rattle.ly_examples.specs.Examples.{IsAnswer}
-use Rattle.ly_examples.specs.declared.example.Example.{Example}
-use Rattle.ly_examples.specs.declared.example.Example.TheVariants.{At, Merged, Unknown}
+use Rattle.ly_counterexamples.specs.Examples.{IsSearchResult}
+use Rattle.ly_counterexamples.specs.declared.example.Example.{Example}
+use Rattle.ly_counterexamples.specs.declared.example.Example.TheVariants.{At, Merged, Unknown}
 use Rattle.ly_accepted.specs.declared.common.Key.{Key}
 use Rattle.ly_accepted.specs.declared.groups.Group.{Group}
 use Rattle.ly_accepted.specs.Groups.{IsTrueOf, answer_from, most_demands}
@@ -31,14 +31,14 @@ use Rattle.ly_accepted.specs.Private.Keys.{asked_of, key_from}
 
 -- what was answered is so
 pub true_answer : (M : Lr0Automaton) (c : spec.Conflict) (example : Option Example)
-    → IfSome example (IsAnswer M c most_demands) → IsTrueOf M c (answer_from example)
+    → IfSome example (IsSearchResult M c most_demands) → IsTrueOf M c (answer_from example)
 true_answer M c None h = tt
 true_answer M c (Some (At string)) h = (reverse (map symbol_of string.items), h)
 true_answer M c (Some Merged) h = h
 true_answer M c (Some Unknown) h = h
 
 true_asked : (M : Lr0Automaton) (c : spec.Conflict) (kind : ConflictKind) (example : Option Example)
-    → IfSome example (IsAnswer M c most_demands) → IsTrueOf M c (asked_of kind example)
+    → IfSome example (IsSearchResult M c most_demands) → IsTrueOf M c (asked_of kind example)
 true_asked M c ShiftReduce example h = tt
 true_asked M c ReduceReduce example h = true_answer M c example h
 

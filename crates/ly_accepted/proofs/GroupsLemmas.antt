@@ -17,7 +17,7 @@ use Rattle.ly_resolve.specs.declared.action.Action.TheVariants.{Shift, Reduce, E
 use Rattle.ly_resolve.specs.declared.conflict.Conflict.{Conflict}
 use Rattle.ly_resolve.specs.declared.conflict.ConflictKind.{ConflictKind}
 use Rattle.ly_resolve.specs.declared.conflict.ConflictKind.TheVariants.{ShiftReduce, ReduceReduce}
-use Rattle.ly_examples.specs.declared.example.Example.{Example}
+use Rattle.ly_counterexamples.specs.declared.example.Example.{Example}
 use Rattle.ly_accepted.specs.declared.common.Key.{Key}
 use Rattle.ly_accepted.specs.declared.groups.Group.{Group}
 use Rattle.ly_accepted.specs.Groups.{answer_from, AreApart, AreGroups, DifferInTerminal, IsGroup, IsTrueOf}

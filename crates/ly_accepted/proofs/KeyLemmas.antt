@@ -11,13 +11,13 @@ use Rattle.std.proofs.lemmas.List.Quantifiers.{position-Some}
 use Rattle.std.proofs.lemmas.Map.Views.{Contains-from_any}
 use Rattle.std.proofs.lemmas.Option.{slice_get-get_or}
 use Rattle.std.proofs.Common.{subst}
-use Rattle.ly_accepted.specs.declared.common.Answer.{Answer}
-use Rattle.ly_accepted.specs.declared.common.Answer.TheVariants.{At, Merged, Unknown}
+use Rattle.ly_accepted.specs.declared.common.ExampleKind.{ExampleKind}
+use Rattle.ly_accepted.specs.declared.common.ExampleKind.TheVariants.{At, Merged, Unknown}
 use Rattle.ly_accepted.specs.declared.common.Choice.{Choice}
 use Rattle.ly_accepted.specs.declared.common.Choice.TheVariants.{Shift, Reduction, Refusal}
 use Rattle.ly_accepted.specs.declared.common.Common.{Common}
 use Rattle.ly_accepted.specs.declared.common.Key.{Key}
-use Rattle.ly_accepted.specs.contracts.common.AnswerPartialEq.TheImpl as answers
+use Rattle.ly_accepted.specs.contracts.common.ExampleKindPartialEq.TheImpl as answers
 use Rattle.ly_accepted.specs.contracts.common.ChoicePartialEq.TheImpl as choices
 use Rattle.ly_accepted.specs.contracts.common.CommonPartialEq.TheImpl as commons
 use Rattle.ly_accepted.specs.contracts.common.KeyPartialEq.TheImpl as keys
@@ -25,7 +25,7 @@ use Rattle.ly_accepted.specs.contracts.common.KeyPartialEq.TheImpl as keys
 abbrev same_flag : Bool → Bool → Bool
 same_flag = beq
 
-abbrev same_answer : Answer → Answer → Bool
+abbrev same_answer : ExampleKind → ExampleKind → Bool
 same_answer a b = (answers.eq-value).it a b
 
 abbrev same_choice : Choice → Choice → Bool
@@ -47,7 +47,7 @@ flag_self : (a : Bool) → same_flag a a ≡ true
 flag_self true = refl
 flag_self false = refl
 
-answer_same : (a b : Answer) → same_answer a b ≡ true → a ≡ b
+answer_same : (a b : ExampleKind) → same_answer a b ≡ true → a ≡ b
 answer_same At At e = refl
 answer_same Merged Merged e = refl
 answer_same Unknown Unknown e = refl
@@ -58,18 +58,18 @@ answer_same Merged Unknown e = absurd (cc)
 answer_same Unknown At e = absurd (cc)
 answer_same Unknown Merged e = absurd (cc)
 
-answer_self : (a : Answer) → same_answer a a ≡ true
+answer_self : (a : ExampleKind) → same_answer a a ≡ true
 answer_self At = refl
 answer_self Merged = refl
 answer_self Unknown = refl
 
-maybe_same : (a b : Option Answer) → option_eq same_answer a b ≡ true → a ≡ b
+maybe_same : (a b : Option ExampleKind) → option_eq same_answer a b ≡ true → a ≡ b
 maybe_same None None e = refl
 maybe_same (Some a) (Some b) e = ap Some (answer_same a b e)
 maybe_same None (Some b) e = absurd (cc)
 maybe_same (Some a) None e = absurd (cc)
 
-maybe_self : (a : Option Answer) → option_eq same_answer a a ≡ true
+maybe_self : (a : Option ExampleKind) → option_eq same_answer a a ≡ true
 maybe_self None = refl
 maybe_self (Some a) = answer_self a
 

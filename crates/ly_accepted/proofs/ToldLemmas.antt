@@ -13,10 +13,10 @@ use Rattle.ly_resolve.specs.Resolved.{Resolved}
 use Rattle.ly_resolve.specs.Values.{conflict_from, IsInside}
 use Rattle.ly_resolve.specs.declared.conflict.Conflict.{Conflict}
 use Rattle.ly_accepted.specs.declared.groups.Group.{Group}
-use Rattle.ly_accepted.specs.declared.told.Told.{Told}
+use Rattle.ly_accepted.specs.declared.group_report.GroupReport.{GroupReport}
 use Rattle.ly_accepted.specs.Groups.{AreGroups, IsConflictAt, IsGroup}
 use Rattle.ly_accepted.specs.Private.Grouping.{IsAt}
-use Rattle.ly_accepted.specs.Told.{AreTold, IsTold, most_told}
+use Rattle.ly_accepted.specs.GroupReport.{AreGroupReports, IsGroupReport, most_told}
 use Rattle.ly_accepted.proofs.GroupLemmas.{pushed_at}
 use Rattle.ly_accepted.proofs.GroupsLemmas.{at_index}
 
@@ -83,12 +83,12 @@ module _ (r : Resolved) (groups items : List Group) (same : items ≡ take most_
       (taken_at most_told groups p g (subst (λ xs. slice_get xs p ≡ Some g) same at)))
 
   -- one group more is told
-  pub told_more : (n : ℕ) (old new : List Told) (g : Group) (t : Told) → slice_get items n ≡ Some g
-      → IsTold r g.conflicts.items t → new ≡ old ++ t ∷ [] → length old ≡ n
-      → ((p : ℕ) (h : Group) (u : Told) → slice_get items p ≡ Some h → slice_get old p ≡ Some u
-      → IsTold r h.conflicts.items u)
-      → (length new ≡ n + 1) × ((p : ℕ) (h : Group) (u : Told) → slice_get items p ≡ Some h → slice_get new p ≡ Some u
-      → IsTold r h.conflicts.items u)
+  pub told_more : (n : ℕ) (old new : List GroupReport) (g : Group) (t : GroupReport) → slice_get items n ≡ Some g
+      → IsGroupReport r g.conflicts.items t → new ≡ old ++ t ∷ [] → length old ≡ n
+      → ((p : ℕ) (h : Group) (u : GroupReport) → slice_get items p ≡ Some h → slice_get old p ≡ Some u
+      → IsGroupReport r h.conflicts.items u)
+      → (length new ≡ n + 1) × ((p : ℕ) (h : Group) (u : GroupReport) → slice_get items p ≡ Some h → slice_get new p ≡ Some u
+      → IsGroupReport r h.conflicts.items u)
   told_more n old new g t here is pushed count before = (
     ap length pushed ∙ length-append old (t ∷ []) ∙ ap (λ m. m + 1) count,
     λ p h u at said. elim (pushed_at old t p u (subst (λ ts. slice_get ts p ≡ Some u) pushed said)) [
@@ -96,14 +96,14 @@ module _ (r : Resolved) (groups items : List Group) (same : items ≡ take most_
       | inr last ↦
           let group : g ≡ h
           = same_Some g h (sym here ∙ subst (λ q. slice_get items q ≡ Some h) (last.0 ∙ count) at) in
-          subst (IsTold r h.conflicts.items) last.1 (subst (λ x. IsTold r x.conflicts.items t) group is)
+          subst (IsGroupReport r h.conflicts.items) last.1 (subst (λ x. IsGroupReport r x.conflicts.items t) group is)
     ],
   )
 
   -- all are told
-  pub told_all : (n : ℕ) (told : List Told) → length told ≡ n → n ≡ length items
-      → ((p : ℕ) (h : Group) (u : Told) → slice_get items p ≡ Some h → slice_get told p ≡ Some u
-      → IsTold r h.conflicts.items u) → AreTold r groups told
+  pub told_all : (n : ℕ) (told : List GroupReport) → length told ≡ n → n ≡ length items
+      → ((p : ℕ) (h : Group) (u : GroupReport) → slice_get items p ≡ Some h → slice_get told p ≡ Some u
+      → IsGroupReport r h.conflicts.items u) → AreGroupReports r groups told
   told_all n told count end each = record {
     count = count ∙ end ∙ ap length same ∙ length-take most_told groups;
     each = λ p g t at said. each p g t

@@ -3,13 +3,13 @@ use Rattle.std.specs.Prelude.{◌≡◌, ◌≢◌, ◌<◌, ℕ, List, Option, 
 use Rattle.ly_lr0.specs.Automaton.{Lr0Automaton}
 use Rattle.ly_resolve.specs.Conflicts.{Conflict, reduce_reduce}
 use Rattle.ly_resolve.specs.Resolved.{Resolved}
-use Rattle.ly_examples.specs.Demands.{HasMoreDemands}
-use Rattle.ly_examples.specs.Examples.{IsAnswer, IsExample}
+use Rattle.ly_counterexamples.specs.Demands.{HasMoreDemands}
+use Rattle.ly_counterexamples.specs.Examples.{IsSearchResult, IsExample}
 use Rattle.ly_join.specs.Grammar.{Symbol}
-use Rattle.ly_examples.specs.declared.example.Example.{Example}
-use Rattle.ly_examples.specs.declared.example.Example.TheVariants.{At, Merged, Unknown}
-use Rattle.ly_accepted.specs.declared.common.Answer.{Answer}
-use Rattle.ly_accepted.specs.declared.common.Answer.TheVariants as answer
+use Rattle.ly_counterexamples.specs.declared.example.Example.{Example}
+use Rattle.ly_counterexamples.specs.declared.example.Example.TheVariants.{At, Merged, Unknown}
+use Rattle.ly_accepted.specs.declared.common.ExampleKind.{ExampleKind}
+use Rattle.ly_accepted.specs.declared.common.ExampleKind.TheVariants as answer
 use Rattle.ly_accepted.specs.declared.groups.Group.{Group}
 
 -- the greatest number of demands that a search for a counterexample visits
@@ -21,14 +21,14 @@ abbrev pub DifferInTerminal : Conflict → Conflict → Type 0
 DifferInTerminal c d = (c.prefix ≡ d.prefix) × (c.kind ≡ d.kind) × (c.rule ≡ d.rule) × (c.choice ≡ d.choice)
 
 -- the result of a search for a counterexample; none if no search was made
-abbrev pub answer_from : Option Example → Option Answer
+abbrev pub answer_from : Option Example → Option ExampleKind
 answer_from None = None
 answer_from (Some (At string)) = Some answer.At
 answer_from (Some Merged) = Some answer.Merged
 answer_from (Some Unknown) = Some answer.Unknown
 
 -- The result is true: the conflict has a counterexample, or it has none, or it has more demands than are visited.
-abbrev pub IsTrueOf : Lr0Automaton → Conflict → Option Answer → Type 0
+abbrev pub IsTrueOf : Lr0Automaton → Conflict → Option ExampleKind → Type 0
 IsTrueOf M c None = Unit {0}
 IsTrueOf M c (Some answer.At) = (g : List Symbol) × IsExample M.grammar c g
 IsTrueOf M c (Some answer.Merged) = (g : List Symbol) → IsExample M.grammar c g → ⊥
@@ -46,7 +46,7 @@ pub record IsGroup (r : Resolved) (g : Group) : Type 0 where
   pub rising : AllPairs (λ i j. i < j) g.conflicts.items
   pub conflict : Conflict
   pub is_first : IsConflictAt r first conflict
-  pub example : IfSome g.example (IsAnswer r.automaton conflict most_demands)
+  pub example : IfSome g.example (IsSearchResult r.automaton conflict most_demands)
   pub alike : (i : ℕ) → Contains g.conflicts.items i → (c : Conflict) × IsConflictAt r i c × DifferInTerminal conflict c
       × (c.kind ≡ reduce_reduce → IsTrueOf r.automaton c (answer_from g.example))
 

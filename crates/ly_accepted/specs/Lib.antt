@@ -1,4 +1,4 @@
 pub mod Findings
 pub mod Groups
 pub mod Private
-pub mod Told
+pub mod GroupReport

@@ -1,10 +1,10 @@
 //! Searches for an ambiguous sentence: a sentence with two trees that take the two actions of a conflict. The search
 //! goes outwards from the conflict point (in the manner of Isradisaikul and Myers 2015). Two partial parses advance
 //! over the same tokens and get enclosing rules, until both derive the same nonterminal from the same tokens. The
-//! search isn't proved. `ly_examples` checks each sentence before it is printed.
+//! search isn't proved. `ly_counterexamples` checks each sentence before it is printed.
 ghost use Rattle.std.specs.Prelude.{◌≡◌, IfOk};
 ghost use Rattle.ly_resolve.specs.Values.{conflict_from, IsInside};
-ghost use Rattle.ly_accepted.specs.Told.{IsFoundIn};
+ghost use Rattle.ly_accepted.specs.GroupReport.{IsFoundIn};
 
 use crate::bodies::{behind_dot, body_of};
 use crate::cores::Cores;
@@ -15,7 +15,7 @@ use crate::reading::Reading;
 use crate::ways::Ways;
 use crate::yields::{Derived, Yields};
 use ly_base::{OutOfMemory, StateNo, Sym};
-use ly_examples::{Examples, Patience};
+use ly_counterexamples::{Budget, Examples};
 use ly_join::{Grammar, Symbol};
 use ly_lr0::{Item, Lr0};
 use ly_resolve::{Action, Conflict, ConflictKind};
@@ -58,7 +58,7 @@ pub(crate) struct Finder<'a> {
     /// The number of steps that are left.
     steps: usize,
     /// The budget that is left for searches for counterexamples.
-    pub(crate) patience: Patience,
+    pub(crate) budget: Budget,
 }
 
 impl<'a> Finder<'a> {
@@ -67,7 +67,7 @@ impl<'a> Finder<'a> {
         examples: &'a Examples<'a>,
         cores: &'a Cores<'a>,
         yields: &'a Yields,
-        patience: Patience,
+        budget: Budget,
     ) -> Finder<'a>
         ensures { result.examples.now ≡ examples.now }
     {
@@ -78,7 +78,7 @@ impl<'a> Finder<'a> {
             grammar: examples.resolved().spec().grammar(),
             yields,
             steps: STEPS,
-            patience,
+            budget,
         }
     }
 

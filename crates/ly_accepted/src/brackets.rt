@@ -2,11 +2,11 @@
 //! one's body gets none, since chains of such rules are long in real grammars and carry no information.
 use crate::bodies::{behind_dot, body_of, rest_of};
 use crate::cores::END;
-use crate::cut::say_left_out;
+use crate::cut::write_left_out;
 use ly_base::{OutOfMemory, Sym};
 use ly_join::{Spec, Symbol};
 use ly_lr0::Item;
-use ly_page::Page;
+use ly_text_buffer::TextBuffer;
 use std::alloc::{AllocError, Global};
 
 /// How trees and partially parsed rules are printed: with brackets around rules that have more than one symbol, or with
@@ -52,9 +52,9 @@ struct Side {
 /// then a dot and what follows the dot in each rule, from the innermost one on. For an empty path it prints nothing. If
 /// one side of the dot has many symbols, those in the middle are only counted, and brackets that begin there aren't
 /// printed.
-pub(crate) fn say_way(
+pub(crate) fn write_way(
     alloc: Global,
-    page: &mut Page,
+    buffer: &mut TextBuffer,
     spec: &Spec,
     way: &[Item],
     style: Style,
@@ -82,10 +82,10 @@ pub(crate) fn say_way(
             }
         }
     }
-    let opened = side.say(page, spec);
-    page.say(if opened { b"." } else { b" ." });
+    let opened = side.write(buffer, spec);
+    buffer.push(if opened { b"." } else { b" ." });
     let rests = rests_of(alloc, spec, &under, side.symbols, style)?;
-    rests.say(page, spec);
+    rests.write(buffer, spec);
     Ok(())
 }
 
@@ -166,19 +166,19 @@ impl Side {
 
     /// Prints the elements, with a space before each symbol and bracket that isn't first in a bracket. Returns whether
     /// the last element printed is the start of a bracket.
-    fn say(&self, page: &mut Page, spec: &Spec) -> bool {
+    fn write(&self, buffer: &mut TextBuffer, spec: &Spec) -> bool {
         let (mut behind, mut opened) = (0, false);
         for piece in &self.pieces {
             let said = is_said(behind, self.symbols);
             if let Piece::Symbol(_) = piece {
                 if behind == END && !said {
-                    say_left_out(page, self.symbols.saturating_sub(2 * END));
+                    write_left_out(buffer, self.symbols.saturating_sub(2 * END));
                     opened = false;
                 }
                 behind = behind.saturating_add(1);
             }
             if said {
-                opened = say_piece(page, spec, *piece, opened);
+                opened = write_piece(buffer, spec, *piece, opened);
             }
         }
         opened
@@ -186,19 +186,19 @@ impl Side {
 }
 
 /// Prints an element. `opened` is whether the last one was the start of a bracket. Returns whether this one is.
-fn say_piece(page: &mut Page, spec: &Spec, piece: Piece, opened: bool) -> bool {
+fn write_piece(buffer: &mut TextBuffer, spec: &Spec, piece: Piece, opened: bool) -> bool {
     if let Piece::Close = piece {
-        page.say(b"]");
+        buffer.push(b"]");
         return false;
     }
-    page.say(if opened { b"" } else { b" " });
+    buffer.push(if opened { b"" } else { b" " });
     match piece {
-        Piece::Symbol(symbol) => page.say_symbol(spec, symbol),
+        Piece::Symbol(symbol) => buffer.push_symbol(spec, symbol),
         Piece::Open(left) => {
             if let Some(left) = left {
-                page.say_symbol(spec, Symbol::Nonterminal(left));
+                buffer.push_symbol(spec, Symbol::Nonterminal(left));
             }
-            page.say(b"[");
+            buffer.push(b"[");
         }
         Piece::Close => {}
     }

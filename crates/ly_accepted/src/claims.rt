@@ -3,7 +3,7 @@ use crate::bodies::behind_dot;
 use crate::cores::Cores;
 use indexmap::{IndexMap, IndexSet};
 use ly_base::{OutOfMemory, StateNo, Sym};
-use ly_examples::Claim;
+use ly_counterexamples::Claim;
 use ly_join::Symbol;
 use ly_lr0::Item;
 use std::alloc::{AllocError, Global};

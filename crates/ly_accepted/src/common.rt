@@ -4,7 +4,7 @@ ghost use Rattle.ly_accepted.specs.Groups.{answer_from};
 ghost use Rattle.ly_accepted.specs.Private.Keys.{choice_from, common_from, key_from};
 
 use indexmap::IndexSet;
-use ly_examples::Example;
+use ly_counterexamples::Example;
 use ly_resolve::{Action, Conflict, ConflictKind};
 use std::alloc::{AllocError, Global};
 use std::marker::Model;
@@ -35,7 +35,7 @@ pub(crate) struct Common {
 
 /// The result of a search for a counterexample.
 #[derive(Clone, Copy, PartialEq, Eq, Hash)]
-pub(crate) enum Answer {
+pub(crate) enum ExampleKind {
     /// There is one.
     At,
     /// There is none: merging states makes the conflict.
@@ -51,7 +51,7 @@ pub(crate) struct Key {
     pub(crate) common: Common,
     /// The result of the search for a counterexample. `None` for shift/reduce conflicts: these always have one, whether
     /// it was found or not.
-    pub(crate) answer: Option<Answer>,
+    pub(crate) answer: Option<ExampleKind>,
 }
 
 impl Common {
@@ -95,13 +95,13 @@ fn choice_of(action: Action) -> Choice
 }
 
 /// The result of a search for a counterexample, as part of a key.
-fn answer_of(example: &Option<Example>) -> Option<Answer>
+fn answer_of(example: &Option<Example>) -> Option<ExampleKind>
     ensures { result ≡ answer_from example.now }
 {
     match example {
-        Some(Example::At(_)) => Some(Answer::At),
-        Some(Example::Merged) => Some(Answer::Merged),
-        Some(Example::Unknown) => Some(Answer::Unknown),
+        Some(Example::At(_)) => Some(ExampleKind::At),
+        Some(Example::Merged) => Some(ExampleKind::Merged),
+        Some(Example::Unknown) => Some(ExampleKind::Unknown),
         None => None,
     }
 }

@@ -1,241 +1,252 @@
 //! Groups of conflicts as JSON.
 use crate::ambiguity::Ambiguity;
 use crate::cut::ends;
-use crate::headings::{has_reason, say_reason};
+use crate::group_report::{GroupReport, Readings, Shown, Spot};
+use crate::headings::{has_reason, write_reason};
 use crate::places::Places;
-use crate::surveying::Accepted;
-use crate::told::{Readings, Shown, Spot, Told};
+use crate::surveying::Analysis;
 use crate::trees::told_apart;
 use crate::ways::{Ways, drawn_ways};
 use ly_base::{OutOfMemory, RuleNo, Sym};
 use ly_join::{Spec, Symbol};
-use ly_page::Page;
 use ly_resolve::{Action, ConflictKind};
+use ly_text_buffer::TextBuffer;
 use std::alloc::Global;
 
 /// Prints a group of conflicts as an object.
-pub(crate) fn say_conflict(
+pub(crate) fn write_conflict(
     alloc: Global,
-    page: &mut Page,
-    files: &Accepted<'_>,
+    buffer: &mut TextBuffer,
+    files: &Analysis<'_>,
     places: &Places,
-    told: &Told<'_>,
+    told: &GroupReport<'_>,
 ) -> Result<(), OutOfMemory> {
     let (spec, conflict) = (files.spec, &told.conflict);
-    page.say(b"{\"state\":");
-    page.say_number(conflict.state.0 as u64);
-    page.say_json_key(b"after");
+    buffer.push(b"{\"state\":");
+    buffer.push_number(conflict.state.0 as u64);
+    buffer.push_json_key(b"after");
     let prefix = &told.prefix;
-    say_row(page, spec, &prefix.front, prefix.left_out, &prefix.back);
-    page.say_json_key(b"before");
-    say_terminals(page, spec, &told.terminals);
-    page.say(match conflict.kind {
+    write_row(buffer, spec, &prefix.front, prefix.left_out, &prefix.back);
+    buffer.push_json_key(b"before");
+    write_terminals(buffer, spec, &told.terminals);
+    buffer.push(match conflict.kind {
         ConflictKind::ShiftReduce => b",\"kind\":\"shift/reduce\"".as_slice(),
         ConflictKind::ReduceReduce => b",\"kind\":\"reduce/reduce\"",
     });
-    page.say(match conflict.choice {
+    buffer.push(match conflict.choice {
         Action::Shift => b",\"taken\":\"shift\"".as_slice(),
         Action::Reduce(_) => b",\"taken\":\"rule\"",
         Action::Error => b",\"taken\":\"nothing\"",
     });
-    say_rules(page, files, places, told);
-    page.say_json_key(b"reason");
+    write_rules(buffer, files, places, told);
+    buffer.push_json_key(b"reason");
     if has_reason(conflict) {
-        let mut words = page.beside();
-        say_reason(&mut words, spec, conflict, told.terminals.len());
-        page.say_json_page(words);
+        let mut words = buffer.beside();
+        write_reason(&mut words, spec, conflict, told.terminals.len());
+        buffer.push_json_page(words);
     } else {
-        page.say(b"null");
+        buffer.push(b"null");
     }
-    say_shown(alloc, page, spec, told)?;
-    page.say(b"}");
+    write_shown(alloc, buffer, spec, told)?;
+    buffer.push(b"}");
     Ok(())
 }
 
 /// Prints the rules of a conflict: first the one that is chosen, or that is the alternative, if there is one.
-fn say_rules(page: &mut Page, files: &Accepted<'_>, places: &Places, told: &Told<'_>) {
-    page.say_json_key(b"rules");
-    page.say(b"[");
+fn write_rules(
+    buffer: &mut TextBuffer,
+    files: &Analysis<'_>,
+    places: &Places,
+    told: &GroupReport<'_>,
+) {
+    buffer.push_json_key(b"rules");
+    buffer.push(b"[");
     if let Action::Reduce(rule) = told.conflict.choice {
-        say_rule(page, files, places, rule);
-        page.say(b",");
+        write_rule(buffer, files, places, rule);
+        buffer.push(b",");
     }
-    say_rule(page, files, places, told.conflict.rule);
-    page.say(b"]");
+    write_rule(buffer, files, places, told.conflict.rule);
+    buffer.push(b"]");
 }
 
 /// Prints a rule with its number and location.
-fn say_rule(page: &mut Page, files: &Accepted<'_>, places: &Places, rule: RuleNo) {
+fn write_rule(buffer: &mut TextBuffer, files: &Analysis<'_>, places: &Places, rule: RuleNo) {
     let rule = rule.0 as usize;
     let at = places.location_of_rule(rule);
-    page.say(b"{\"number\":");
-    page.say_number(rule as u64);
-    page.say_json_key(b"file");
-    page.say_json(files.yacc.name.as_bytes());
-    page.say_json_number(b"line", at.line);
-    page.say_json_number(b"column", at.column);
-    page.say_json_key(b"text");
-    let mut words = page.beside();
-    words.say_rule(files.spec, rule, None);
-    page.say_json_page(words);
-    page.say(b"}");
+    buffer.push(b"{\"number\":");
+    buffer.push_number(rule as u64);
+    buffer.push_json_key(b"file");
+    buffer.push_json(files.yacc.name.as_bytes());
+    buffer.push_json_number(b"line", at.line);
+    buffer.push_json_number(b"column", at.column);
+    buffer.push_json_key(b"text");
+    let mut words = buffer.beside();
+    words.push_rule(files.spec, rule, None);
+    buffer.push_json_page(words);
+    buffer.push(b"}");
 }
 
 /// Prints how a conflict arises: the result of the search for a counterexample, the counterexample and its tokens,
 /// whether the parser gets there, both paths, an ambiguous sentence, and its trees.
-fn say_shown(
+fn write_shown(
     alloc: Global,
-    page: &mut Page,
+    buffer: &mut TextBuffer,
     spec: &Spec,
-    told: &Told<'_>,
+    told: &GroupReport<'_>,
 ) -> Result<(), OutOfMemory> {
-    page.say_json_key(b"search");
+    buffer.push_json_key(b"search");
     match &told.shown {
         Shown::Unsought => {
-            page.say(b"\"unsought\"");
-            say_no_spot(page);
-            say_ways(alloc, page, spec, None)?;
-            say_sentence(alloc, page, spec, None)
+            buffer.push(b"\"unsought\"");
+            write_no_spot(buffer);
+            write_ways(alloc, buffer, spec, None)?;
+            write_sentence(alloc, buffer, spec, None)
         }
         Shown::At(spot) => {
-            page.say(b"\"found\"");
-            say_spot(page, spec, spot);
+            buffer.push(b"\"found\"");
+            write_spot(buffer, spec, spot);
             match &spot.readings {
                 Readings::Same => {
-                    say_ways(alloc, page, spec, None)?;
-                    say_sentence(alloc, page, spec, None)
+                    write_ways(alloc, buffer, spec, None)?;
+                    write_sentence(alloc, buffer, spec, None)
                 }
                 Readings::Ways(ways, found) => {
-                    say_ways(alloc, page, spec, Some(ways))?;
-                    say_sentence(alloc, page, spec, found.as_ref())
+                    write_ways(alloc, buffer, spec, Some(ways))?;
+                    write_sentence(alloc, buffer, spec, found.as_ref())
                 }
             }
         }
         Shown::Merged(ways) => {
-            page.say(b"\"merged\"");
-            say_no_spot(page);
-            say_ways(alloc, page, spec, ways.as_ref())?;
-            say_sentence(alloc, page, spec, None)
+            buffer.push(b"\"merged\"");
+            write_no_spot(buffer);
+            write_ways(alloc, buffer, spec, ways.as_ref())?;
+            write_sentence(alloc, buffer, spec, None)
         }
         Shown::Unknown(found) => {
-            page.say(b"\"ended\"");
-            say_no_spot(page);
-            say_ways(alloc, page, spec, None)?;
-            say_sentence(alloc, page, spec, found.as_ref())
+            buffer.push(b"\"ended\"");
+            write_no_spot(buffer);
+            write_ways(alloc, buffer, spec, None)?;
+            write_sentence(alloc, buffer, spec, found.as_ref())
         }
     }
 }
 
 /// Prints that there is no counterexample.
-fn say_no_spot(page: &mut Page) {
-    page.say(b",\"example\":null,\"tokens\":null,\"met\":null");
+fn write_no_spot(buffer: &mut TextBuffer) {
+    buffer.push(b",\"example\":null,\"tokens\":null,\"met\":null");
 }
 
 /// Prints a counterexample, its tokens if they are known, and whether the parser gets there on them.
-fn say_spot(page: &mut Page, spec: &Spec, spot: &Spot<'_>) {
+fn write_spot(buffer: &mut TextBuffer, spec: &Spec, spot: &Spot<'_>) {
     let (front, left_out, back) = ends(spot.string);
-    page.say_json_key(b"example");
-    say_row(page, spec, front, left_out, back);
-    page.say_json_key(b"tokens");
+    buffer.push_json_key(b"example");
+    write_row(buffer, spec, front, left_out, back);
+    buffer.push_json_key(b"tokens");
     if spot.derived.whole {
-        say_terminals(page, spec, &spot.derived.tokens);
-        page.say(if spot.is_met {
+        write_terminals(buffer, spec, &spot.derived.tokens);
+        buffer.push(if spot.is_met {
             b",\"met\":true".as_slice()
         } else {
             b",\"met\":false"
         });
     } else {
-        page.say(b"null,\"met\":null");
+        buffer.push(b"null,\"met\":null");
     }
 }
 
 /// Prints both paths, if they are known.
-fn say_ways(
+fn write_ways(
     alloc: Global,
-    page: &mut Page,
+    buffer: &mut TextBuffer,
     spec: &Spec,
     ways: Option<&Ways>,
 ) -> Result<(), OutOfMemory> {
-    page.say_json_key(b"ways");
+    buffer.push_json_key(b"ways");
     match ways {
         Some(ways) => {
             let (one, other) = drawn_ways(alloc, spec, ways)?;
-            say_both(page, &one, &other);
+            write_both(buffer, &one, &other);
         }
-        None => page.say(b"null"),
+        None => buffer.push(b"null"),
     }
     Ok(())
 }
 
 /// Prints a sentence with two trees, if one is known, and its trees.
-fn say_sentence(
+fn write_sentence(
     alloc: Global,
-    page: &mut Page,
+    buffer: &mut TextBuffer,
     spec: &Spec,
     found: Option<&Ambiguity>,
 ) -> Result<(), OutOfMemory> {
-    page.say_json_key(b"sentence");
+    buffer.push_json_key(b"sentence");
     match found {
         Some(ambiguity) => {
-            say_terminals(page, spec, &ambiguity.sentence);
+            write_terminals(buffer, spec, &ambiguity.sentence);
             let (one, other) = told_apart(alloc, spec, ambiguity)?;
-            page.say_json_key(b"trees");
-            say_both(page, &one, &other);
+            buffer.push_json_key(b"trees");
+            write_both(buffer, &one, &other);
         }
-        None => page.say(b"null,\"trees\":null"),
+        None => buffer.push(b"null,\"trees\":null"),
     }
     Ok(())
 }
 
 /// Prints two drawings as a list, each without its first space.
-fn say_both(page: &mut Page, one: &[u8], other: &[u8]) {
-    page.say(b"[");
-    page.say_json(one.strip_prefix(b" ").unwrap_or(one));
-    page.say(b",");
-    page.say_json(other.strip_prefix(b" ").unwrap_or(other));
-    page.say(b"]");
+fn write_both(buffer: &mut TextBuffer, one: &[u8], other: &[u8]) {
+    buffer.push(b"[");
+    buffer.push_json(one.strip_prefix(b" ").unwrap_or(one));
+    buffer.push(b",");
+    buffer.push_json(other.strip_prefix(b" ").unwrap_or(other));
+    buffer.push(b"]");
 }
 
 /// Prints the two ends of a row of symbols as a list. If symbols between them are left out, their number is an element.
-fn say_row(page: &mut Page, spec: &Spec, front: &[Symbol], left_out: usize, back: &[Symbol]) {
-    page.say(b"[");
+fn write_row(
+    buffer: &mut TextBuffer,
+    spec: &Spec,
+    front: &[Symbol],
+    left_out: usize,
+    back: &[Symbol],
+) {
+    buffer.push(b"[");
     for (place, symbol) in front.iter().enumerate() {
-        page.say(if place > 0 { b"," } else { b"" });
-        say_symbol(page, spec, *symbol);
+        buffer.push(if place > 0 { b"," } else { b"" });
+        write_symbol(buffer, spec, *symbol);
     }
     if left_out > 0 {
-        page.say(b",");
-        page.say_number(left_out as u64);
+        buffer.push(b",");
+        buffer.push_number(left_out as u64);
     }
     for symbol in back {
-        page.say(b",");
-        say_symbol(page, spec, *symbol);
+        buffer.push(b",");
+        write_symbol(buffer, spec, *symbol);
     }
-    page.say(b"]");
+    buffer.push(b"]");
 }
 
 /// Prints terminals as a list. If symbols in the middle of a long one are left out, their number is an element.
-fn say_terminals(page: &mut Page, spec: &Spec, terminals: &[Sym]) {
+fn write_terminals(buffer: &mut TextBuffer, spec: &Spec, terminals: &[Sym]) {
     let (front, left_out, back) = ends(terminals);
-    page.say(b"[");
+    buffer.push(b"[");
     for (place, terminal) in front.iter().enumerate() {
-        page.say(if place > 0 { b"," } else { b"" });
-        say_symbol(page, spec, Symbol::Terminal(*terminal));
+        buffer.push(if place > 0 { b"," } else { b"" });
+        write_symbol(buffer, spec, Symbol::Terminal(*terminal));
     }
     if left_out > 0 {
-        page.say(b",");
-        page.say_number(left_out as u64);
+        buffer.push(b",");
+        buffer.push_number(left_out as u64);
     }
     for terminal in back {
-        page.say(b",");
-        say_symbol(page, spec, Symbol::Terminal(*terminal));
+        buffer.push(b",");
+        write_symbol(buffer, spec, Symbol::Terminal(*terminal));
     }
-    page.say(b"]");
+    buffer.push(b"]");
 }
 
 /// Prints the name of a symbol as a string.
-fn say_symbol(page: &mut Page, spec: &Spec, symbol: Symbol) {
-    let mut name = page.beside();
-    name.say_symbol(spec, symbol);
-    page.say_json_page(name);
+fn write_symbol(buffer: &mut TextBuffer, spec: &Spec, symbol: Symbol) {
+    let mut name = buffer.beside();
+    name.push_symbol(spec, symbol);
+    buffer.push_json_page(name);
 }

@@ -5,26 +5,26 @@ ghost use Rattle.ly_resolve.specs.Conflicts as spec;
 ghost use Rattle.ly_resolve.specs.Values.{conflict_from, IsInside};
 ghost use Rattle.ly_accepted.specs.Groups.{AreGroups, IsGroup};
 ghost use Rattle.ly_accepted.specs.Private.Grouping.{IsAt, IsSought};
-ghost use Rattle.ly_accepted.specs.Told.{AreReadings, AreTerminalsOf, AreTold, IsShown, IsTold};
+ghost use Rattle.ly_accepted.specs.GroupReport.{AreReadings, AreTerminalsOf, AreGroupReports, IsShown, IsGroupReport};
 
 use crate::ambiguity::Finder;
-use crate::conflict_json::say_conflict;
-use crate::conflict_words::{say_told, say_untold};
+use crate::conflict_json::write_conflict;
+use crate::conflict_messages::{write_told, write_untold};
 use crate::cores::Cores;
-use crate::cures::{Cure, best_cure, say_cure};
+use crate::group_report::{GroupReport, Readings, Shown, Spot};
 use crate::groups::{BOUND, Group, TOLD, groups_of};
 use crate::meeting::is_met;
 use crate::places::Places;
-use crate::surveying::{Accepted, Wish, first_of, say_numbered};
-use crate::told::{Readings, Shown, Spot, Told};
+use crate::suggestions::{Suggestion, best_suggestion, write_suggestion};
+use crate::surveying::{Analysis, Options, first_of, write_numbered};
 use crate::ways::Drawn;
 use crate::yields::Yields;
 use ly_base::{OutOfMemory, Sym};
-use ly_examples::{Example, Examples, Patience};
+use ly_counterexamples::{Budget, Example, Examples};
 use ly_join::{Grammar, Spec, Symbol};
-use ly_page::Page;
 use ly_report::ConflictCounts;
 use ly_resolve::{Action, Conflict, ConflictKind};
+use ly_text_buffer::TextBuffer;
 use std::alloc::Global;
 
 /// The budget of all searches for counterexamples together, counted in demands and symbols after nonterminals that are
@@ -47,16 +47,16 @@ struct Teller<'a> {
 /// Prints the number of conflicts, and each conflict with a counterexample; or, for JSON, prints these as members of an
 /// object. Conflicts of one state that differ only in the terminal, and whose searches had the same result, form a
 /// group that is printed as one.
-pub(crate) fn say_conflicts(
+pub(crate) fn write_conflicts(
     alloc: Global,
-    page: &mut Page,
-    files: &Accepted<'_>,
+    buffer: &mut TextBuffer,
+    files: &Analysis<'_>,
     places: &Places,
-    wish: Wish,
+    options: Options,
 ) -> Result<(), OutOfMemory> {
     let resolved = files.resolved;
-    if !wish.json {
-        say_counts(page, ConflictCounts::of(resolved));
+    if !options.json {
+        write_counts(buffer, ConflictCounts::of(resolved));
         if resolved.conflicts().is_empty() {
             return Ok(());
         }
@@ -68,78 +68,83 @@ pub(crate) fn say_conflicts(
         yields: &yields,
         spec: files.spec,
     };
-    let mut patience = Patience::new(LOOKS);
-    let groups = groups_of(alloc, teller.examples, &mut patience)?;
-    let cure = best_cure(alloc, files.spec, resolved.conflicts(), &groups)?;
-    let told = teller.all_told(alloc, &groups, patience)?;
+    let mut budget = Budget::new(LOOKS);
+    let groups = groups_of(alloc, teller.examples, &mut budget)?;
+    let suggestion = best_suggestion(alloc, files.spec, resolved.conflicts(), &groups)?;
+    let told = teller.all_told(alloc, &groups, budget)?;
     let untold = groups.len().saturating_sub(TOLD);
-    if wish.json {
-        say_json(alloc, page, files, places, &told)?;
-        say_rest(page, files.spec, cure, untold);
+    if options.json {
+        write_json(alloc, buffer, files, places, &told)?;
+        write_rest(buffer, files.spec, suggestion, untold);
     } else {
-        if let Some(cure) = cure {
-            say_cure(page, files.spec, cure, groups.len());
+        if let Some(suggestion) = suggestion {
+            write_suggestion(buffer, files.spec, suggestion, groups.len());
         }
-        say_all(alloc, page, files, places, &told)?;
-        say_untold(page, untold);
+        write_all(alloc, buffer, files, places, &told)?;
+        write_untold(buffer, untold);
     }
     Ok(())
 }
 
 /// Prints groups of conflicts.
-fn say_all(
+fn write_all(
     alloc: Global,
-    page: &mut Page,
-    files: &Accepted<'_>,
+    buffer: &mut TextBuffer,
+    files: &Analysis<'_>,
     places: &Places,
-    groups: &[Told<'_>],
+    groups: &[GroupReport<'_>],
 ) -> Result<(), OutOfMemory> {
     for told in groups {
-        say_told(alloc, page, files, places, told)?;
+        write_told(alloc, buffer, files, places, told)?;
     }
     Ok(())
 }
 
 /// Prints groups of conflicts as a member of a JSON object.
-fn say_json(
+fn write_json(
     alloc: Global,
-    page: &mut Page,
-    files: &Accepted<'_>,
+    buffer: &mut TextBuffer,
+    files: &Analysis<'_>,
     places: &Places,
-    groups: &[Told<'_>],
+    groups: &[GroupReport<'_>],
 ) -> Result<(), OutOfMemory> {
-    page.say_json_key(b"conflicts");
-    page.say(b"[");
+    buffer.push_json_key(b"conflicts");
+    buffer.push(b"[");
     for (place, told) in groups.iter().enumerate() {
-        page.say(if place > 0 { b"," } else { b"" });
-        say_conflict(alloc, page, files, places, told)?;
+        buffer.push(if place > 0 { b"," } else { b"" });
+        write_conflict(alloc, buffer, files, places, told)?;
     }
-    page.say(b"]");
+    buffer.push(b"]");
     Ok(())
 }
 
 /// Prints the number of conflicts of each kind.
-fn say_counts(page: &mut Page, counts: ConflictCounts) {
+fn write_counts(buffer: &mut TextBuffer, counts: ConflictCounts) {
     let before = b" shift/reduce, ";
-    say_numbered(page, b"\nConflicts: ", counts.shift_reduce as u64, before);
-    say_numbered(page, b"", counts.reduce_reduce as u64, b" reduce/reduce.\n");
+    write_numbered(buffer, b"\nConflicts: ", counts.shift_reduce as u64, before);
+    write_numbered(
+        buffer,
+        b"",
+        counts.reduce_reduce as u64,
+        b" reduce/reduce.\n",
+    );
 }
 
 /// Prints as JSON the token whose precedence settles the most groups, and the number of groups that aren't printed.
-fn say_rest(page: &mut Page, spec: &Spec, cure: Option<Cure>, untold: usize) {
-    page.say_json_key(b"cure");
-    match cure {
-        Some(cure) => {
-            page.say(b"{\"token\":");
-            let mut name = page.beside();
-            name.say_terminal(spec, cure.terminal);
-            page.say_json_page(name);
-            page.say_json_number(b"groups", cure.settled as u64);
-            page.say(b"}");
+fn write_rest(buffer: &mut TextBuffer, spec: &Spec, suggestion: Option<Suggestion>, untold: usize) {
+    buffer.push_json_key(b"cure");
+    match suggestion {
+        Some(suggestion) => {
+            buffer.push(b"{\"token\":");
+            let mut name = buffer.beside();
+            name.push_terminal(spec, suggestion.terminal);
+            buffer.push_json_page(name);
+            buffer.push_json_number(b"groups", suggestion.settled as u64);
+            buffer.push(b"}");
         }
-        None => page.say(b"null"),
+        None => buffer.push(b"null"),
     }
-    page.say_json_number(b"untold", untold as u64);
+    buffer.push_json_number(b"untold", untold as u64);
 }
 
 impl Teller<'_> {
@@ -148,12 +153,12 @@ impl Teller<'_> {
         &self,
         alloc: Global,
         groups: &'g [Group],
-        patience: Patience,
-    ) -> Result<Vec<Told<'g>>, OutOfMemory>
+        budget: Budget,
+    ) -> Result<Vec<GroupReport<'g>>, OutOfMemory>
         requires { AreGroups self.now.examples.now groups.now }
-        ensures { IfOk result (λ told. AreTold self.now.examples.now groups.now told.items) }
+        ensures { IfOk result (λ told. AreGroupReports self.now.examples.now groups.now told.items) }
     {
-        let mut finder = Finder::new(self.examples, self.cores, self.yields, patience);
+        let mut finder = Finder::new(self.examples, self.cores, self.yields, budget);
         let mut all = Vec::new(alloc);
         for group in first_of(groups, TOLD) {
             all.push(self.told(alloc, group, &mut finder)?)?;
@@ -167,14 +172,14 @@ impl Teller<'_> {
         alloc: Global,
         group: &'g Group,
         finder: &mut Finder<'_>,
-    ) -> Result<Told<'g>, OutOfMemory>
+    ) -> Result<GroupReport<'g>, OutOfMemory>
         requires group { IsGroup self.now.examples.now group.now }
         requires same { finder.old.examples.now ≡ self.now.examples.now }
-        ensures told { IfOk result (IsTold self.now.examples.now group.now.conflicts.items) }
+        ensures told { IfOk result (IsGroupReport self.now.examples.now group.now.conflicts.items) }
         ensures stays { finder.new.examples ≡ finder.old.examples }
     {
         let conflict = self.conflict(group.conflicts[0]);
-        Ok(Told {
+        Ok(GroupReport {
             conflict,
             terminals: self.terminals(alloc, &group.conflicts)?,
             prefix: self.cores.prefix(alloc, conflict.state)?,
@@ -288,12 +293,12 @@ impl Teller<'_> {
         ensures shown { (c : spec.Conflict) → IfOk result (IsShown self.now.examples.now group.now c) }
         ensures stays { finder.new.examples ≡ finder.old.examples }
     {
-        let patience = &mut finder.patience;
-        if !self.examples.none_has_one(alloc, group, BOUND, patience)? {
+        let budget = &mut finder.budget;
+        if !self.examples.none_has_one(alloc, group, BOUND, budget)? {
             return Ok(Shown::Unsought);
         }
-        let one = self.examples.of_choice(alloc, conflict, BOUND, patience)?;
-        let other = self.examples.of_rule(alloc, conflict, BOUND, patience)?;
+        let one = self.examples.of_choice(alloc, conflict, BOUND, budget)?;
+        let other = self.examples.of_rule(alloc, conflict, BOUND, budget)?;
         if let (Some(one), Some(other)) = (one, other) {
             let ways = self.drawn(conflict).ways(alloc, &one, &other)?;
             return Ok(Shown::Merged(Some(ways)));

@@ -2,7 +2,7 @@
 use crate::cores::{END, Prefix};
 use ly_base::Sym;
 use ly_join::{Spec, Symbol};
-use ly_page::Page;
+use ly_text_buffer::TextBuffer;
 
 /// Splits a row into its two ends and the number of elements between them. A short row is all in the first end.
 pub(crate) fn ends<T>(row: &[T]) -> (&[T], usize, &[T]) {
@@ -16,42 +16,42 @@ pub(crate) fn ends<T>(row: &[T]) -> (&[T], usize, &[T]) {
 }
 
 /// Prints symbols, with a space before each.
-pub(crate) fn say_symbols(page: &mut Page, spec: &Spec, symbols: &[Symbol]) {
+pub(crate) fn write_symbols(buffer: &mut TextBuffer, spec: &Spec, symbols: &[Symbol]) {
     let (front, left_out, back) = ends(symbols);
-    page.say_symbols(spec, front);
-    say_left_out(page, left_out);
-    page.say_symbols(spec, back);
+    buffer.push_symbols(spec, front);
+    write_left_out(buffer, left_out);
+    buffer.push_symbols(spec, back);
 }
 
 /// Prints the string that leads to a state, with a space before each symbol.
-pub(crate) fn say_prefix(page: &mut Page, spec: &Spec, prefix: &Prefix) {
-    page.say_symbols(spec, &prefix.front);
-    say_left_out(page, prefix.left_out);
-    page.say_symbols(spec, &prefix.back);
+pub(crate) fn write_prefix(buffer: &mut TextBuffer, spec: &Spec, prefix: &Prefix) {
+    buffer.push_symbols(spec, &prefix.front);
+    write_left_out(buffer, prefix.left_out);
+    buffer.push_symbols(spec, &prefix.back);
 }
 
 /// Prints terminals, with a space before each. The middle of a long row is counted.
-pub(crate) fn say_terminals(page: &mut Page, spec: &Spec, terminals: &[Sym]) {
+pub(crate) fn write_terminals(buffer: &mut TextBuffer, spec: &Spec, terminals: &[Sym]) {
     let (front, left_out, back) = ends(terminals);
-    say_each(page, spec, front);
-    say_left_out(page, left_out);
-    say_each(page, spec, back);
+    write_each(buffer, spec, front);
+    write_left_out(buffer, left_out);
+    write_each(buffer, spec, back);
 }
 
 /// Prints all of these terminals, with a space before each.
-fn say_each(page: &mut Page, spec: &Spec, terminals: &[Sym]) {
+fn write_each(buffer: &mut TextBuffer, spec: &Spec, terminals: &[Sym]) {
     for terminal in terminals {
-        page.say(b" ");
-        page.say_terminal(spec, *terminal);
+        buffer.push(b" ");
+        buffer.push_terminal(spec, *terminal);
     }
 }
 
 /// Prints the number of symbols that are left out, if there are any.
-pub(crate) fn say_left_out(page: &mut Page, count: usize) {
+pub(crate) fn write_left_out(buffer: &mut TextBuffer, count: usize) {
     if count > 0 {
-        page.say(b" .. ");
-        say_large(page, count as u64);
-        page.say(b" more ..");
+        buffer.push(b" .. ");
+        write_large(buffer, count as u64);
+        buffer.push(b" more ..");
     }
 }
 
@@ -67,17 +67,17 @@ const THOUSANDS: [u64; 7] = [
 ];
 
 /// Prints a number, with commas between groups of three digits.
-pub(crate) fn say_large(page: &mut Page, number: u64) {
+pub(crate) fn write_large(buffer: &mut TextBuffer, number: u64) {
     let mut begun = false;
     for unit in THOUSANDS {
         let part = number.checked_div(unit).unwrap_or(0) % 1_000;
         if begun {
-            page.say(b",");
-            page.say(if part < 100 { b"0" } else { b"" });
-            page.say(if part < 10 { b"0" } else { b"" });
+            buffer.push(b",");
+            buffer.push(if part < 100 { b"0" } else { b"" });
+            buffer.push(if part < 10 { b"0" } else { b"" });
         }
         if begun || part > 0 || unit == 1 {
-            page.say_number(part);
+            buffer.push_number(part);
             begun = true;
         }
     }

@@ -4,7 +4,7 @@ use crate::claims::{Claimed, MOST, Opening, Search, item_of, with_item};
 use crate::cores::Cores;
 use crate::leading::goto_of;
 use ly_base::{OutOfMemory, StateNo, Sym};
-use ly_examples::Claim;
+use ly_counterexamples::Claim;
 use ly_grammar::Reduced;
 use ly_join::{Grammar, Symbol};
 use ly_lr0::{Item, Lr0};

@@ -1,13 +1,13 @@
 ghost use Rattle.std.specs.Prelude.{IfOk};
 ghost use Rattle.ly_accepted.specs.Findings.{IsInForm};
 
-use crate::conflicts::say_conflicts;
-use crate::doubt::Doubt;
-use crate::doubt_words::{file_of, name_of, say_kind};
+use crate::conflicts::write_conflicts;
+use crate::lint::Lint;
+use crate::lint_messages::{file_of, name_of, write_kind};
 use crate::places::Places;
-use crate::surveying::{Accepted, Findings, Wish};
+use crate::surveying::{Analysis, Findings, Options};
 use ly_base::OutOfMemory;
-use ly_page::Page;
+use ly_text_buffer::TextBuffer;
 use std::alloc::Global;
 
 /// The report on two files in text form or as JSON. As JSON it begins with whether the files are accepted and with the
@@ -23,64 +23,64 @@ pub fn text_in_form(
     if !json {
         return Ok(said);
     }
-    let mut page = Page::new(alloc);
+    let mut buffer = TextBuffer::new(alloc);
     match findings {
         Some(found) => {
-            page.say(b"{\"accepted\":true,\"counts\":{\"shift_reduce\":");
-            page.say_number(found.conflicts.shift_reduce as u64);
-            page.say(b",\"reduce_reduce\":");
-            page.say_number(found.conflicts.reduce_reduce as u64);
+            buffer.push(b"{\"accepted\":true,\"counts\":{\"shift_reduce\":");
+            buffer.push_number(found.conflicts.shift_reduce as u64);
+            buffer.push(b",\"reduce_reduce\":");
+            buffer.push_number(found.conflicts.reduce_reduce as u64);
         }
-        None => page.say(b"{\"accepted\":false,\"counts\":null"),
+        None => buffer.push(b"{\"accepted\":false,\"counts\":null"),
     }
-    page.say(&said);
-    page.finish()
+    buffer.push(&said);
+    buffer.finish()
 }
 
 /// Prints the rest of the object: the sizes of the grammar and its parser, the warnings and the conflicts.
-pub(crate) fn say_json(
+pub(crate) fn write_json(
     alloc: Global,
-    page: &mut Page,
-    files: &Accepted<'_>,
+    buffer: &mut TextBuffer,
+    files: &Analysis<'_>,
     places: &Places,
-    doubts: &[Doubt<'_>],
-    wish: Wish,
+    lints: &[Lint<'_>],
+    options: Options,
 ) -> Result<(), OutOfMemory> {
     let grammar = files.spec.grammar();
     let rules = grammar.rules().len().saturating_sub(1);
-    page.say_json_number(b"rules", rules as u64);
-    page.say_json_number(b"terminals", grammar.terminals() as u64);
-    page.say_json_number(b"nonterminals", grammar.accept().0 as u64);
-    page.say_json_number(b"states", files.resolved.lr0().states() as u64);
-    page.say(b"},\"faults\":[],\"more\":false");
-    page.say_json_key(b"doubts");
-    page.say(b"[");
-    for (place, doubt) in doubts.iter().enumerate() {
-        page.say(if place > 0 { b"," } else { b"" });
-        say_doubt(page, files, doubt);
+    buffer.push_json_number(b"rules", rules as u64);
+    buffer.push_json_number(b"terminals", grammar.terminals() as u64);
+    buffer.push_json_number(b"nonterminals", grammar.accept().0 as u64);
+    buffer.push_json_number(b"states", files.resolved.lr0().states() as u64);
+    buffer.push(b"},\"faults\":[],\"more\":false");
+    buffer.push_json_key(b"doubts");
+    buffer.push(b"[");
+    for (place, lint) in lints.iter().enumerate() {
+        buffer.push(if place > 0 { b"," } else { b"" });
+        write_lint(buffer, files, lint);
     }
-    page.say(b"]");
-    say_conflicts(alloc, page, files, places, wish)?;
-    page.say(b"}\n");
+    buffer.push(b"]");
+    write_conflicts(alloc, buffer, files, places, options)?;
+    buffer.push(b"}\n");
     Ok(())
 }
 
 /// Prints a warning as an object.
-fn say_doubt(page: &mut Page, files: &Accepted<'_>, doubt: &Doubt<'_>) {
-    page.say(b"{\"file\":");
-    page.say_json(file_of(files, doubt.side).name.as_bytes());
-    match doubt.at {
+fn write_lint(buffer: &mut TextBuffer, files: &Analysis<'_>, lint: &Lint<'_>) {
+    buffer.push(b"{\"file\":");
+    buffer.push_json(file_of(files, lint.side).name.as_bytes());
+    match lint.at {
         Some(at) => {
-            page.say_json_number(b"line", at.line);
-            page.say_json_number(b"column", at.column);
+            buffer.push_json_number(b"line", at.line);
+            buffer.push_json_number(b"column", at.column);
         }
-        None => page.say(b",\"line\":null,\"column\":null"),
+        None => buffer.push(b",\"line\":null,\"column\":null"),
     }
-    page.say_json_key(b"name");
-    page.say_json(name_of(&doubt.kind));
-    page.say_json_key(b"text");
-    let mut words = page.beside();
-    say_kind(&mut words, files, &doubt.kind);
-    page.say_json_page(words);
-    page.say(b"}");
+    buffer.push_json_key(b"name");
+    buffer.push_json(name_of(&lint.kind));
+    buffer.push_json_key(b"text");
+    let mut words = buffer.beside();
+    write_kind(&mut words, files, &lint.kind);
+    buffer.push_json_page(words);
+    buffer.push(b"}");
 }

@@ -9,7 +9,7 @@ ghost use Rattle.ly_accepted.specs.Private.Grouping.{AreGrouped, IsAt, IsJoinedB
 use crate::common::{Common, Key, Keys};
 use indexmap::IndexSet;
 use ly_base::OutOfMemory;
-use ly_examples::{Example, Examples, Patience};
+use ly_counterexamples::{Budget, Example, Examples};
 use ly_resolve::Conflict;
 use std::alloc::Global;
 
@@ -59,7 +59,7 @@ struct Allowed {
 pub(crate) fn groups_of(
     alloc: Global,
     examples: &Examples<'_>,
-    patience: &mut Patience,
+    budget: &mut Budget,
 ) -> Result<Vec<Group>, OutOfMemory>
     ensures { IfOk result (λ groups. AreGroups examples.now groups.items) }
 {
@@ -75,7 +75,7 @@ pub(crate) fn groups_of(
     for index in 0..conflicts.len() {
         let conflict = conflicts.get_near(index, &mut run).unwrap();
         let example = if groups.asks_for(&conflict) {
-            example_of(alloc, examples, &conflict, &mut allowed, patience)?
+            example_of(alloc, examples, &conflict, &mut allowed, budget)?
         } else {
             None
         };
@@ -91,17 +91,17 @@ fn example_of(
     examples: &Examples<'_>,
     conflict: &Conflict,
     allowed: &mut Allowed,
-    patience: &mut Patience,
+    budget: &mut Budget,
 ) -> Result<Option<Example>, OutOfMemory>
     requires inside { IsInside examples.now.automaton conflict.now }
     requires conflict { Contains examples.now.conflicts (conflict_from examples.now.automaton conflict.now) }
     ensures { IfOk result (IsSought examples.now conflict.now) }
 {
-    if allowed.searches == 0 || allowed.endless == 0 || patience.is_over() {
+    if allowed.searches == 0 || allowed.endless == 0 || budget.is_over() {
         return Ok(None);
     }
     allowed.searches = allowed.searches.saturating_sub(1);
-    let example = examples.of(alloc, conflict, BOUND, patience)?;
+    let example = examples.of(alloc, conflict, BOUND, budget)?;
     if let Example::Unknown = example {
         allowed.endless = allowed.endless.saturating_sub(1);
     }

@@ -1,7 +1,7 @@
 //! How a pair of partial parses grows: forward over the next symbols, and outwards by enclosing rules.
 ghost use Rattle.std.specs.Prelude.{IfOk};
 ghost use Rattle.ly_resolve.specs.Values.{conflict_from, IsInside};
-ghost use Rattle.ly_accepted.specs.Told.{IsFoundIn};
+ghost use Rattle.ly_accepted.specs.GroupReport.{IsFoundIn};
 
 use crate::ambiguity::{Ambiguity, Finder};
 use crate::bodies::{body_of, rest_of};

@@ -1,82 +1,87 @@
 //! The heading of a group of conflicts: the location, the resolution, and why precedence doesn't settle it.
-use crate::cut::say_prefix;
+use crate::cut::write_prefix;
 use crate::decided::precedence_of;
+use crate::group_report::GroupReport;
 use crate::places::Places;
-use crate::surveying::{Accepted, first_of, say_numbered};
-use crate::told::Told;
+use crate::surveying::{Analysis, first_of, write_numbered};
 use ly_base::{RuleNo, Sym};
 use ly_join::Spec;
-use ly_page::Page;
 use ly_resolve::{Action, Conflict, ConflictKind};
+use ly_text_buffer::TextBuffer;
 
 /// The greatest number of a group's terminals that are named.
 const NAMED: usize = 12;
 
 /// Prints the heading of a group of conflicts, which begins with the location of the rule that isn't chosen.
-pub(crate) fn say_heading(page: &mut Page, files: &Accepted<'_>, places: &Places, told: &Told<'_>) {
+pub(crate) fn write_heading(
+    buffer: &mut TextBuffer,
+    files: &Analysis<'_>,
+    places: &Places,
+    told: &GroupReport<'_>,
+) {
     let conflict = &told.conflict;
-    page.say(b"\n");
-    page.say_location_in(
+    buffer.push(b"\n");
+    buffer.push_location_in(
         files.yacc,
         places.location_of_rule(conflict.rule.0 as usize),
     );
-    say_place(page, files.spec, told);
-    say_before(page, files.spec, &told.terminals);
-    say_done(page, conflict);
+    write_place(buffer, files.spec, told);
+    write_before(buffer, files.spec, &told.terminals);
+    write_done(buffer, conflict);
     if let Action::Reduce(rule) = conflict.choice {
-        say_rule_of(page, files, places, rule);
+        write_rule_of(buffer, files, places, rule);
     }
-    say_rule_of(page, files, places, conflict.rule);
+    write_rule_of(buffer, files, places, conflict.rule);
     if has_reason(conflict) {
-        page.say(b"    ");
-        say_reason(page, files.spec, conflict, told.terminals.len());
-        page.say(b"\n");
+        buffer.push(b"    ");
+        write_reason(buffer, files.spec, conflict, told.terminals.len());
+        buffer.push(b"\n");
     }
 }
 
 /// Prints the location of a rule, and the rule.
-fn say_rule_of(page: &mut Page, files: &Accepted<'_>, places: &Places, rule: RuleNo) {
+fn write_rule_of(buffer: &mut TextBuffer, files: &Analysis<'_>, places: &Places, rule: RuleNo) {
     let rule = rule.0 as usize;
-    say_numbered(page, b"    Rule ", rule as u64, b" is ");
-    page.say_location_in(files.yacc, places.location_of_rule(rule));
-    page.say_rule(files.spec, rule, None);
-    page.say(b"\n");
+    write_numbered(buffer, b"    Rule ", rule as u64, b" is ");
+    buffer.push_location_in(files.yacc, places.location_of_rule(rule));
+    buffer.push_rule(files.spec, rule, None);
+    buffer.push(b"\n");
 }
 
 /// Prints the state of a group: its number and its prefix.
-fn say_place(page: &mut Page, spec: &Spec, told: &Told<'_>) {
-    say_numbered(page, b"in state ", told.conflict.state.0 as u64, b"");
+fn write_place(buffer: &mut TextBuffer, spec: &Spec, told: &GroupReport<'_>) {
+    write_numbered(buffer, b"in state ", told.conflict.state.0 as u64, b"");
     if told.prefix.front.is_empty() {
-        page.say(b", at the start");
+        buffer.push(b", at the start");
     } else {
-        page.say(b", after");
-        say_prefix(page, spec, &told.prefix);
+        buffer.push(b", after");
+        write_prefix(buffer, spec, &told.prefix);
     }
 }
 
 /// Prints the terminals of a group.
-fn say_before(page: &mut Page, spec: &Spec, terminals: &[Sym]) {
-    page.say(b", before");
+fn write_before(buffer: &mut TextBuffer, spec: &Spec, terminals: &[Sym]) {
+    buffer.push(b", before");
     for terminal in first_of(terminals, NAMED) {
-        page.say(b" ");
-        page.say_terminal(spec, *terminal);
+        buffer.push(b" ");
+        buffer.push_terminal(spec, *terminal);
     }
     if terminals.len() > NAMED {
         let more = (terminals.len() - NAMED) as u64;
-        say_numbered(page, b" and ", more, b" more");
+        write_numbered(buffer, b" and ", more, b" more");
     }
 }
 
 /// Prints the action that is taken, and the one that isn't.
-fn say_done(page: &mut Page, conflict: &Conflict) {
+fn write_done(buffer: &mut TextBuffer, conflict: &Conflict) {
     match conflict.choice {
-        Action::Shift => page.say(b": the shift is taken"),
+        Action::Shift => buffer.push(b": the shift is taken"),
         Action::Reduce(rule) => {
-            say_numbered(page, b": rule ", rule.0 as u64, b" is taken");
+            write_numbered(buffer, b": rule ", rule.0 as u64, b" is taken");
         }
-        Action::Error => page.say(b": nothing is taken"),
+        Action::Error => buffer.push(b": nothing is taken"),
     }
-    say_numbered(page, b", rule ", conflict.rule.0 as u64, b" is not.\n");
+    write_numbered(buffer, b", rule ", conflict.rule.0 as u64, b" is not.\n");
 }
 
 /// Whether a reason is printed: precedence can settle shift/reduce conflicts, except at the end of the input.
@@ -85,28 +90,33 @@ pub(crate) fn has_reason(conflict: &Conflict) -> bool {
 }
 
 /// Prints why precedence doesn't settle a shift/reduce conflict. `alike` is the size of its group.
-pub(crate) fn say_reason(page: &mut Page, spec: &Spec, conflict: &Conflict, alike: usize) {
+pub(crate) fn write_reason(
+    buffer: &mut TextBuffer,
+    spec: &Spec,
+    conflict: &Conflict,
+    alike: usize,
+) {
     if precedence_of(spec, conflict.rule.0 as usize).is_none() {
-        say_unranked(page, spec, conflict, alike);
+        write_unranked(buffer, spec, conflict, alike);
     } else if alike > 1 {
-        page.say(b"These terminals have no precedence.");
+        buffer.push(b"These terminals have no precedence.");
     } else {
-        page.say_terminal(spec, conflict.terminal);
-        page.say(b" has no precedence.");
+        buffer.push_terminal(spec, conflict.terminal);
+        buffer.push(b" has no precedence.");
     }
 }
 
 /// Prints that the rule of a conflict has no precedence, and, if the group is a single conflict, whether its terminal
 /// has one.
-fn say_unranked(page: &mut Page, spec: &Spec, conflict: &Conflict, alike: usize) {
+fn write_unranked(buffer: &mut TextBuffer, spec: &Spec, conflict: &Conflict, alike: usize) {
     let of_terminal = spec.precedences().get(conflict.terminal.0 as usize);
     if alike == 1 && !matches!(of_terminal, Some(Some(_))) {
-        say_numbered(page, b"Neither rule ", conflict.rule.0 as u64, b" nor ");
-        page.say_terminal(spec, conflict.terminal);
-        page.say(b" has a precedence.");
+        write_numbered(buffer, b"Neither rule ", conflict.rule.0 as u64, b" nor ");
+        buffer.push_terminal(spec, conflict.terminal);
+        buffer.push(b" has a precedence.");
     } else {
-        say_numbered(
-            page,
+        write_numbered(
+            buffer,
             b"Rule ",
             conflict.rule.0 as u64,
             b" has no precedence.",

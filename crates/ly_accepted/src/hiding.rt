@@ -1,7 +1,7 @@
 //! Why a rule of the lex file never matches: which rules win for its strings.
-use crate::doubt::Hiding;
 use crate::lines::RuleLines;
-use crate::surveying::Accepted;
+use crate::lint::Hiding;
+use crate::surveying::Analysis;
 use indexmap::IndexSet;
 use ly_base::{Limits, OutOfMemory};
 use ly_position::{PosFault, positions};
@@ -23,7 +23,7 @@ struct Winners {
 /// Why a rule of the lex file never matches.
 pub(crate) fn hiding_of(
     alloc: Global,
-    files: &Accepted<'_>,
+    files: &Analysis<'_>,
     lines: &RuleLines,
     rule: usize,
 ) -> Result<Hiding, OutOfMemory> {
@@ -48,7 +48,7 @@ pub(crate) fn hiding_of(
 /// The DFA of one rule alone; `None` if it is too large.
 fn scanner_of(
     alloc: Global,
-    files: &Accepted<'_>,
+    files: &Analysis<'_>,
     rule: usize,
 ) -> Result<Option<Dfa>, OutOfMemory> {
     let Some(rules) = files.file.rules.get(rule..rule.saturating_add(1)) else {

@@ -1,7 +1,7 @@
 //! The trees of two parses that have read the same tokens.
 ghost use Rattle.std.specs.Prelude.{IfOk};
 ghost use Rattle.ly_resolve.specs.Values.{conflict_from, IsInside};
-ghost use Rattle.ly_accepted.specs.Told.{IsFoundIn};
+ghost use Rattle.ly_accepted.specs.GroupReport.{IsFoundIn};
 
 use crate::ambiguity::{Ambiguity, Finder};
 use crate::bodies::{behind_dot, body_of, rest_of};
@@ -11,7 +11,7 @@ use crate::pair::Pair;
 use crate::reading::Reading;
 use crate::yields::push_reversed;
 use ly_base::{OutOfMemory, Sym};
-use ly_examples::{Claim, conflicting_sentence};
+use ly_counterexamples::{Claim, conflicting_sentence};
 use ly_join::Symbol;
 use ly_lr0::Item;
 use ly_resolve::Conflict;

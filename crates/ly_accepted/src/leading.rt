@@ -1,7 +1,7 @@
 //! The transitions of states, their predecessors, and the items before nonterminals. For a number that doesn't exist
 //! they are empty.
 use ly_base::{StateNo, Sym};
-use ly_examples::Examples;
+use ly_counterexamples::Examples;
 use ly_join::Symbol;
 use ly_lr0::{Item, Lr0};
 use std::alloc::{AllocError, Global};

@@ -1,9 +1,9 @@
 //! The report on accepted files: warnings, conflicts with counterexamples, and the numbered rules (`survey`). On
 //! request it also has the states of the scanner and of the parser, and a picture of them. Rejected files are reported
-//! by `ly_refused`.
+//! by `ly_diagnostics`.
 //!
 //! Proved: the number of conflicts (`AreFoundIn`), the grouping of conflicts (`AreGroups`), and for each group its
-//! counterexample, or that there is none (`AreTold`). The searches are those of `ly_examples`. The wording, and whether
+//! counterexample, or that there is none (`AreGroupReports`). The searches are those of `ly_counterexamples`. The wording, and whether
 //! there are warnings, is tested and not proved.
 //!
 //! Conflicts of one state that differ only in the terminal are printed as one group with the first one's
@@ -24,27 +24,28 @@ mod brackets;
 mod claims;
 mod common;
 mod conflict_json;
-mod conflict_words;
+mod conflict_messages;
 mod conflicts;
 mod cores;
-mod cures;
 mod cut;
 mod decided;
-mod doubt;
-mod doubt_words;
-mod doubts;
 mod drawing;
 mod form;
+mod group_report;
 mod groups;
 mod growing;
 mod headings;
 mod hiding;
 mod joining;
 mod leading;
-mod lex_doubts;
+mod lex_lints;
 mod lines;
+mod lint;
+mod lint_messages;
+mod lints;
 mod meeting;
 mod pair;
+mod pattern_lint_messages;
 mod patterns;
 mod picture;
 mod places;
@@ -53,13 +54,12 @@ mod reading;
 mod rules;
 mod scanner;
 mod states;
-mod surprise_words;
+mod suggestions;
 mod surveying;
-mod told;
 mod trees;
 mod ways;
 mod yields;
 
 pub use form::text_in_form;
 pub use states::Tables;
-pub use surveying::{Accepted, Explanation, Findings, Wish, survey};
+pub use surveying::{Analysis, Explanation, Findings, Options, survey};

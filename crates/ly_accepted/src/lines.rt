@@ -1,5 +1,5 @@
 //! Converts ascending offsets of a text into locations.
-use crate::surveying::Accepted;
+use crate::surveying::Analysis;
 use ly_base::Location;
 use std::alloc::{AllocError, Global};
 
@@ -67,7 +67,7 @@ pub(crate) struct RuleLines {
 
 impl RuleLines {
     /// Computes the lines of an accepted lex file.
-    pub(crate) fn of(alloc: Global, files: &Accepted<'_>) -> Result<RuleLines, AllocError> {
+    pub(crate) fn of(alloc: Global, files: &Analysis<'_>) -> Result<RuleLines, AllocError> {
         let mut counted = Lines::of(files.lex.bytes);
         let mut lines = Vec::with_capacity(alloc, files.file.rule_starts.len())?;
         for start in &files.file.rule_starts {

@@ -6,7 +6,7 @@ use crate::leading::{states_before, symbol_to};
 use crate::reading::Reading;
 use crate::yields::Yields;
 use ly_base::{StateNo, Sym};
-use ly_examples::Examples;
+use ly_counterexamples::Examples;
 use ly_join::{Grammar, Symbol};
 use ly_lr0::{Item, Lr0};
 use std::alloc::{AllocError, Global};

@@ -14,7 +14,7 @@ const MOST: usize = 200_000;
 
 /// The constructs.
 #[derive(Clone, Copy, Debug, PartialEq, Eq)]
-pub(crate) enum Surprise {
+pub(crate) enum PatternLint {
     /// A letter after a backslash that denotes a class of bytes in other tools.
     Letter(u8),
     /// `\b`, the backspace.
@@ -37,9 +37,9 @@ pub(crate) enum Surprise {
 
 /// A warning about a pattern.
 #[derive(Clone, Copy, Debug)]
-pub(crate) struct Doubtful {
+pub(crate) struct Lintful {
     /// The construct.
-    pub(crate) surprise: Surprise,
+    pub(crate) pattern_lint: PatternLint,
     /// The offset of the construct in the pattern.
     pub(crate) offset: usize,
 }
@@ -57,7 +57,7 @@ enum Stand {
 
 /// A pattern that is being checked.
 #[derive(Drop)]
-struct Doubting<'a> {
+struct Linting<'a> {
     /// The definitions of the file.
     names: &'a Names,
     /// The limits for patterns.
@@ -65,34 +65,34 @@ struct Doubting<'a> {
     /// The text of the pattern.
     text: &'a [u8],
     /// The warnings found so far.
-    found: Vec<Doubtful>,
+    found: Vec<Lintful>,
     /// The number of bytes that may still be read.
     bytes: usize,
 }
 
 /// Finds the warnings about the text of a pattern, each kind once.
-pub(crate) fn surprises(
+pub(crate) fn pattern_lints(
     alloc: Global,
     names: &Names,
     text: &[u8],
-) -> Result<Vec<Doubtful>, OutOfMemory> {
-    let mut doubting = Doubting {
+) -> Result<Vec<Lintful>, OutOfMemory> {
+    let mut linting = Linting {
         names,
         limits: Limits::version_2(),
         text: text.get(..LONGEST).unwrap_or(text),
         found: Vec::new(alloc),
         bytes: MOST,
     };
-    doubting.look(alloc)?;
-    let Doubting { found, .. } = doubting;
+    linting.look(alloc)?;
+    let Linting { found, .. } = linting;
     Ok(found)
 }
 
-impl Doubting<'_> {
+impl Linting<'_> {
     /// Checks the whole pattern.
     fn look(&mut self, alloc: Global) -> Result<(), OutOfMemory> {
         if self.text.starts_with(b"<<EOF>>") {
-            self.note(Surprise::EndOfFile, 0)?;
+            self.note(PatternLint::EndOfFile, 0)?;
         }
         for offset in 0..self.text.len() {
             self.look_at(alloc, offset)?;
@@ -105,13 +105,13 @@ impl Doubting<'_> {
         match (self.byte(offset), self.byte(offset.saturating_add(1))) {
             (Some(b'\\'), Some(letter)) => self.look_at_escape(alloc, offset, letter),
             (Some(b'*' | b'+' | b'?'), Some(b'?')) => {
-                self.note_if(alloc, Surprise::Reluctant, offset, Stand::Piece)
+                self.note_if(alloc, PatternLint::Reluctant, offset, Stand::Piece)
             }
             (Some(0xC2..=0xF4), Some(0x80..=0xBF)) => {
-                self.note_if(alloc, Surprise::ManyBytes, offset, Stand::Brackets)
+                self.note_if(alloc, PatternLint::ManyBytes, offset, Stand::Brackets)
             }
             (Some(b'{'), Some(b'0'..=b'9')) => self.look_at_interval(alloc, offset),
-            (Some(b'$'), None) => self.note_if(alloc, Surprise::LineEnd, offset, Stand::Piece),
+            (Some(b'$'), None) => self.note_if(alloc, PatternLint::LineEnd, offset, Stand::Piece),
             _ => Ok(()),
         }
     }
@@ -123,21 +123,21 @@ impl Doubting<'_> {
         offset: usize,
         letter: u8,
     ) -> Result<(), OutOfMemory> {
-        let surprise = match letter {
-            b'd' | b'w' | b's' | b'D' | b'W' | b'S' => Surprise::Letter(letter),
-            b'b' => Surprise::Backspace,
-            b'x' if self.byte(offset.saturating_add(2)) == Some(b'{') => Surprise::Braces,
-            b'u' => Surprise::Unicode,
+        let pattern_lint = match letter {
+            b'd' | b'w' | b's' | b'D' | b'W' | b'S' => PatternLint::Letter(letter),
+            b'b' => PatternLint::Backspace,
+            b'x' if self.byte(offset.saturating_add(2)) == Some(b'{') => PatternLint::Braces,
+            b'u' => PatternLint::Unicode,
             _ => return Ok(()),
         };
-        if self.has(surprise) {
+        if self.has(pattern_lint) {
             return Ok(());
         }
         match self.stand(alloc, offset)? {
-            Stand::Piece => self.note(surprise, offset),
+            Stand::Piece => self.note(pattern_lint, offset),
             Stand::Brackets if self.is_letter_in_brackets(alloc, offset, letter)? => {
-                match surprise {
-                    Surprise::Letter(_) => self.note(surprise, offset),
+                match pattern_lint {
+                    PatternLint::Letter(_) => self.note(pattern_lint, offset),
                     _ => Ok(()),
                 }
             }
@@ -162,7 +162,7 @@ impl Doubting<'_> {
     /// Checks a possible interval. It gets a warning if the pattern changes when parentheses are put around it and the
     /// last piece before it.
     fn look_at_interval(&mut self, alloc: Global, offset: usize) -> Result<(), OutOfMemory> {
-        if self.has(Surprise::Interval) || self.stand(alloc, offset)? != Stand::Piece {
+        if self.has(PatternLint::Interval) || self.stand(alloc, offset)? != Stand::Piece {
             return Ok(());
         }
         let behind = self.text.get(offset..).unwrap_or_default();
@@ -173,7 +173,7 @@ impl Doubting<'_> {
         for start in (0..offset).rev() {
             if self.stand(alloc, start)? == Stand::Piece && self.is_pattern(alloc, start, offset)? {
                 if !self.is_same(alloc, &self.parenthesised(alloc, start, end)?)? {
-                    self.note(Surprise::Interval, offset)?;
+                    self.note(PatternLint::Interval, offset)?;
                 }
                 break;
             }
@@ -267,27 +267,34 @@ impl Doubting<'_> {
     }
 
     /// Whether there is a warning about this construct.
-    fn has(&self, surprise: Surprise) -> bool {
-        self.found.iter().any(|found| found.surprise == surprise)
+    fn has(&self, pattern_lint: PatternLint) -> bool {
+        self.found
+            .iter()
+            .any(|found| found.pattern_lint == pattern_lint)
     }
 
     /// Adds a warning at an offset, if it has this kind of construct.
     fn note_if(
         &mut self,
         alloc: Global,
-        surprise: Surprise,
+        pattern_lint: PatternLint,
         offset: usize,
         wanted: Stand,
     ) -> Result<(), OutOfMemory> {
-        if self.has(surprise) || self.stand(alloc, offset)? != wanted {
+        if self.has(pattern_lint) || self.stand(alloc, offset)? != wanted {
             return Ok(());
         }
-        self.note(surprise, offset)
+        self.note(pattern_lint, offset)
     }
 
     /// Adds a warning at an offset.
-    fn note(&mut self, surprise: Surprise, offset: usize) -> Result<(), OutOfMemory> {
-        Ok(self.found.push(Doubtful { surprise, offset })?)
+    fn note(&mut self, pattern_lint: PatternLint, offset: usize) -> Result<(), OutOfMemory> {
+        Ok(
+            self.found.push(Lintful {
+                pattern_lint,
+                offset,
+            })?,
+        )
     }
 }
 

@@ -1,17 +1,17 @@
 //! The rules of the grammar, with the numbers that reports use.
 use crate::places::Places;
-use crate::surveying::{Accepted, say_numbered};
+use crate::surveying::{Analysis, write_numbered};
 use ly_base::OutOfMemory;
-use ly_page::Page;
+use ly_text_buffer::TextBuffer;
 
 /// Prints each rule with its number and its line.
-pub(crate) fn say_rules(page: &mut Page, files: &Accepted<'_>, places: &Places) {
+pub(crate) fn write_rules(buffer: &mut TextBuffer, files: &Analysis<'_>, places: &Places) {
     let spec = files.spec;
-    page.say(b"\nRules:\n");
+    buffer.push(b"\nRules:\n");
     for rule in 1..spec.grammar().rules().len() {
-        say_numbered(page, b"    ", rule as u64, b"  ");
-        page.say_line_of(files.yacc, places.location_of_rule(rule).line);
-        page.say_rule(spec, rule, None);
-        page.say(b"\n");
+        write_numbered(buffer, b"    ", rule as u64, b"  ");
+        buffer.push_line_of(files.yacc, places.location_of_rule(rule).line);
+        buffer.push_rule(spec, rule, None);
+        buffer.push(b"\n");
     }
 }

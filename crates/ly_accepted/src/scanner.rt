@@ -3,36 +3,36 @@ ghost use Rattle.std.specs.Prelude.{◌<◌, length};
 
 use crate::decided::is_marked;
 use crate::lines::RuleLines;
-use crate::surveying::{Accepted, say_numbered};
+use crate::surveying::{Analysis, write_numbered};
 use ly_base::OutOfMemory;
-use ly_page::Page;
 use ly_subset::Dfa;
+use ly_text_buffer::TextBuffer;
 use std::alloc::{AllocError, Global};
 
 /// Prints the classes of bytes, the conditions and the states of the minimal DFA.
-pub(crate) fn say_scanner(
+pub(crate) fn write_scanner(
     alloc: Global,
-    page: &mut Page,
-    files: &Accepted<'_>,
+    buffer: &mut TextBuffer,
+    files: &Analysis<'_>,
 ) -> Result<(), OutOfMemory> {
     let dfa = files.dfa;
-    page.say(b"Classes of bytes of the scanner:\n");
+    buffer.push(b"Classes of bytes of the scanner:\n");
     for class in 0..dfa.classes() {
-        say_numbered(page, b"    ", class as u64, b" ");
-        say_bytes(page, &bytes_of_class(alloc, dfa, class)?);
-        page.say(b"\n");
+        write_numbered(buffer, b"    ", class as u64, b" ");
+        write_bytes(buffer, &bytes_of_class(alloc, dfa, class)?);
+        buffer.push(b"\n");
     }
-    page.say(b"\nConditions:\n");
+    buffer.push(b"\nConditions:\n");
     for condition in 0..files.file.conditions {
-        say_condition(page, dfa, condition);
+        write_condition(buffer, dfa, condition);
     }
     let lines = RuleLines::of(alloc, files)?;
     for state in 0..dfa.len() {
         if let Ok(state) = u32::try_from(state) {
-            say_state(page, files, &lines, state);
+            write_state(buffer, files, &lines, state);
         }
     }
-    page.say(b"\n");
+    buffer.push(b"\n");
     Ok(())
 }
 
@@ -46,17 +46,17 @@ fn bytes_of_class(alloc: Global, dfa: &Dfa, class: usize) -> Result<Vec<bool>, A
 }
 
 /// Prints the bytes that are marked, with consecutive ones as ranges.
-fn say_bytes(page: &mut Page, marks: &[bool]) {
+fn write_bytes(buffer: &mut TextBuffer, marks: &[bool]) {
     for byte in 0..=255u8 {
         if !has_byte(marks, Some(byte)) {
             continue;
         }
         if !has_byte(marks, byte.checked_sub(1)) {
-            page.say(b" ");
-            page.say_byte(byte);
+            buffer.push(b" ");
+            buffer.push_byte(byte);
         } else if !has_byte(marks, byte.checked_add(1)) {
-            page.say(b"-");
-            page.say_byte(byte);
+            buffer.push(b"-");
+            buffer.push_byte(byte);
         }
     }
 }
@@ -70,19 +70,19 @@ fn has_byte(marks: &[bool], byte: Option<u8>) -> bool {
 }
 
 /// Prints for each condition the bytes that start no match.
-pub(crate) fn say_other_bytes(
+pub(crate) fn write_other_bytes(
     alloc: Global,
-    page: &mut Page,
-    files: &Accepted<'_>,
+    buffer: &mut TextBuffer,
+    files: &Analysis<'_>,
 ) -> Result<(), OutOfMemory> {
     for condition in 0..files.file.conditions {
         let others = other_bytes(alloc, files.dfa, condition)?;
         if others.contains(&true) {
-            page.say(b"In ");
-            say_name(page, files, condition);
-            page.say(b" no match begins with");
-            say_bytes(page, &others);
-            page.say(b"\n");
+            buffer.push(b"In ");
+            write_name(buffer, files, condition);
+            buffer.push(b" no match begins with");
+            write_bytes(buffer, &others);
+            buffer.push(b"\n");
         }
     }
     Ok(())
@@ -108,46 +108,46 @@ fn begins(dfa: &Dfa, condition: u32, line: bool, byte: u8) -> bool {
 }
 
 /// Prints the name of a condition, or its number if it has none.
-fn say_name(page: &mut Page, files: &Accepted<'_>, condition: u32) {
+fn write_name(buffer: &mut TextBuffer, files: &Analysis<'_>, condition: u32) {
     match files.file.start_conditions.get(condition as usize) {
-        Some(found) => page.say(&found.name),
-        None => say_numbered(page, b"condition ", condition as u64, b""),
+        Some(found) => buffer.push(&found.name),
+        None => write_numbered(buffer, b"condition ", condition as u64, b""),
     }
 }
 
 /// Prints the start states of a condition.
-fn say_condition(page: &mut Page, dfa: &Dfa, condition: u32) {
-    say_numbered(page, b"    ", condition as u64, b"");
-    say_start(page, b"  begins", dfa.start(condition, false));
-    say_start(page, b", where a line begins", dfa.start(condition, true));
-    page.say(b"\n");
+fn write_condition(buffer: &mut TextBuffer, dfa: &Dfa, condition: u32) {
+    write_numbered(buffer, b"    ", condition as u64, b"");
+    write_start(buffer, b"  begins", dfa.start(condition, false));
+    write_start(buffer, b", where a line begins", dfa.start(condition, true));
+    buffer.push(b"\n");
 }
 
 /// Prints a start state, if there is one.
-fn say_start(page: &mut Page, where_it_is: &[u8], start: Option<u32>) {
-    page.say(where_it_is);
+fn write_start(buffer: &mut TextBuffer, where_it_is: &[u8], start: Option<u32>) {
+    buffer.push(where_it_is);
     match start {
-        Some(state) => say_numbered(page, b" in state ", state as u64, b""),
-        None => page.say(b" nowhere"),
+        Some(state) => write_numbered(buffer, b" in state ", state as u64, b""),
+        None => buffer.push(b" nowhere"),
     }
 }
 
 /// Prints a state: its rule, and its transitions by classes of bytes.
-fn say_state(page: &mut Page, files: &Accepted<'_>, lines: &RuleLines, state: u32)
+fn write_state(buffer: &mut TextBuffer, files: &Analysis<'_>, lines: &RuleLines, state: u32)
     requires { state < length files.now.dfa.now.rules }
 {
     let dfa = files.dfa;
-    say_numbered(page, b"\nScanner state ", state as u64, b"\n");
+    write_numbered(buffer, b"\nScanner state ", state as u64, b"\n");
     if let Some(rule) = dfa.rule(state) {
         let line = lines.of_rule(rule.0 as usize);
-        page.say(b"    rule of ");
-        page.say(files.lex.name.as_bytes());
-        say_numbered(page, b":", line, b"\n");
+        buffer.push(b"    rule of ");
+        buffer.push(files.lex.name.as_bytes());
+        write_numbered(buffer, b":", line, b"\n");
     }
     for class in 0..dfa.classes() {
         if let Some(next) = dfa.next(state, class) {
-            say_numbered(page, b"    class ", class as u64, b"");
-            say_numbered(page, b" to state ", next as u64, b"\n");
+            write_numbered(buffer, b"    class ", class as u64, b"");
+            write_numbered(buffer, b" to state ", next as u64, b"\n");
         }
     }
 }

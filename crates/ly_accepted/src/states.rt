@@ -4,15 +4,15 @@ ghost use Rattle.ly_lookahead.specs.Lookaheads.{AreLookaheads, HasSet};
 
 use crate::bodies::body_of;
 use crate::cores::Cores;
-use crate::cut::say_prefix;
-use crate::surveying::{Accepted, say_numbered};
+use crate::cut::write_prefix;
+use crate::surveying::{Analysis, write_numbered};
 use ly_base::{OutOfMemory, RuleNo, StateNo, Sym};
 use ly_join::{Spec, Symbol};
 use ly_lookahead::Lookaheads;
 use ly_lr0::{Item, Lr0};
 use ly_pack::{Dense, Machine, TableAction};
-use ly_page::Page;
 use ly_resolve::{Action, Resolved, TerminalAction};
+use ly_text_buffer::TextBuffer;
 use std::alloc::Global;
 
 /// The tables of a parser.
@@ -34,10 +34,10 @@ struct Teller<'a> {
 }
 
 /// Prints each state of the parser.
-pub(crate) fn say_states(
+pub(crate) fn write_states(
     alloc: Global,
-    page: &mut Page,
-    files: &Accepted<'_>,
+    buffer: &mut TextBuffer,
+    files: &Analysis<'_>,
     tables: &Tables,
 ) -> Result<(), OutOfMemory>
     requires { AreLookaheads files.now.resolved.now.automaton files.now.lookaheads.now }
@@ -51,55 +51,60 @@ pub(crate) fn say_states(
         cores: &Cores::of(alloc, lr0)?,
     };
     for state in 0..lr0.states() {
-        teller.say_state(alloc, page, StateNo(state as u32))?;
+        teller.write_state(alloc, buffer, StateNo(state as u32))?;
     }
     Ok(())
 }
 
 impl Teller<'_> {
     /// Prints a state.
-    fn say_state(&self, alloc: Global, page: &mut Page, state: StateNo) -> Result<(), OutOfMemory>
+    fn write_state(
+        &self,
+        alloc: Global,
+        buffer: &mut TextBuffer,
+        state: StateNo,
+    ) -> Result<(), OutOfMemory>
         requires state { state.0 < length self.now.resolved.now.automaton.states }
         requires sets { AreLookaheads self.now.resolved.now.automaton self.now.lookaheads.now }
     {
         let prefix = self.cores.prefix(alloc, state)?;
-        say_numbered(page, b"State ", state.0 as u64, b"");
+        write_numbered(buffer, b"State ", state.0 as u64, b"");
         if !prefix.front.is_empty() {
-            page.say(b", after");
-            say_prefix(page, self.spec, &prefix);
+            buffer.push(b", after");
+            write_prefix(buffer, self.spec, &prefix);
         }
-        page.say(b"\n");
+        buffer.push(b"\n");
         for item in &self.cores.items(alloc, state)? {
-            self.say_item(page, state, *item);
+            self.write_item(buffer, state, *item);
         }
-        self.say_actions(page, state);
-        self.say_gotos(page, state);
-        page.say(b"\n");
+        self.write_actions(buffer, state);
+        self.write_gotos(buffer, state);
+        buffer.push(b"\n");
         Ok(())
     }
 
     /// Prints an item, with its lookaheads if its dot is at the end.
-    fn say_item(&self, page: &mut Page, state: StateNo, item: Item)
+    fn write_item(&self, buffer: &mut TextBuffer, state: StateNo, item: Item)
         requires state { state.0 < length self.now.resolved.now.automaton.states }
         requires sets { AreLookaheads self.now.resolved.now.automaton self.now.lookaheads.now }
     {
         let spec = self.spec;
-        say_numbered(page, b"    ", item.rule as u64, b"  ");
-        page.say_rule(spec, item.rule, Some(item.dot));
+        write_numbered(buffer, b"    ", item.rule as u64, b"  ");
+        buffer.push_rule(spec, item.rule, Some(item.dot));
         if let Some(place) = place_of(self.resolved.lr0(), self.lookaheads, state, item) {
-            page.say(b"   with");
+            buffer.push(b"   with");
             for terminal in 0..spec.grammar().terminals() {
                 if self.lookaheads.contains(state, place, Sym(terminal)) {
-                    page.say(b" ");
-                    page.say_terminal(spec, Sym(terminal));
+                    buffer.push(b" ");
+                    buffer.push_terminal(spec, Sym(terminal));
                 }
             }
         }
-        page.say(b"\n");
+        buffer.push(b"\n");
     }
 
     /// Prints the action before each terminal: each one that isn't the default reduction, then the default.
-    fn say_actions(&self, page: &mut Page, state: StateNo)
+    fn write_actions(&self, buffer: &mut TextBuffer, state: StateNo)
         requires { state.0 < length self.now.resolved.now.automaton.states }
     {
         let mut default = None;
@@ -109,20 +114,20 @@ impl Teller<'_> {
         let _spec = self.resolved.spec();
         for entry in self.resolved.row(state) {
             if !is_default(entry, default) {
-                self.say_action(page, state, entry);
+                self.write_action(buffer, state, entry);
             }
         }
         if let Some(rule) = default {
-            say_numbered(page, b"    else rule ", rule.0 as u64, b"\n");
+            write_numbered(buffer, b"    else rule ", rule.0 as u64, b"\n");
         }
     }
 
     /// Prints the action before a terminal.
-    fn say_action(&self, page: &mut Page, state: StateNo, entry: &TerminalAction)
+    fn write_action(&self, buffer: &mut TextBuffer, state: StateNo, entry: &TerminalAction)
         requires { state.0 < length self.now.resolved.now.automaton.states }
     {
-        page.say(b"    before ");
-        page.say_terminal(self.spec, entry.terminal);
+        buffer.push(b"    before ");
+        buffer.push_terminal(self.spec, entry.terminal);
         match entry.action {
             Action::Shift => match self
                 .resolved
@@ -130,23 +135,23 @@ impl Teller<'_> {
                 .goto(state, Symbol::Terminal(entry.terminal))
             {
                 Some(target) => {
-                    say_numbered(page, b" shift, to state ", target.0 as u64, b"\n");
+                    write_numbered(buffer, b" shift, to state ", target.0 as u64, b"\n");
                 }
-                None => page.say(b" accept\n"),
+                None => buffer.push(b" accept\n"),
             },
-            Action::Reduce(rule) => say_numbered(page, b" rule ", rule.0 as u64, b"\n"),
-            Action::Error => page.say(b" error, since it doesn't associate\n"),
+            Action::Reduce(rule) => write_numbered(buffer, b" rule ", rule.0 as u64, b"\n"),
+            Action::Error => buffer.push(b" error, since it doesn't associate\n"),
         }
     }
 
     /// Prints the gotos of a state.
-    fn say_gotos(&self, page: &mut Page, state: StateNo)
+    fn write_gotos(&self, buffer: &mut TextBuffer, state: StateNo)
         requires { state.0 < length self.now.resolved.now.automaton.states }
     {
         for transition in self.resolved.lr0().gotos(state) {
-            page.say(b"    ");
-            page.say_symbol(self.spec, transition.symbol);
-            say_numbered(page, b" to state ", transition.target.0 as u64, b"\n");
+            buffer.push(b"    ");
+            buffer.push_symbol(self.spec, transition.symbol);
+            write_numbered(buffer, b" to state ", transition.target.0 as u64, b"\n");
         }
     }
 }

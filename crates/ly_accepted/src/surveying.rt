@@ -3,29 +3,29 @@ ghost use Rattle.ly_accepted.specs.Findings.{AreFoundIn, IsInForm};
 ghost use Rattle.ly_lookahead.specs.Lookaheads.{AreLookaheads};
 ghost use Rattle.ly_subset.specs.Automaton.{IsBreadthFirst};
 
-use crate::conflicts::say_conflicts;
-use crate::doubt::Doubt;
-use crate::doubt_words::say_doubt;
-use crate::doubts::doubts_of;
-use crate::form::{say_json, text_in_form};
-use crate::picture::say_picture;
+use crate::conflicts::write_conflicts;
+use crate::form::{text_in_form, write_json};
+use crate::lint::Lint;
+use crate::lint_messages::write_lint;
+use crate::lints::lints_of;
+use crate::picture::write_picture;
 use crate::places::Places;
-use crate::rules::say_rules;
-use crate::scanner::{say_other_bytes, say_scanner};
-use crate::states::{Tables, say_states};
+use crate::rules::write_rules;
+use crate::scanner::{write_other_bytes, write_scanner};
+use crate::states::{Tables, write_states};
 use ly_base::OutOfMemory;
 use ly_join::Spec;
 use ly_lexread::LexFile;
 use ly_lookahead::Lookaheads;
-use ly_page::{Named, Page};
 use ly_report::ConflictCounts;
 use ly_resolve::Resolved;
 use ly_subset::Dfa;
+use ly_text_buffer::{NamedFile, TextBuffer};
 use std::alloc::Global;
 
 /// Options of the report.
 #[derive(Clone, Copy, Debug, Default, PartialEq, Eq)]
-pub struct Wish {
+pub struct Options {
     /// Whether to add the states of the parser.
     pub states: bool,
     /// Whether to add the picture of the states.
@@ -56,16 +56,16 @@ pub struct Findings {
     /// The number of conflicts of each kind.
     pub conflicts: ConflictCounts,
     /// Whether there are warnings.
-    pub are_doubtful: bool,
+    pub has_warnings: bool,
 }
 
 /// Two accepted files, with their automata.
 #[derive(Clone, Copy)]
-pub struct Accepted<'a> {
+pub struct Analysis<'a> {
     /// The lex file.
-    pub lex: Named<'a>,
+    pub lex: NamedFile<'a>,
     /// The yacc file.
-    pub yacc: Named<'a>,
+    pub yacc: NamedFile<'a>,
     /// The parsed lex file.
     pub file: &'a LexFile,
     /// The specification that both files define.
@@ -86,130 +86,134 @@ pub struct Accepted<'a> {
 /// Error: `OutOfMemory` if an allocation failed.
 pub fn survey(
     alloc: Global,
-    files: Accepted<'_>,
+    files: Analysis<'_>,
     tables: &Tables,
-    wish: Wish,
+    options: Options,
 ) -> Result<Explanation, OutOfMemory>
     requires order { IsBreadthFirst files.dfa.now }
     requires sets { AreLookaheads files.resolved.now.automaton files.lookaheads.now }
     ensures found { IfOk result (AreFoundIn files.entry.resolved.now.spec) }
-    ensures form { IfOk result (λ e. IsInForm wish.json e.findings e.text.items) }
+    ensures form { IfOk result (λ e. IsInForm options.json e.findings e.text.items) }
 {
-    let (said, are_doubtful) = said_of(alloc, &files, wish)?;
+    let (said, has_warnings) = said_of(alloc, &files, options)?;
     let findings = Some(Findings {
         conflicts: ConflictCounts::of(files.resolved),
-        are_doubtful,
+        has_warnings,
     });
     Ok(Explanation {
-        text: text_in_form(alloc, wish.json, &findings, said)?,
-        states: states_if(alloc, &files, tables, wish)?,
-        picture: picture_if(alloc, &files, wish.picture)?,
+        text: text_in_form(alloc, options.json, &findings, said)?,
+        states: states_if(alloc, &files, tables, options)?,
+        picture: picture_if(alloc, &files, options.picture)?,
         findings,
     })
 }
 
 /// The warnings, conflicts and numbered rules as text, and whether there are warnings.
-fn said_of(alloc: Global, files: &Accepted<'_>, wish: Wish) -> Result<(Vec<u8>, bool), OutOfMemory>
+fn said_of(
+    alloc: Global,
+    files: &Analysis<'_>,
+    options: Options,
+) -> Result<(Vec<u8>, bool), OutOfMemory>
     requires order { IsBreadthFirst files.now.dfa.now }
     requires sets { AreLookaheads files.now.resolved.now.automaton files.now.lookaheads.now }
 {
     let places = Places::of(alloc, files.yacc.bytes)?;
-    let doubts = doubts_of(alloc, *files, &places, wish)?;
-    let mut page = Page::new(alloc);
-    if wish.json {
-        say_json(alloc, &mut page, files, &places, &doubts, wish)?;
+    let lints = lints_of(alloc, *files, &places, options)?;
+    let mut buffer = TextBuffer::new(alloc);
+    if options.json {
+        write_json(alloc, &mut buffer, files, &places, &lints, options)?;
     } else {
-        say_all(alloc, &mut page, files, &places, &doubts, wish)?;
+        write_all(alloc, &mut buffer, files, &places, &lints, options)?;
     }
-    Ok((page.finish()?, !doubts.is_empty()))
+    Ok((buffer.finish()?, !lints.is_empty()))
 }
 
 /// Prints all of this in English, given the locations of symbols and rules and the warnings.
-fn say_all(
+fn write_all(
     alloc: Global,
-    page: &mut Page,
-    files: &Accepted<'_>,
+    buffer: &mut TextBuffer,
+    files: &Analysis<'_>,
     places: &Places,
-    doubts: &[Doubt<'_>],
-    wish: Wish,
+    lints: &[Lint<'_>],
+    options: Options,
 ) -> Result<(), OutOfMemory> {
-    say_sizes(page, files, wish);
-    for doubt in doubts {
-        say_doubt(page, files, doubt);
+    write_sizes(buffer, files, options);
+    for lint in lints {
+        write_lint(buffer, files, lint);
     }
-    if doubts.is_empty() && files.resolved.conflicts().is_empty() {
-        page.say(b"No doubts.\n");
+    if lints.is_empty() && files.resolved.conflicts().is_empty() {
+        buffer.push(b"No doubts.\n");
     }
-    if !wish.grammar_alone {
-        say_other_bytes(alloc, page, files)?;
+    if !options.grammar_alone {
+        write_other_bytes(alloc, buffer, files)?;
     }
-    say_conflicts(alloc, page, files, places, wish)?;
-    say_rules(page, files, places);
+    write_conflicts(alloc, buffer, files, places, options)?;
+    write_rules(buffer, files, places);
     Ok(())
 }
 
 /// The states of the scanner, if there is a lex file, and of the parser, if they are requested.
 fn states_if(
     alloc: Global,
-    files: &Accepted<'_>,
+    files: &Analysis<'_>,
     tables: &Tables,
-    wish: Wish,
+    options: Options,
 ) -> Result<Option<Vec<u8>>, OutOfMemory>
     requires { AreLookaheads files.now.resolved.now.automaton files.now.lookaheads.now }
 {
-    if !wish.states {
+    if !options.states {
         return Ok(None);
     }
-    let mut page = Page::new(alloc);
-    if !wish.grammar_alone {
-        say_scanner(alloc, &mut page, files)?;
+    let mut buffer = TextBuffer::new(alloc);
+    if !options.grammar_alone {
+        write_scanner(alloc, &mut buffer, files)?;
     }
-    say_states(alloc, &mut page, files, tables)?;
-    Ok(Some(page.finish()?))
+    write_states(alloc, &mut buffer, files, tables)?;
+    Ok(Some(buffer.finish()?))
 }
 
 /// The picture of the parser's states, if it is requested.
 fn picture_if(
     alloc: Global,
-    files: &Accepted<'_>,
+    files: &Analysis<'_>,
     asked: bool,
 ) -> Result<Option<Vec<u8>>, OutOfMemory> {
     if !asked {
         return Ok(None);
     }
-    let mut page = Page::new(alloc);
-    say_picture(alloc, &mut page, files)?;
-    Ok(Some(page.finish()?))
+    let mut buffer = TextBuffer::new(alloc);
+    write_picture(alloc, &mut buffer, files)?;
+    Ok(Some(buffer.finish()?))
 }
 
 /// Prints that the files are accepted, and the size of their parser.
-fn say_sizes(page: &mut Page, files: &Accepted<'_>, wish: Wish) {
+fn write_sizes(buffer: &mut TextBuffer, files: &Analysis<'_>, options: Options) {
     let grammar = files.spec.grammar();
     let rules = grammar.rules().len().saturating_sub(1);
-    if wish.grammar_alone {
-        page.say(files.yacc.name.as_bytes());
-        page.say(b" is accepted: ");
+    if options.grammar_alone {
+        buffer.push(files.yacc.name.as_bytes());
+        buffer.push(b" is accepted: ");
     } else {
-        page.say(files.lex.name.as_bytes());
-        page.say(b" and ");
-        page.say(files.yacc.name.as_bytes());
-        page.say(b" are accepted: ");
+        buffer.push(files.lex.name.as_bytes());
+        buffer.push(b" and ");
+        buffer.push(files.yacc.name.as_bytes());
+        buffer.push(b" are accepted: ");
     }
-    page.say_count(rules, b"rule, ", b"rules, ");
-    page.say_count(grammar.terminals() as usize, b"terminal, ", b"terminals, ");
-    page.say_count(
+    buffer.push_count(rules, b"rule, ", b"rules, ");
+    buffer.push_count(grammar.terminals() as usize, b"terminal, ", b"terminals, ");
+    buffer.push_count(
         grammar.accept().0 as usize,
         b"nonterminal, ",
         b"nonterminals, ",
     );
-    page.say_count(files.resolved.lr0().states(), b"state.\n", b"states.\n");
+    buffer.push_count(files.resolved.lr0().states(), b"state.\n", b"states.\n");
 }
 
 /// Prints a number, with text before and after it.
-pub(crate) fn say_numbered(page: &mut Page, before: &[u8], number: u64, behind: &[u8]) {
-    page.say(before);
-    page.say_number(number);
-    page.say(behind);
+pub(crate) fn write_numbered(buffer: &mut TextBuffer, before: &[u8], number: u64, behind: &[u8]) {
+    buffer.push(before);
+    buffer.push_number(number);
+    buffer.push(behind);
 }
 
 /// The first elements, at most `most`.

@@ -2,10 +2,10 @@
 use crate::ambiguity::Ambiguity;
 use crate::bodies::body_of;
 use crate::brackets::Style;
-use crate::cut::say_terminals;
+use crate::cut::write_terminals;
 use ly_base::{OutOfMemory, Sym};
 use ly_join::{Spec, Symbol};
-use ly_page::Page;
+use ly_text_buffer::TextBuffer;
 use std::alloc::Global;
 
 /// The greatest number of symbols of a tree that are printed.
@@ -13,25 +13,25 @@ const MOST: usize = 2_000;
 
 /// Prints a sentence and its two trees. They have names if brackets alone don't distinguish them, and if there are no
 /// tokens.
-pub(crate) fn say_ambiguity(
+pub(crate) fn write_ambiguity(
     alloc: Global,
-    page: &mut Page,
+    buffer: &mut TextBuffer,
     spec: &Spec,
     ambiguity: &Ambiguity,
 ) -> Result<(), OutOfMemory> {
     if ambiguity.sentence.is_empty() {
-        page.say(b"    The empty sentence has two trees:\n");
+        buffer.push(b"    The empty sentence has two trees:\n");
     } else {
-        page.say(b"    This sentence has two trees:");
-        say_terminals(page, spec, &ambiguity.sentence);
-        page.say(b"\n");
+        buffer.push(b"    This sentence has two trees:");
+        write_terminals(buffer, spec, &ambiguity.sentence);
+        buffer.push(b"\n");
     }
     let (one, other) = told_apart(alloc, spec, ambiguity)?;
-    page.say(b"       ");
-    page.say(&one);
-    page.say(b"\n       ");
-    page.say(&other);
-    page.say(b"\n");
+    buffer.push(b"       ");
+    buffer.push(&one);
+    buffer.push(b"\n       ");
+    buffer.push(&other);
+    buffer.push(b"\n");
     Ok(())
 }
 
@@ -89,7 +89,7 @@ struct Teller<'a> {
     /// The rules that aren't printed yet.
     rules: &'a [usize],
     /// The output.
-    page: Page,
+    buffer: TextBuffer,
     /// Whether a bracket was printed last.
     opened: bool,
     /// The parts still to be printed, the next one last.
@@ -107,7 +107,7 @@ fn tree_of<'a>(
         spec,
         style,
         rules,
-        page: Page::new(alloc),
+        buffer: TextBuffer::new(alloc),
         opened: false,
         parts: Vec::new(alloc),
     };
@@ -119,23 +119,23 @@ fn tree_of<'a>(
         let Some(part) = teller.parts.pop() else {
             break;
         };
-        teller.say_part(part)?;
+        teller.write_part(part)?;
     }
-    teller.page.finish()
+    teller.buffer.finish()
 }
 
 impl<'a> Teller<'a> {
     /// Prints a part.
-    fn say_part(&mut self, part: Part) -> Result<(), OutOfMemory> {
+    fn write_part(&mut self, part: Part) -> Result<(), OutOfMemory> {
         let Part::Symbol(below) = part else {
             self.close();
             return Ok(());
         };
         match below.symbol {
-            Symbol::Terminal(number) => self.say_terminal(number),
+            Symbol::Terminal(number) => self.write_terminal(number),
             Symbol::Nonterminal(left) => {
                 if let Some(body) = self.next_body() {
-                    return self.say_rule(left, body, below.beside);
+                    return self.write_rule(left, body, below.beside);
                 }
             }
         }
@@ -150,21 +150,21 @@ impl<'a> Teller<'a> {
     }
 
     /// Prints the space before a symbol, if it needs one.
-    fn say_space(&mut self) {
+    fn write_space(&mut self) {
         if !self.opened {
-            self.page.say(b" ");
+            self.buffer.push(b" ");
         }
         self.opened = false;
     }
 
     /// Prints a terminal.
-    fn say_terminal(&mut self, number: Sym) {
-        self.say_space();
-        self.page.say_terminal(self.spec, number);
+    fn write_terminal(&mut self, number: Sym) {
+        self.write_space();
+        self.buffer.push_terminal(self.spec, number);
     }
 
     /// Prints the start of a rule, and adds its body to the parts still to be printed.
-    fn say_rule(&mut self, left: Sym, body: &[Symbol], beside: bool) -> Result<(), OutOfMemory> {
+    fn write_rule(&mut self, left: Sym, body: &[Symbol], beside: bool) -> Result<(), OutOfMemory> {
         let one_of_many = body.len() > 1;
         if self.style == Style::Names || beside && one_of_many {
             self.open(left);
@@ -182,17 +182,18 @@ impl<'a> Teller<'a> {
 
     /// Prints the start of a rule.
     fn open(&mut self, left: Sym) {
-        self.say_space();
+        self.write_space();
         if self.style == Style::Names {
-            self.page.say_symbol(self.spec, Symbol::Nonterminal(left));
+            self.buffer
+                .push_symbol(self.spec, Symbol::Nonterminal(left));
         }
-        self.page.say(b"[");
+        self.buffer.push(b"[");
         self.opened = true;
     }
 
     /// Prints the end of a rule.
     fn close(&mut self) {
         self.opened = false;
-        self.page.say(b"]");
+        self.buffer.push(b"]");
     }
 }

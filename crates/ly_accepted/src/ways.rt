@@ -1,15 +1,15 @@
 //! How the two actions of a conflict arise, each after a string of symbols, as a drawing.
 use crate::bodies::{behind_dot, body_of};
-use crate::brackets::{Style, say_way};
+use crate::brackets::{Style, write_way};
 use crate::cores::Cores;
 use crate::drawing::Drawing;
-use crate::surveying::say_numbered;
+use crate::surveying::write_numbered;
 use ly_base::{OutOfMemory, Sym};
-use ly_examples::Claim;
+use ly_counterexamples::Claim;
 use ly_join::{Grammar, Spec, Symbol};
 use ly_lr0::Item;
-use ly_page::Page;
 use ly_resolve::{Action, Conflict, ConflictKind};
+use ly_text_buffer::TextBuffer;
 use std::alloc::Global;
 
 /// The data for drawing the paths to the actions of a conflict.
@@ -116,34 +116,34 @@ fn drawn_way(
     way: &[Item],
     style: Style,
 ) -> Result<Vec<u8>, OutOfMemory> {
-    let mut page = Page::new(alloc);
-    say_way(alloc, &mut page, spec, way, style)?;
-    page.finish()
+    let mut buffer = TextBuffer::new(alloc);
+    write_way(alloc, &mut buffer, spec, way, style)?;
+    buffer.finish()
 }
 
 /// Prints how both actions of a conflict arise.
-pub(crate) fn say_ways(
+pub(crate) fn write_ways(
     alloc: Global,
-    page: &mut Page,
+    buffer: &mut TextBuffer,
     spec: &Spec,
     conflict: &Conflict,
     ways: &Ways,
 ) -> Result<(), OutOfMemory> {
     let (one, other) = drawn_ways(alloc, spec, ways)?;
     match reduced_rival(conflict) {
-        Some(rule) => say_label(page, rule),
-        None => page.say(b"    shift:  "),
+        Some(rule) => write_label(buffer, rule),
+        None => buffer.push(b"    shift:  "),
     }
-    page.say(&one);
-    page.say(b"\n");
-    say_label(page, conflict.rule.0 as usize);
-    page.say(&other);
-    page.say(b"\n");
+    buffer.push(&one);
+    buffer.push(b"\n");
+    write_label(buffer, conflict.rule.0 as usize);
+    buffer.push(&other);
+    buffer.push(b"\n");
     Ok(())
 }
 
 /// Prints the rule whose reduction is drawn.
-fn say_label(page: &mut Page, rule: usize) {
+fn write_label(buffer: &mut TextBuffer, rule: usize) {
     let behind = if rule < 10 { b": ".as_slice() } else { b":" };
-    say_numbered(page, b"    rule ", rule as u64, behind);
+    write_numbered(buffer, b"    rule ", rule as u64, behind);
 }

@@ -3,7 +3,7 @@ use crate::bodies::body_of;
 use ly_base::{OutOfMemory, Sym};
 use ly_grammar::Reduced;
 use ly_join::{Grammar, Spec, Symbol};
-use ly_page::Page;
+use ly_text_buffer::TextBuffer;
 use std::alloc::{AllocError, Global};
 
 /// The greatest number of passes over the rules. A nonterminal that needs more has no yield here.
@@ -126,13 +126,13 @@ impl Yields {
 
 impl Derived {
     /// Prints the tokens, with a space before each. A row that isn't complete ends with dots.
-    pub(crate) fn say(&self, page: &mut Page, spec: &Spec) {
+    pub(crate) fn write(&self, buffer: &mut TextBuffer, spec: &Spec) {
         for token in &self.tokens {
-            page.say(b" ");
-            page.say_terminal(spec, *token);
+            buffer.push(b" ");
+            buffer.push_terminal(spec, *token);
         }
         if !self.whole {
-            page.say(b" ..");
+            buffer.push(b" ..");
         }
     }
 

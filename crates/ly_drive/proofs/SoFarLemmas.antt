@@ -5,7 +5,7 @@ use Rattle.std.specs.Io.KnownBytes.{Appends, Consumes, IsAtEnd}
 use Rattle.std.specs.Prelude.{◌^◌, false, IfErr, IfOk, IfSome}
 use Rattle.std.proofs.KnownBytes.{Consumes-nil, Consumes-trans}
 use Rattle.std.proofs.lemmas.List.{append-nil}
-use Rattle.ly_drive.specs.Answering.{IsAnsweredBy, IsFaultyOn, IsOpenAfter, IsOpenBehind, IsReadAsNeeded, IsTooLong}
+use Rattle.ly_drive.specs.Answering.{IsAnsweredBy, IsFaultyOn, IsOpenAfter, NeedsMoreInput, IsReadAsNeeded, IsTooLong}
 use Rattle.ly_drive.specs.Private.Reading.{IsGiven, IsReadInto, IsReadSoFar}
 use Rattle.ly_feed.proofs.OnwardLemmas.{from_start, onward_on, onward_with}
 use Rattle.ly_feed.specs.Held.{Held, IsAnswerOf, IsOnward, IsRestOf, IsSettledBy, nothing_read, seen}
@@ -131,7 +131,7 @@ module _ (form : AnswerForm) (s : TableSet) (given : Option (List ℕ)) where
     ended_as_needed most took = as_needed most most [] refl (record { consumed = took; few = omega arith })
 
     -- a read that failed was asked for
-    pub asked_for : Consumes before after [] → IsOpenBehind s given after
+    pub asked_for : Consumes before after [] → NeedsMoreInput s given after
     asked_for took = (
       so_far.taken ++ [],
       Consumes-trans given before after so_far.taken [] so_far.consumed took,

@@ -46,8 +46,8 @@ IsReadAsNeeded most s before after = (open_bytes : List ℕ) × (last : List ℕ
     × Consumes before after (open_bytes ++ last) × IsOpenAfter s open_bytes × (length last ≤ most)
 
 -- Bytes were read after which the result isn't known. So if the next read fails, it was necessary.
-abbrev pub IsOpenBehind : TableSet → Option (List ℕ) → Option (List ℕ) → Type 0
-IsOpenBehind s before after = (bytes : List ℕ) × Consumes before after bytes × IsOpenAfter s bytes
+abbrev pub NeedsMoreInput : TableSet → Option (List ℕ) → Option (List ℕ) → Type 0
+NeedsMoreInput s before after = (bytes : List ℕ) × Consumes before after bytes × IsOpenAfter s bytes
 
 -- the bytes of a table file, of any version, spell the set, whose parser's runs end
 abbrev pub IsDriven : List ℕ → TableSet → Type 0

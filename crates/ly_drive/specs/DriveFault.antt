@@ -30,14 +30,14 @@ fault_of_tables file.Endless = Tables file.Endless
 fault_of_tables file.OutOfMemory = Text answering.OutOfMemory
 
 -- a write failed
-abbrev pub IsWrite : DriveFault → Type 0
-IsWrite (Tables fault) = ⊥
-IsWrite (Text fault) = text.IsWrite fault
+abbrev pub IsFailedWrite : DriveFault → Type 0
+IsFailedWrite (Tables fault) = ⊥
+IsFailedWrite (Text fault) = text.IsFailedWrite fault
 
 -- nothing was written: any error but a failed write
-abbrev pub IsBeforeWriting : DriveFault → Type 0
-IsBeforeWriting (Tables fault) = Unit {0}
-IsBeforeWriting (Text fault) = text.IsBeforeWriting fault
+abbrev pub WroteNothing : DriveFault → Type 0
+WroteNothing (Tables fault) = Unit {0}
+WroteNothing (Text fault) = text.WroteNothing fault
 
 -- the table file is rejected
 abbrev pub IsOfFile : DriveFault → Type 0

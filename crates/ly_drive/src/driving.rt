@@ -5,9 +5,9 @@ ghost use Rattle.ly_tables.specs.Refusal.{IsRefusedAs};
 ghost use Rattle.ly_tables.specs.TableSet.{TableSet as Tables};
 ghost use Rattle.ly_tables.specs.declared.fault.TableFault as file;
 ghost use Rattle.ly_tables.specs.declared.fault.TableFault.TheVariants.{OutOfMemory};
-ghost use Rattle.ly_drive.specs.Answering.{IsAnsweredBy, IsBegunBy, IsDriven, IsFaultyOn, IsOpenBehind};
+ghost use Rattle.ly_drive.specs.Answering.{IsAnsweredBy, IsBegunBy, IsDriven, IsFaultyOn, NeedsMoreInput};
 ghost use Rattle.ly_drive.specs.Answering.{IsReadAsNeeded, IsTooLong};
-ghost use Rattle.ly_drive.specs.DriveFault.{IsBeforeWriting, IsOfFile, IsWrite};
+ghost use Rattle.ly_drive.specs.DriveFault.{WroteNothing, IsOfFile, IsFailedWrite};
 ghost use Rattle.ly_feed.specs.Held.{nothing_read};
 ghost use Rattle.ly_feed.specs.TextFault as text;
 
@@ -46,14 +46,14 @@ pub fn drive<R: Source, W: Sink>(
     ensures needed { (s : Tables) → IsDriven tables.now s → (IsErrOf result (DriveFault.Text TextFault.Read) → ⊥)
         → IsReadAsNeeded 4096 s (R.remaining reader.old) (R.remaining reader.new) }
     ensures asked { (s : Tables) → IsDriven tables.now s → IsErrOf result (DriveFault.Text TextFault.Read)
-        → IsOpenBehind s (R.remaining reader.old) (R.remaining reader.new) }
+        → NeedsMoreInput s (R.remaining reader.old) (R.remaining reader.new) }
     ensures read { IsErrOf result (DriveFault.Text TextFault.Read)
         → R.failures reader.new ≡ next_count (R.failures reader.old) }
     ensures reader_held { (IsErrOf result (DriveFault.Text TextFault.Read) → ⊥)
         → R.failures reader.new ≡ R.failures reader.old }
-    ensures write { IfErr result (λ e. IsWrite e → W.failures writer.new ≡ next_count (W.failures writer.old)) }
+    ensures write { IfErr result (λ e. IsFailedWrite e → W.failures writer.new ≡ next_count (W.failures writer.old)) }
     ensures writer_held { OnOk result (W.failures writer.new ≡ W.failures writer.old) }
-    ensures untouched { IfErr result (λ e. IsBeforeWriting e → writer.new ≡ writer.old) }
+    ensures untouched { IfErr result (λ e. WroteNothing e → writer.new ≡ writer.old) }
 {
     a_file_has_one_set();
     let (set, _version) = read_tables(alloc, tables)?;
@@ -87,12 +87,12 @@ pub fn run<R: Source, W: Sink>(
     ensures needed { (IsErrOf result TextFault.Read → ⊥)
         → IsReadAsNeeded 4096 set.now (R.remaining reader.old) (R.remaining reader.new) }
     ensures asked { IsErrOf result TextFault.Read
-        → IsOpenBehind set.now (R.remaining reader.old) (R.remaining reader.new) }
+        → NeedsMoreInput set.now (R.remaining reader.old) (R.remaining reader.new) }
     ensures read { IsErrOf result TextFault.Read → R.failures reader.new ≡ next_count (R.failures reader.old) }
     ensures reader_held { (IsErrOf result TextFault.Read → ⊥) → R.failures reader.new ≡ R.failures reader.old }
-    ensures write { IfErr result (λ e. text.IsWrite e → W.failures writer.new ≡ next_count (W.failures writer.old)) }
+    ensures write { IfErr result (λ e. text.IsFailedWrite e → W.failures writer.new ≡ next_count (W.failures writer.old)) }
     ensures writer_held { OnOk result (W.failures writer.new ≡ W.failures writer.old) }
-    ensures untouched { IfErr result (λ e. text.IsBeforeWriting e → writer.new ≡ writer.old) }
+    ensures untouched { IfErr result (λ e. text.WroteNothing e → writer.new ≡ writer.old) }
 {
     let mut room = vec![in alloc; 0u8; PIECE]?;
     let mut feed = Feed::new(alloc, set, form)?;
@@ -122,12 +122,12 @@ fn feed_all<R: Source, W: Sink>(
     ensures needed { (IsErrOf result TextFault.Read → ⊥)
         → IsReadAsNeeded (length room.old) feed.old.set (R.remaining reader.old) (R.remaining reader.new) }
     ensures asked { IsErrOf result TextFault.Read
-        → IsOpenBehind feed.old.set (R.remaining reader.old) (R.remaining reader.new) }
+        → NeedsMoreInput feed.old.set (R.remaining reader.old) (R.remaining reader.new) }
     ensures read { IsErrOf result TextFault.Read → R.failures reader.new ≡ next_count (R.failures reader.old) }
     ensures reader_held { (IsErrOf result TextFault.Read → ⊥) → R.failures reader.new ≡ R.failures reader.old }
-    ensures write { IfErr result (λ e. text.IsWrite e → W.failures writer.new ≡ next_count (W.failures writer.old)) }
+    ensures write { IfErr result (λ e. text.IsFailedWrite e → W.failures writer.new ≡ next_count (W.failures writer.old)) }
     ensures writer_held { OnOk result (W.failures writer.new ≡ W.failures writer.old) }
-    ensures untouched { IfErr result (λ e. text.IsBeforeWriting e → writer.new ≡ writer.old) }
+    ensures untouched { IfErr result (λ e. text.WroteNothing e → writer.new ≡ writer.old) }
 {
     loop {
         match read_into(feed, reader, room)? {

@@ -15,7 +15,7 @@ use Rattle.ly_resolve.specs.Machine.{Ends, Leads, Pushed, begin}
 use Rattle.ly_resolve.specs.Machine as machine
 use Rattle.ly_resolve.specs.Precedence.{judge_of}
 use Rattle.ly_resolve.proofs.AcceptLemmas.{Leads-append}
-use Rattle.ly_emit.specs.Following.{Follows, Mirrors, bottom}
+use Rattle.ly_emit.specs.Following.{Simulates, Mirrors, bottom}
 use Rattle.ly_emit.specs.Laws.{AreOf, RunsEndOnSteady}
 use Rattle.ly_emit.specs.Tables.{IsMachineOf, shape_in}
 use Rattle.ly_emit.proofs.FollowLemmas.{tables_follow}
@@ -39,7 +39,7 @@ module _ (s : Spec) (M : Lr0Automaton) (n : Machine) (is : IsLr0Automaton M) (us
         (All-head (λ x. x.terminal < M.grammar.terminals) end [] within) mirrors last.1)
       where
         by_out : (out : Fed) → Feeds n end levels out
-            → Follows M (shape_in s) (judge_of s) stack end [] out
+            → Simulates M (shape_in s) (judge_of s) stack end [] out
             → Ends M.grammar (judge_of s) all
         by_out (pushed next) feeds f = absurd (end_not_read n end tables zero_end feeds)
         by_out (done term) feeds f = inl (f.1, (f.0, Leads-append leads f.2, f.3))
@@ -63,7 +63,7 @@ module _ (s : Spec) (M : Lr0Automaton) (n : Machine) (is : IsLr0Automaton M) (us
         (whole ∙ sym (append_assoc before (t ∷ []) (tokens ++ end ∷ []))) l ms es)
       where
         by_out : (out : Fed) → Feeds n t levels out
-            → Follows M (shape_in s) (judge_of s) stack t (tokens ++ end ∷ []) out
+            → Simulates M (shape_in s) (judge_of s) stack t (tokens ++ end ∷ []) out
             → ((st : List Pushed) (ls : List Level)
             → Leads M.grammar (judge_of s) (begin all) (record { stack = st; rest = tokens ++ end ∷ [] })
             → Mirrors M (shape_in s) st ls → IsStack n (states_on ls) → Ends M.grammar (judge_of s) all)

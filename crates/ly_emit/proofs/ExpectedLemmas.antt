@@ -18,7 +18,7 @@ use Rattle.ly_relate.proofs.LeaveLemmas.{symbol_within}
 use Rattle.ly_resolve.specs.Machine.{Next, Pushed}
 use Rattle.ly_resolve.specs.Precedence.{judge_of}
 use Rattle.ly_resolve.proofs.NextLemmas.{one_token_tells}
-use Rattle.ly_emit.specs.Following.{Follows, Mirrors}
+use Rattle.ly_emit.specs.Following.{Simulates, Mirrors}
 use Rattle.ly_emit.specs.Laws.{ExpectedFollow}
 use Rattle.ly_emit.specs.Tables.{IsMachineOf, shape_in}
 use Rattle.ly_emit.proofs.FollowLemmas.{tables_follow}
@@ -54,13 +54,13 @@ module _ (s : Spec) (M : Lr0Automaton) (n : Machine) (is : IsLr0Automaton M) (us
   same_terminals = of.2.terminals ∙ of.1.terminals
 
   follows : (t : ℕ) (out : Fed) → t < n.terminals → Feeds n (probe t) levels out
-      → Follows M (shape_in s) (judge_of s) stack (probe t) [] out
+      → Simulates M (shape_in s) (judge_of s) stack (probe t) [] out
   unfolding probe
   follows t out within feeds = tables_follow s M n is useful of stack levels (probe t) [] out
       (subst (λ k. t < k) same_terminals within) mirrors feeds
 
   -- the reference machine reads what the tables take
-  taken_next : (t : ℕ) (out : Fed) → IsTaken out → Follows M (shape_in s) (judge_of s) stack (probe t) [] out
+  taken_next : (t : ℕ) (out : Fed) → IsTaken out → Simulates M (shape_in s) (judge_of s) stack (probe t) [] out
       → Next M.grammar (judge_of s) stack t
   unfolding probe
   taken_next t (pushed next) taken f = (one_token_tells M.grammar (judge_of s) stack (probe t)).read f.0 f.1
@@ -70,7 +70,7 @@ module _ (s : Spec) (M : Lr0Automaton) (n : Machine) (is : IsLr0Automaton M) (us
 
   -- and the tables take what it reads
   next_taken : (t : ℕ) (out : Fed) → Next M.grammar (judge_of s) stack t
-      → Follows M (shape_in s) (judge_of s) stack (probe t) [] out → IsTaken out
+      → Simulates M (shape_in s) (judge_of s) stack (probe t) [] out → IsTaken out
   unfolding probe
   next_taken t (pushed levels) next f = tt
   next_taken t (done term) next f = tt

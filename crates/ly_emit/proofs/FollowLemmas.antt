@@ -22,7 +22,7 @@ use Rattle.ly_pack.specs.Machine as table
 use Rattle.ly_pack.specs.Steady.{rule_at}
 use Rattle.ly_parse.specs.Feeding.{Fed, Feeds, Level, done, faulty, go_to, goes_on, onward, perform, pop, pushed}
 use Rattle.ly_parse.specs.Feeding.{reduce_by, refused, settled, settles, top_of, turn, uncover}
-use Rattle.ly_resolve.specs.Actions.{Action, IsAction, IsDone, IsRaw, IsTerminalRefused, Verdict, error, reduce, shift}
+use Rattle.ly_resolve.specs.Actions.{Action, IsAction, IsDone, IsRaw, IsTerminalRefused, PrecedenceVerdict, error, reduce, shift}
 use Rattle.ly_resolve.specs.Laws.{Reduces}
 use Rattle.ly_resolve.specs.Laws as default
 use Rattle.ly_resolve.specs.Machine.{Configuration, Leads, Moves, Pushed, symbols_of, trees_onto}
@@ -34,14 +34,14 @@ use Rattle.ly_resolve.proofs.RawLemmas.{merges_back, raw_too, reached_merges}
 use Rattle.ly_resolve.proofs.RefuseLemmas.{HasNoEnd-under, unread, waits}
 use Rattle.ly_resolve.proofs.StackLemmas.{ends_with_read, length-symbols_of, symbols_of-append}
 use Rattle.ly_tree.specs.Term.{Term, Terms, build, builds, made}
-use Rattle.ly_emit.specs.Following.{Follows, Mirrors, above, bottom}
+use Rattle.ly_emit.specs.Following.{Simulates, Mirrors, above, bottom}
 use Rattle.ly_emit.specs.Laws.{TablesFollow}
 use Rattle.ly_emit.specs.Tables.{AreTables, IsEntryFor, shape_in}
 
 -- WHAT IS DONE AT STRINGS OF ONE CORE
 
 -- what is taken depends on what is asked for alone
-done_too : (A B : Action → Type 0) (v : ℕ → Verdict) → ((a : Action) → A a → B a) → ((a : Action) → B a → A a)
+done_too : (A B : Action → Type 0) (v : ℕ → PrecedenceVerdict) → ((a : Action) → A a → B a) → ((a : Action) → B a → A a)
     → (a : Action) → IsDone A v a → IsDone B v a
 done_too A B v to back shift h = (to shift h.0, λ p asked. h.1 p (back (reduce p) asked))
 done_too A B v to back (reduce p) h = (
@@ -438,8 +438,8 @@ module _ (s : Spec) (M : Lr0Automaton) (m n : Machine) (is : IsLr0Automaton M)
       -- what becomes of the token behind a move becomes of it
       before_move : (stack next : List Pushed) (out : Fed) → Moves M.grammar (judge_of s)
           (record { stack = stack; rest = token ∷ behind }) (record { stack = next; rest = token ∷ behind })
-          → Follows M (shape_in s) (judge_of s) next token behind out
-          → Follows M (shape_in s) (judge_of s) stack token behind out
+          → Simulates M (shape_in s) (judge_of s) next token behind out
+          → Simulates M (shape_in s) (judge_of s) stack token behind out
       before_move stack next (pushed levels) mv f = (f.0, machine.onward mv f.1, f.2)
       before_move stack next (done term) mv f = (f.0, f.1, machine.onward mv f.2, f.3, f.4)
       before_move stack next refused mv f = (f.0, machine.onward mv f.1, f.2, f.3)
@@ -449,7 +449,7 @@ module _ (s : Spec) (M : Lr0Automaton) (m n : Machine) (is : IsLr0Automaton M)
       data Step {stack : List Pushed} {levels : List Level} (mirrors : Mirrors M (shape_in s) stack levels)
           : Type 0 where
         as_settled : (out : Fed) → turn n token levels ≡ settles out
-            → Follows M (shape_in s) (judge_of s) stack token behind out → Step mirrors
+            → Simulates M (shape_in s) (judge_of s) stack token behind out → Step mirrors
         as_moved : (r : Reduced mirrors) → Moves M.grammar (judge_of s)
             (record { stack = stack; rest = token ∷ behind })
             (record {
@@ -572,15 +572,15 @@ module _ (s : Spec) (M : Lr0Automaton) (m n : Machine) (is : IsLr0Automaton M)
               by_action a taken.0 e (action_here mirrors taken.0 taken.1) taken.2
 
       follow : {levels : List Level} {out : Fed} → Feeds n token levels out → (stack : List Pushed)
-          → Mirrors M (shape_in s) stack levels → Follows M (shape_in s) (judge_of s) stack token behind out
+          → Mirrors M (shape_in s) stack levels → Simulates M (shape_in s) (judge_of s) stack token behind out
       follow (settled {out = out} e) stack mirrors = by_step (step mirrors) where
-        by_step : Step mirrors → Follows M (shape_in s) (judge_of s) stack token behind out
+        by_step : Step mirrors → Simulates M (shape_in s) (judge_of s) stack token behind out
         by_step (as_settled other e' f) =
             let one : settles other ≡ settles out = sym e' ∙ e in
             let same : other ≡ out = cc in
-            subst (Follows M (shape_in s) (judge_of s) stack token behind) same f
+            subst (Simulates M (shape_in s) (judge_of s) stack token behind) same f
         by_step (as_moved r mv) = absurd (let off : settles out ≡ goes_on r.made.next = sym e ∙ r.turns in cc)
-        by_step (as_refused nothing) = subst (Follows M (shape_in s) (judge_of s) stack token behind)
+        by_step (as_refused nothing) = subst (Simulates M (shape_in s) (judge_of s) stack token behind)
             (sym (refused_first (settled e) stack mirrors nothing)) (
               record { stack = stack; rest = token ∷ behind },
               machine.here,
@@ -591,14 +591,14 @@ module _ (s : Spec) (M : Lr0Automaton) (m n : Machine) (is : IsLr0Automaton M)
           = by_step (step mirrors) (λ st ms. follow rest st ms)
         where
           by_step : Step mirrors → ((st : List Pushed) → Mirrors M (shape_in s) st next
-              → Follows M (shape_in s) (judge_of s) st token behind out)
-              → Follows M (shape_in s) (judge_of s) stack token behind out
+              → Simulates M (shape_in s) (judge_of s) st token behind out)
+              → Simulates M (shape_in s) (judge_of s) stack token behind out
           by_step (as_settled other e' f) later = absurd (let off : settles other ≡ goes_on next = sym e' ∙ e in cc)
           by_step (as_moved r mv) later =
               let one : goes_on r.made.next ≡ goes_on next = sym r.turns ∙ e in
               let same : r.made.next ≡ next = cc in
               before_move stack _ out mv (later _ (subst (Mirrors M (shape_in s) _) same r.made.mirrors))
-          by_step (as_refused nothing) later = subst (Follows M (shape_in s) (judge_of s) stack token behind)
+          by_step (as_refused nothing) later = subst (Simulates M (shape_in s) (judge_of s) stack token behind)
               (sym (refused_first (onward e rest) stack mirrors nothing)) (
                 record { stack = stack; rest = token ∷ behind },
                 machine.here,

@@ -19,14 +19,14 @@ pub data Mirrors (M : Lr0Automaton) (shape : ℕ → Shape) : List Pushed → Li
 
 -- The outcome for the next token corresponds to that of the tables: the machine continues after it, accepts, or refuses
 -- it, and the tables are never faulty.
-abbrev pub Follows : Lr0Automaton → (ℕ → Shape) → Judge → List Pushed → Token ℕ → List (Token ℕ) → Fed → Type 0
-Follows M shape judge stack token behind (pushed levels) = (next : List Pushed)
+abbrev pub Simulates : Lr0Automaton → (ℕ → Shape) → Judge → List Pushed → Token ℕ → List (Token ℕ) → Fed → Type 0
+Simulates M shape judge stack token behind (pushed levels) = (next : List Pushed)
     × Leads M.grammar judge (record { stack = stack; rest = token ∷ behind })
     (record { stack = next; rest = behind }) × Mirrors M shape next levels
-Follows M shape judge stack token behind (done term) = (c : Configuration) × (d : Tree)
+Simulates M shape judge stack token behind (done term) = (c : Configuration) × (d : Tree)
     × Leads M.grammar judge (record { stack = stack; rest = token ∷ behind }) c × Accepts M.grammar judge c d
     × (term ≡ build shape d)
-Follows M shape judge stack token behind refused = (c : Configuration)
+Simulates M shape judge stack token behind refused = (c : Configuration)
     × Leads M.grammar judge (record { stack = stack; rest = token ∷ behind }) c × Refuses M.grammar judge c
     × (c.rest ≡ token ∷ behind)
-Follows M shape judge stack token behind faulty = ⊥
+Simulates M shape judge stack token behind faulty = ⊥

@@ -19,7 +19,7 @@ use Rattle.ly_resolve.specs.Precedence.{judge_of}
 use Rattle.ly_tree.specs.Term.{Term, build}
 use Rattle.ly_yaccread.specs.File.{Written}
 use Rattle.ly_yaccread.specs.YaccText.{YaccText}
-use Rattle.ly_emit.specs.Following.{Follows, Mirrors}
+use Rattle.ly_emit.specs.Following.{Simulates, Mirrors}
 use Rattle.ly_emit.specs.Tables.{AreShapesWithin, IsMachineOf, shape_in}
 
 -- The reference machine does to a token what tables with defaults do: a default is a reduction that it makes too, or
@@ -28,7 +28,7 @@ abbrev pub TablesFollow : Type 0
 TablesFollow = (s : Spec) (M : Lr0Automaton) (n : Machine) → IsLr0Automaton M → KeepsUseful s.grammar M.grammar
     → IsMachineOf s M n → (stack : List Pushed) (levels : List Level) (token : Token ℕ) (behind : List (Token ℕ))
     (out : Fed) → token.terminal < M.grammar.terminals → Mirrors M (shape_in s) stack levels → Feeds n token levels out
-    → Follows M (shape_in s) (judge_of s) stack token behind out
+    → Simulates M (shape_in s) (judge_of s) stack token behind out
 
 -- the terminal of each token is one of the grammar's
 abbrev pub AreOf : Lr0Automaton → List (Token ℕ) → Type 0

@@ -24,16 +24,16 @@ answer_name (Gen fault) = gen_name fault
 answer_name (Text fault) = text.text_fault_name fault
 
 -- nothing was read: the files are rejected
-abbrev pub IsBeforeReading : AnswerFault → Type 0
-IsBeforeReading (Gen fault) = Unit {0}
-IsBeforeReading (Text fault) = ⊥
+abbrev pub ReadNothing : AnswerFault → Type 0
+ReadNothing (Gen fault) = Unit {0}
+ReadNothing (Text fault) = ⊥
 
 -- nothing was written: any error but a failed write
-abbrev pub IsBeforeWriting : AnswerFault → Type 0
-IsBeforeWriting (Gen fault) = Unit {0}
-IsBeforeWriting (Text fault) = text.IsBeforeWriting fault
+abbrev pub WroteNothing : AnswerFault → Type 0
+WroteNothing (Gen fault) = Unit {0}
+WroteNothing (Text fault) = text.WroteNothing fault
 
 -- a write failed
-abbrev pub IsWrite : AnswerFault → Type 0
-IsWrite (Gen fault) = ⊥
-IsWrite (Text fault) = text.IsWrite fault
+abbrev pub IsFailedWrite : AnswerFault → Type 0
+IsFailedWrite (Gen fault) = ⊥
+IsFailedWrite (Text fault) = text.IsFailedWrite fault

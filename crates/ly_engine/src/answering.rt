@@ -3,10 +3,10 @@ ghost use Rattle.std.specs.Io.KnownBytes.{IsAtEnd};
 ghost use Rattle.ly_print.specs.Device.{next_count};
 ghost use Rattle.ly_base.specs.Limits.{version_2};
 ghost use Rattle.ly_base.specs.declared.version.Version.TheVariants.{V2};
-ghost use Rattle.ly_drive.specs.Answering.{IsAnsweredBy, IsBegunBy, IsOpenBehind, IsReadAsNeeded, IsTooLong};
+ghost use Rattle.ly_drive.specs.Answering.{IsAnsweredBy, IsBegunBy, NeedsMoreInput, IsReadAsNeeded, IsTooLong};
 ghost use Rattle.ly_tables.specs.TableSet.{TableSet as Tables};
 ghost use Rattle.ly_generate.specs.Accepted.{IsRefusedFor};
-ghost use Rattle.ly_engine.specs.AnswerFault.{IsBeforeReading, IsBeforeWriting, IsWrite};
+ghost use Rattle.ly_engine.specs.AnswerFault.{ReadNothing, WroteNothing, IsFailedWrite};
 ghost use Rattle.ly_generate.specs.Generated.{IsGenerated};
 ghost use Rattle.ly_generate.specs.declared.gen_fault.GenFault as code;
 ghost use Rattle.ly_generate.specs.declared.gen_fault.GenFault.TheVariants as gen;
@@ -14,7 +14,7 @@ ghost use Rattle.ly_generate.specs.declared.gen_fault.GenFault.TheVariants as ge
 use crate::answer_fault::AnswerFault;
 use ly_base::{Limits, Version};
 use ly_drive::{Outcome, TextFault, run};
-use ly_generate::{Report, file_tables};
+use ly_generate::{ReportRequest, file_tables};
 use ly_print::{AnswerForm, Sink, Source};
 use std::alloc::Global;
 
@@ -41,23 +41,30 @@ pub fn answer<R: Source, W: Sink>(
         → (fault ≢ gen.OutOfMemory) × IsRefusedFor version_2 lex.now yacc.now fault }
     ensures never_faulty { result ≢ Err (AnswerFault.Text TextFault.FaultyTables) }
     ensures long { result ≡ Err (AnswerFault.Text TextFault.TooLong) → IsTooLong (R.remaining reader.old) }
-    ensures unread { IfErr result (λ e. IsBeforeReading e → reader.new ≡ reader.old) }
+    ensures unread { IfErr result (λ e. ReadNothing e → reader.new ≡ reader.old) }
     ensures ended { result ≡ Ok Outcome.Tree → IsAtEnd (R.remaining reader.new) }
     ensures needed { (IsErrOf result (AnswerFault.Text TextFault.Read) → ⊥) → (reader.new ≡ reader.old)
         ⊎ ((s : Tables) × IsGenerated V2 version_2 lex.now yacc.now s
         × IsReadAsNeeded 4096 s (R.remaining reader.old) (R.remaining reader.new)) }
     ensures asked { IsErrOf result (AnswerFault.Text TextFault.Read) → (s : Tables)
         × IsGenerated V2 version_2 lex.now yacc.now s
-        × IsOpenBehind s (R.remaining reader.old) (R.remaining reader.new) }
+        × NeedsMoreInput s (R.remaining reader.old) (R.remaining reader.new) }
     ensures read { IsErrOf result (AnswerFault.Text TextFault.Read)
         → R.failures reader.new ≡ next_count (R.failures reader.old) }
     ensures reader_held { (IsErrOf result (AnswerFault.Text TextFault.Read) → ⊥)
         → R.failures reader.new ≡ R.failures reader.old }
-    ensures write { IfErr result (λ e. IsWrite e → W.failures writer.new ≡ next_count (W.failures writer.old)) }
+    ensures write { IfErr result (λ e. IsFailedWrite e → W.failures writer.new ≡ next_count (W.failures writer.old)) }
     ensures writer_held { OnOk result (W.failures writer.new ≡ W.failures writer.old) }
-    ensures untouched { IfErr result (λ e. IsBeforeWriting e → writer.new ≡ writer.old) }
+    ensures untouched { IfErr result (λ e. WroteNothing e → writer.new ≡ writer.old) }
 {
-    let generated = file_tables(alloc, lex, yacc, &Limits::V2, Version::V2, Report::Unwanted)?;
+    let generated = file_tables(
+        alloc,
+        lex,
+        yacc,
+        &Limits::V2,
+        Version::V2,
+        ReportRequest::Unwanted,
+    )?;
     let answered = run(alloc, &generated.set, form, reader, writer);
     drop(generated);
     Ok(answered?)

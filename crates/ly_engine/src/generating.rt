@@ -9,7 +9,7 @@ ghost use Rattle.ly_tables.specs.TableSet.{TableSet as Tables};
 ghost use Rattle.ly_tables.specs.TableText.{TableText};
 
 use ly_base::{Limits, OutOfMemory, Version};
-use ly_generate::{GenFault, Report, file_tables};
+use ly_generate::{GenFault, ReportRequest, file_tables};
 use ly_report::ConflictCounts;
 use ly_tables::{FormatFault, TableSet, write_tables};
 use std::alloc::Global;
@@ -41,7 +41,7 @@ pub fn generate(
         × TableText bytes.items version s) }
     ensures refused { IfErr result (IsRefusedFor (least_of limits.now (sizes_in version)) lex.now yacc.now) }
 {
-    let generated = file_tables(alloc, lex, yacc, limits, version, Report::Unwanted)?;
+    let generated = file_tables(alloc, lex, yacc, limits, version, ReportRequest::Unwanted)?;
     let tables = written(alloc, &generated.set, version);
     drop(generated);
     Ok(tables?)
@@ -58,7 +58,7 @@ pub fn build(
     yacc: &[u8],
     limits: &Limits,
     version: Version,
-    report: Report,
+    report: ReportRequest,
 ) -> Result<Built, GenFault>
     ensures built { IfOk result (λ b. (s : Tables)
         × (g : IsGenerated version (least_of limits.now (sizes_in version)) lex.now yacc.now s)

@@ -27,7 +27,7 @@ pub use ly_drive::{
     DriveFault, Feed, FeedFault, LinesOutcome, Need, Outcome, TextFault, drive, drive_lines,
 };
 pub use ly_generate::{
-    GenFault, Report, Specification, parser_tables, read_specification, refusal_is_exact,
+    GenFault, ReportRequest, Specification, parser_tables, read_specification, refusal_is_exact,
     sentences_are_answered, settle, tables_answer_as_specified,
 };
 pub use ly_places::{drive_placed, run_placed};

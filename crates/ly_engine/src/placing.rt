@@ -6,7 +6,7 @@ ghost use Rattle.ly_base.specs.declared.version.Version.TheVariants.{V2};
 ghost use Rattle.ly_places.specs.Placing.{IsPlacedFor, IsPlacingBegun};
 ghost use Rattle.ly_tables.specs.TableSet.{TableSet as Tables};
 ghost use Rattle.ly_generate.specs.Accepted.{IsRefusedFor};
-ghost use Rattle.ly_engine.specs.AnswerFault.{IsBeforeReading, IsBeforeWriting, IsWrite};
+ghost use Rattle.ly_engine.specs.AnswerFault.{ReadNothing, WroteNothing, IsFailedWrite};
 ghost use Rattle.ly_generate.specs.Generated.{IsGenerated};
 ghost use Rattle.ly_generate.specs.declared.gen_fault.GenFault as code;
 ghost use Rattle.ly_generate.specs.declared.gen_fault.GenFault.TheVariants as gen;
@@ -14,7 +14,7 @@ ghost use Rattle.ly_generate.specs.declared.gen_fault.GenFault.TheVariants as ge
 use crate::answer_fault::AnswerFault;
 use ly_base::{Limits, Version};
 use ly_drive::{Outcome, TextFault};
-use ly_generate::{Report, file_tables};
+use ly_generate::{ReportRequest, file_tables};
 use ly_places::run_placed;
 use ly_print::{Sink, Source};
 use std::alloc::Global;
@@ -40,17 +40,24 @@ pub fn answer_placed<R: Source, W: Sink>(
         → (fault ≢ gen.OutOfMemory) × IsRefusedFor version_2 lex.now yacc.now fault }
     ensures never_faulty { result ≢ Err (AnswerFault.Text TextFault.FaultyTables) }
     ensures never_long { result ≢ Err (AnswerFault.Text TextFault.TooLong) }
-    ensures unread { IfErr result (λ e. IsBeforeReading e → reader.new ≡ reader.old) }
+    ensures unread { IfErr result (λ e. ReadNothing e → reader.new ≡ reader.old) }
     ensures ended { OnOk result (IsAtEnd (R.remaining reader.new)) }
     ensures read { IsErrOf result (AnswerFault.Text TextFault.Read)
         → R.failures reader.new ≡ next_count (R.failures reader.old) }
     ensures reader_held { (IsErrOf result (AnswerFault.Text TextFault.Read) → ⊥)
         → R.failures reader.new ≡ R.failures reader.old }
-    ensures write { IfErr result (λ e. IsWrite e → W.failures writer.new ≡ next_count (W.failures writer.old)) }
+    ensures write { IfErr result (λ e. IsFailedWrite e → W.failures writer.new ≡ next_count (W.failures writer.old)) }
     ensures writer_held { OnOk result (W.failures writer.new ≡ W.failures writer.old) }
-    ensures untouched { IfErr result (λ e. IsBeforeWriting e → writer.new ≡ writer.old) }
+    ensures untouched { IfErr result (λ e. WroteNothing e → writer.new ≡ writer.old) }
 {
-    let generated = file_tables(alloc, lex, yacc, &Limits::V2, Version::V2, Report::Unwanted)?;
+    let generated = file_tables(
+        alloc,
+        lex,
+        yacc,
+        &Limits::V2,
+        Version::V2,
+        ReportRequest::Unwanted,
+    )?;
     let answered = run_placed(alloc, &generated.set, reader, writer);
     drop(generated);
     Ok(answered?)

@@ -12,7 +12,7 @@ ghost use Rattle.ly_generate.specs.declared.gen_fault.GenFault.{GenFault};
 
 use crate::reporting_fault::ReportingFault;
 use ly_base::Limits;
-use ly_generate::{Report, file_parser};
+use ly_generate::{ReportRequest, file_parser};
 use ly_print::{Sink, write_whole};
 use std::alloc::Global;
 
@@ -44,7 +44,7 @@ pub fn generate_report<W: Sink>(
     ensures held { OnOk result (W.failures writer.new ≡ W.failures writer.old) }
     ensures untouched { (fault : GenFault) → result ≡ Err (ReportingFault.Files fault) → writer.new ≡ writer.old }
 {
-    let parser = file_parser(alloc, lex, yacc, limits, Report::Wanted)?;
+    let parser = file_parser(alloc, lex, yacc, limits, ReportRequest::Wanted)?;
     // by the call's contract the report exists, since it is requested
     let text = parser.report.unwrap();
     write_whole(writer, &text)?;

@@ -10,8 +10,9 @@ ghost use Rattle.ly_lr0.specs.Automaton as parser;
 ghost use Rattle.ly_subset.specs.Automaton.{IsBreadthFirst};
 ghost use Rattle.ly_explain.specs.Explained.{IsExplained, IsFitFor, no_rules};
 
-use ly_accepted::{Accepted, Explanation, Tables, Wish, survey, text_in_form};
+use ly_accepted::{Analysis, Explanation, Options, Tables, survey, text_in_form};
 use ly_base::{Limits, OutOfMemory, Version};
+use ly_diagnostics::{indented_lines, write_faults, write_json_faults};
 use ly_generate::{GenFault, Specification, parser_tables, read_specification};
 use ly_grammar::reduce;
 use ly_join::Spec;
@@ -19,19 +20,18 @@ use ly_lexread::LexFile;
 use ly_lookahead::{Lookaheads, lookaheads};
 use ly_lr0::{Lr0, automaton};
 use ly_minim::minimise;
-use ly_page::{Named, Page};
-use ly_refused::{indented_lines, say_faults, say_json_faults};
 use ly_resolve::{Resolved, resolve};
 use ly_subset::Dfa;
+use ly_text_buffer::{NamedFile, TextBuffer};
 use std::alloc::Global;
 
 /// Two files as they were read.
 #[derive(Clone, Copy)]
 struct Read<'a> {
     /// The lex file.
-    lex: Named<'a>,
+    lex: NamedFile<'a>,
     /// The yacc file.
-    yacc: Named<'a>,
+    yacc: NamedFile<'a>,
     /// The lex file as it was read.
     file: &'a LexFile,
     /// The specification of both files.
@@ -46,23 +46,23 @@ struct Read<'a> {
 /// A limit above that of version 2 of the table file is lowered to it. Returns `OutOfMemory` if an allocation fails.
 pub fn explain(
     alloc: Global,
-    lex: Named<'_>,
-    yacc: Named<'_>,
+    lex: NamedFile<'_>,
+    yacc: NamedFile<'_>,
     limits: &Limits,
-    wish: Wish,
+    options: Options,
 ) -> Result<Explanation, OutOfMemory>
     ensures explained { IfOk result
         (IsExplained (least_of limits.now (sizes_in V2)) lex.entry.bytes.now yacc.entry.bytes.now) }
-    ensures form { IfOk result (λ e. IsInForm wish.json e.findings e.text.items) }
+    ensures form { IfOk result (λ e. IsInForm options.json e.findings e.text.items) }
 {
     let limits = limits.within(Version::V2);
-    match of_accepted(alloc, lex, yacc, &limits, wish) {
+    match of_accepted(alloc, lex, yacc, &limits, options) {
         Ok(explanation) => Ok(explanation),
         Err(GenFault::OutOfMemory) => Err(OutOfMemory),
         Err(fault) => {
-            let said = said_of_refused(alloc, lex, yacc, &limits, &fault, wish.json)?;
+            let said = said_of_refused(alloc, lex, yacc, &limits, &fault, options.json)?;
             Ok(Explanation {
-                text: text_in_form(alloc, wish.json, &None, said)?,
+                text: text_in_form(alloc, options.json, &None, said)?,
                 states: None,
                 picture: None,
                 findings: None,
@@ -74,20 +74,20 @@ pub fn explain(
 /// The report of two files that are rejected with this error.
 fn said_of_refused(
     alloc: Global,
-    lex: Named<'_>,
-    yacc: Named<'_>,
+    lex: NamedFile<'_>,
+    yacc: NamedFile<'_>,
     limits: &Limits,
     fault: &GenFault,
     json: bool,
 ) -> Result<Vec<u8>, OutOfMemory> {
-    let mut page = Page::new(alloc);
+    let mut buffer = TextBuffer::new(alloc);
     if json {
-        say_json_faults(alloc, &mut page, lex, yacc, limits, fault)?;
-        page.say(b",\"doubts\":[],\"conflicts\":[],\"cure\":null,\"untold\":0}\n");
+        write_json_faults(alloc, &mut buffer, lex, yacc, limits, fault)?;
+        buffer.push(b",\"doubts\":[],\"conflicts\":[],\"cure\":null,\"untold\":0}\n");
     } else {
-        say_faults(alloc, &mut page, lex, yacc, limits, fault)?;
+        write_faults(alloc, &mut buffer, lex, yacc, limits, fault)?;
     }
-    page.finish()
+    buffer.finish()
 }
 
 /// A lex file without rules, in place of a missing one.
@@ -99,33 +99,33 @@ const NO_RULES: &[u8] = b"%%\n";
 /// A limit above that of version 2 of the table file is lowered to it. Returns `OutOfMemory` if an allocation fails.
 pub fn explain_grammar(
     alloc: Global,
-    yacc: Named<'_>,
+    yacc: NamedFile<'_>,
     limits: &Limits,
-    wish: Wish,
+    options: Options,
 ) -> Result<Explanation, OutOfMemory>
     ensures explained { IfOk result
         (IsExplained (least_of limits.now (sizes_in V2)) no_rules yacc.entry.bytes.now) }
-    ensures form { IfOk result (λ e. IsInForm wish.json e.findings e.text.items) }
+    ensures form { IfOk result (λ e. IsInForm options.json e.findings e.text.items) }
 {
-    let wish = Wish {
-        states: wish.states,
-        picture: wish.picture,
+    let options = Options {
+        states: options.states,
+        picture: options.picture,
         grammar_alone: true,
-        json: wish.json,
+        json: options.json,
     };
-    explain(alloc, Named::new("", NO_RULES), yacc, limits, wish)
+    explain(alloc, NamedFile::new("", NO_RULES), yacc, limits, options)
 }
 
 /// The report of two files if they are accepted. Otherwise their error.
 fn of_accepted(
     alloc: Global,
-    lex: Named<'_>,
-    yacc: Named<'_>,
+    lex: NamedFile<'_>,
+    yacc: NamedFile<'_>,
     limits: &Limits,
-    wish: Wish,
+    options: Options,
 ) -> Result<Explanation, GenFault>
     ensures formed { IfOk result (IsExplained limits.now lex.entry.bytes.now yacc.entry.bytes.now) }
-    ensures form { IfOk result (λ e. IsInForm wish.json e.findings e.text.items) }
+    ensures form { IfOk result (λ e. IsInForm options.json e.findings e.text.items) }
     ensures refused { IfErr result (IsRefusedFor limits.now lex.entry.bytes.now yacc.entry.bytes.now) }
 {
     let given = read_specification(alloc, lex.bytes, yacc.bytes, limits)?;
@@ -142,7 +142,7 @@ fn of_accepted(
         spec: &spec,
         dfa: &dfa,
     };
-    let said = of_read(alloc, read, limits, wish);
+    let said = of_read(alloc, read, limits, options);
     drop(dfa);
     drop(spec);
     drop(file);
@@ -154,17 +154,17 @@ fn of_read(
     alloc: Global,
     read: Read<'_>,
     limits: &Limits,
-    wish: Wish,
+    options: Options,
 ) -> Result<Explanation, GenFault>
     requires shapes { AreShapesWithin read.spec.now }
     requires order { IsBreadthFirst read.dfa.now }
     ensures fit { IfOk result (IsFitFor limits.now read.entry.spec.now) }
-    ensures form { IfOk result (λ e. IsInForm wish.json e.findings e.text.items) }
+    ensures form { IfOk result (λ e. IsInForm options.json e.findings e.text.items) }
     ensures unfit { IfErr result (IsUnfitFor limits.now read.entry.spec.now) }
 {
     let reduced = reduce(alloc, read.spec.grammar())?;
     let lr0 = automaton(alloc, &reduced, limits)?;
-    of_automaton(alloc, read, &lr0, wish)
+    of_automaton(alloc, read, &lr0, options)
 }
 
 /// The report of two files with an automaton, if its tables can be made. Otherwise their error.
@@ -172,21 +172,21 @@ fn of_automaton(
     alloc: Global,
     read: Read<'_>,
     lr0: &Lr0<'_>,
-    wish: Wish,
+    options: Options,
 ) -> Result<Explanation, GenFault>
     requires shapes { AreShapesWithin read.spec.now }
     requires order { IsBreadthFirst read.dfa.now }
     requires lawful { parser.IsLr0Automaton lr0.now }
     requires useful { KeepsUseful read.spec.now.grammar lr0.now.grammar }
     ensures found { IfOk result (AreFoundIn read.entry.spec.now) }
-    ensures form { IfOk result (λ e. IsInForm wish.json e.findings e.text.items) }
+    ensures form { IfOk result (λ e. IsInForm options.json e.findings e.text.items) }
     ensures steady { IfOk result (λ _. HasSteadyTables read.entry.spec.now lr0.now.grammar) }
     ensures unfit { IfErr result (λ fault. (limits : Sizes) → IsUnfitFor limits read.entry.spec.now fault) }
 {
     let lookaheads = lookaheads(alloc, lr0)?;
     let resolved = resolve(alloc, read.spec, lr0, &lookaheads)?;
     let tables = parser_tables(alloc, &resolved)?;
-    let told = told(alloc, read, &resolved, &lookaheads, &tables, wish);
+    let told = told(alloc, read, &resolved, &lookaheads, &tables, options);
     drop(tables);
     drop(resolved);
     drop(lookaheads);
@@ -200,16 +200,16 @@ fn told(
     resolved: &Resolved<'_>,
     lookaheads: &Lookaheads,
     tables: &Tables,
-    wish: Wish,
+    options: Options,
 ) -> Result<Explanation, OutOfMemory>
     requires order { IsBreadthFirst read.dfa.now }
     requires same { resolved.now.spec ≡ read.spec.now }
     requires sets { AreLookaheads resolved.now.automaton lookaheads.now }
     ensures found { IfOk result (AreFoundIn read.entry.spec.now) }
-    ensures form { IfOk result (λ e. IsInForm wish.json e.findings e.text.items) }
+    ensures form { IfOk result (λ e. IsInForm options.json e.findings e.text.items) }
 {
     let indented = indented_lines(alloc, read.lex.bytes)?;
-    let files = Accepted {
+    let files = Analysis {
         lex: read.lex,
         yacc: read.yacc,
         file: read.file,
@@ -219,5 +219,5 @@ fn told(
         lookaheads,
         indented: &indented,
     };
-    survey(alloc, files, tables, wish)
+    survey(alloc, files, tables, options)
 }

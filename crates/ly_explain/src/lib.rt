@@ -11,5 +11,5 @@
 mod explaining;
 
 pub use explaining::{explain, explain_grammar};
-pub use ly_accepted::{Explanation, Findings, Wish};
-pub use ly_page::Named;
+pub use ly_accepted::{Explanation, Findings, Options};
+pub use ly_text_buffer::NamedFile;

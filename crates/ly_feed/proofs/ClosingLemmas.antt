@@ -6,17 +6,17 @@ use Rattle.ly_feed.proofs.OnwardLemmas.{settled_on}
 use Rattle.ly_feed.proofs.SettledLemmas.{nothing_more, settled_at_end}
 use Rattle.ly_feed.proofs.StopLemmas.{accepts_last, fails_last, refuses_last}
 use Rattle.ly_feed.specs.Onward.{IsSettled, Onward}
-use Rattle.ly_feed.specs.Flaw.{verdict_of}
+use Rattle.ly_feed.specs.SyntaxError.{verdict_of}
 use Rattle.ly_feed.specs.Closed.{IsClosed, progress_of}
 use Rattle.ly_feed.specs.Private.Running.{IsLast, IsRunOn, end_token}
 use Rattle.ly_feed.specs.ScanPart.{ScanPart}
 use Rattle.ly_feed.specs.TableAnswer.{IsRest, Progress, end_at}
 use Rattle.ly_feed.specs.Verdict.{Verdict, accepted, faulty, refused}
-use Rattle.ly_feed.specs.declared.flaw.Flaw.{Flaw}
+use Rattle.ly_feed.specs.declared.syntax_error.SyntaxError.{SyntaxError}
 use Rattle.ly_feed.specs.declared.text_fault.TextFault.{TextFault}
 use Rattle.ly_feed.specs.declared.text_fault.TextFault.TheVariants as text
 use Rattle.ly_feed.specs.declared.running.Halt.{Halt}
-use Rattle.ly_feed.specs.declared.running.Halt.TheVariants.{Flawed}
+use Rattle.ly_feed.specs.declared.running.Halt.TheVariants.{Stopped}
 use Rattle.ly_feed.specs.declared.running.Ended.{Ended}
 use Rattle.ly_feed.specs.declared.running.Ended.TheVariants.{Accepted, Refused}
 use Rattle.ly_pack.specs.Machine.{Machine}
@@ -34,11 +34,11 @@ settled_here ended p m w v settled = subst (λ x. IsRest p m x v) (nothing_more 
 
 module _ (p : ScanPart) (m : Machine) (w : Progress) where
   -- something is wrong before the end
-  pub closed_by : (r : Parse) (forest : Grown) (h : Halt) (flaw : Flaw) → IsRunOn true p m w r (Ok h)
-      → h ≡ Flawed flaw → IsClosed p m w forest (Ok (Refused flaw))
-  closed_by r forest h flaw run at = (
-    verdict_of flaw,
-    settled_here true p m w (verdict_of flaw) (subst (λ x. IsRunOn true p m w r (Ok x)) at run),
+  pub closed_by : (r : Parse) (forest : Grown) (h : Halt) (syntax_error : SyntaxError) → IsRunOn true p m w r (Ok h)
+      → h ≡ Stopped syntax_error → IsClosed p m w forest (Ok (Refused syntax_error))
+  closed_by r forest h syntax_error run at = (
+    verdict_of syntax_error,
+    settled_here true p m w (verdict_of syntax_error) (subst (λ x. IsRunOn true p m w r (Ok x)) at run),
     refl,
     tt,
   )
@@ -80,9 +80,9 @@ module _ (p : ScanPart) (m : Machine) (w : Progress) where
       (f.0, refl, f.2),
       (f.0, f.2, f.3),
     )
-    closed forest (Ok (Refused flaw)) f = (
-      verdict_of flaw,
-      said (verdict_of flaw)
+    closed forest (Ok (Refused syntax_error)) f = (
+      verdict_of syntax_error,
+      said (verdict_of syntax_error)
           (subst (IsRest p m (progress_of q r)) (sym (f.3 ∙ ap (λ e. refused (r.count + 1) e f.0) end_here))
           (refuses_last p m (progress_of q r) (end_at q) f.0 ends (fed_there fed.refused f.1)
           (subst (λ k. AreExpected k (states_on r.stack) f.0) machine f.2))),

@@ -12,7 +12,7 @@ use Rattle.ly_feed.specs.TableAnswer.{IsRest, Progress}
 use Rattle.ly_feed.specs.TextFault.{IsOfEnding, IsOfWriting}
 use Rattle.ly_feed.specs.Verdict.{IsOutcome, Verdict, faulty, written_in}
 use Rattle.ly_feed.specs.Vocabularies.{vocabulary_of}
-use Rattle.ly_feed.specs.declared.flaw.Flaw.TheVariants as flaw
+use Rattle.ly_feed.specs.declared.syntax_error.SyntaxError.TheVariants as syntax_error
 use Rattle.ly_feed.specs.declared.outcome.Outcome.{Outcome}
 use Rattle.ly_feed.specs.declared.outcome.Outcome.TheVariants.{NoRule, Syntax, Tree}
 use Rattle.ly_feed.specs.declared.running.Ended.{Ended}
@@ -68,11 +68,11 @@ writing_ends (Err text.Read) is = absurd is
 pub outcome_of : (forest : Grown) (ended : Ended) (v : Verdict) → IsVerdictOf forest ended v
     → (o : Outcome) × IsOutcome v o
 outcome_of forest (Accepted root) v is = (Tree, subst (λ x. IsOutcome x Tree) (sym is.1) refl)
-outcome_of forest (Refused (flaw.Refused number token expected)) v is = (
+outcome_of forest (Refused (syntax_error.Refused number token expected)) v is = (
   Syntax number token.at (length token.text) expected,
   subst (λ x. IsOutcome x (Syntax number token.at (length token.text) expected)) (sym is) (refl, refl, refl, refl),
 )
-outcome_of forest (Refused (flaw.NoRule byte)) v is =
+outcome_of forest (Refused (syntax_error.NoRule byte)) v is =
     (NoRule byte, subst (λ x. IsOutcome x (NoRule byte)) (sym is) refl)
 
 -- what was written is the answer

@@ -11,7 +11,7 @@ use Rattle.ly_feed.proofs.PieceLemmas.{same_end, same_rest, settled_rest}
 use Rattle.ly_feed.specs.Held.{Held, IsOnward, IsOver, IsPiece, TakesPiece, seen}
 use Rattle.ly_feed.specs.Onward.{Onward, and_passes, and_reads, none_yet}
 use Rattle.ly_feed.specs.Private.Feeding.{held_from}
-use Rattle.ly_feed.specs.Flaw.{verdict_of}
+use Rattle.ly_feed.specs.SyntaxError.{verdict_of}
 use Rattle.ly_feed.specs.Closed.{progress_of}
 use Rattle.ly_feed.specs.Private.Running.{IsRunOn}
 use Rattle.ly_feed.specs.ScanPart.{ScanPart, condition_in, scan_part_of, scanner_in}
@@ -19,14 +19,14 @@ use Rattle.ly_feed.specs.TableAnswer.{Progress}
 use Rattle.ly_feed.specs.Verdict.{IsOutcome, faulty, written_in}
 use Rattle.ly_feed.specs.Vocabularies.{vocabulary_of}
 use Rattle.ly_feed.specs.declared.feed_fault.FeedFault.{FeedFault}
-use Rattle.ly_feed.specs.declared.flaw.Flaw.{Flaw}
-use Rattle.ly_feed.specs.declared.flaw.Flaw.TheVariants.{NoRule, Refused}
+use Rattle.ly_feed.specs.declared.syntax_error.SyntaxError.{SyntaxError}
+use Rattle.ly_feed.specs.declared.syntax_error.SyntaxError.TheVariants.{NoRule, Refused}
 use Rattle.ly_feed.specs.declared.need.Need.{Need}
 use Rattle.ly_feed.specs.declared.need.Need.TheVariants.{Settled}
 use Rattle.ly_feed.specs.declared.outcome.Outcome.{Outcome}
 use Rattle.ly_feed.specs.declared.outcome.Outcome.TheVariants as out
 use Rattle.ly_feed.specs.declared.running.Halt.{Halt}
-use Rattle.ly_feed.specs.declared.running.Halt.TheVariants.{Flawed}
+use Rattle.ly_feed.specs.declared.running.Halt.TheVariants.{Stopped}
 use Rattle.ly_feed.specs.declared.text_fault.TextFault.{TextFault}
 use Rattle.ly_feed.specs.declared.text_fault.TextFault.TheVariants as text
 use Rattle.ly_feed.specs.FeedFaultNames.{feed_fault_of}
@@ -86,7 +86,7 @@ pub run_of_set : (p : ScanPart) (w : Progress) (r : Parse) {m k : Machine} → k
 run_of_set p w r same result run = subst (λ x. IsRunOn false p x w r result) same run
 
 -- of a flaw no tree is told
-no_tree : (flaw : Flaw) (o : Outcome) → IsOutcome (verdict_of flaw) o → o ≡ out.Tree → ⊥
+no_tree : (syntax_error : SyntaxError) (o : Outcome) → IsOutcome (verdict_of syntax_error) o → o ≡ out.Tree → ⊥
 no_tree (Refused number token expected) (out.Syntax n b count ts) told is = cc
 no_tree (Refused number token expected) out.Tree told is = told
 no_tree (Refused number token expected) (out.NoRule b) told is = told
@@ -117,20 +117,20 @@ module _ (set : TableSet) (form : AnswerForm) (q : Place) (s : Parse) (over : Bo
   }
 
   -- something is wrong
-  pub is_settled : (g : Held) (flaw : Flaw) (o : Outcome) (lines : Vec ℕ Global)
+  pub is_settled : (g : Held) (syntax_error : SyntaxError) (o : Outcome) (lines : Vec ℕ Global)
       (t : Parse) (h : Halt)
-      → IsRunOn false p m (progress_of (behind q piece) s) t (Ok h) → h ≡ Flawed flaw
-      → IsOutcome (verdict_of flaw) o → lines.items ≡ written_in form (vocabulary_of set) (verdict_of flaw) → IsOver f g
+      → IsRunOn false p m (progress_of (behind q piece) s) t (Ok h) → h ≡ Stopped syntax_error
+      → IsOutcome (verdict_of syntax_error) o → lines.items ≡ written_in form (vocabulary_of set) (verdict_of syntax_error) → IsOver f g
       → seen f + length piece < 2 ^ 64 → TakesPiece f piece g (Ok (Settled o lines))
-  is_settled g flaw o lines t h run at told written over few = (
+  is_settled g syntax_error o lines t h run at told written over few = (
     over,
     few,
     (
-      verdict_of flaw,
-      settled_rest p m (progress_of q s) piece (verdict_of flaw)
+      verdict_of syntax_error,
+      settled_rest p m (progress_of q s) piece (verdict_of syntax_error)
           (subst (λ x. IsRunOn false p m (progress_of (behind q piece) s) t (Ok x)) at run),
       told,
-      no_tree flaw o told,
+      no_tree syntax_error o told,
       written,
     ),
   )

@@ -9,8 +9,8 @@ use Rattle.ly_pack.specs.Steady.{rule_at}
 use Rattle.ly_parse.specs.Feeding.{Feeds, Level, done, go_to, onward, perform, pop, reduce_by, settled, settles}
 use Rattle.ly_parse.specs.Feeding.{top_of, uncover}
 use Rattle.ly_parse.specs.Parse.{IsTake, Parse}
-use Rattle.ly_parse.specs.declared.answer.Answer.{Answer}
-use Rattle.ly_parse.specs.declared.answer.Answer.TheVariants.{Accepts}
+use Rattle.ly_parse.specs.declared.token_outcome.TokenOutcome.{TokenOutcome}
+use Rattle.ly_parse.specs.declared.token_outcome.TokenOutcome.TheVariants.{Accepts}
 use Rattle.ly_parse.proofs.FeedingLemmas.{legal}
 use Rattle.ly_tree.specs.Term.{Term, Terms, none}
 
@@ -42,7 +42,7 @@ accepts_end {m} {token} {stack} {d} h (settled e) = by_action (action_of m (top_
 accepts_end h (onward e fed) = accepts_end h fed
 
 -- no other token is
-pub not_accepted : (s r : Parse) (t : Token ℕ) (answer : Answer) → IsMachine s.machine → s.over ≡ false
+pub not_accepted : (s r : Parse) (t : Token ℕ) (answer : TokenOutcome) → IsMachine s.machine → s.over ≡ false
     → 1 ≤ t.terminal → answer ≡ Accepts → IsTake s t r answer → ⊥
 not_accepted s r t answer h goes low is call =
     let fed = (subst (IsTake s t r) is call).before_end goes in

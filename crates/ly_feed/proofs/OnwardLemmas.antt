@@ -17,7 +17,7 @@ use Rattle.ly_pack.specs.Machine.{Machine}
 use Rattle.ly_parse.specs.FeedingLaws.{FeedsInOneWay}
 use Rattle.ly_parse.specs.Reading.{ReadsTokens}
 use Rattle.ly_scan.specs.Lexer.{IsLexemeAt, Scanner}
-use Rattle.ly_scan.specs.Pieces.{CanFollow, PassesOver, StandsFast, behind}
+use Rattle.ly_scan.specs.Pieces.{CanFollow, PassesOver, IsDecided, behind}
 use Rattle.ly_scan.specs.Pieces as pieces
 
 -- nothing comes behind a place
@@ -25,7 +25,7 @@ pub behind_none : (q : Place) → behind q [] ≡ q
 behind_none q = λ i. record { line = q.line; condition = q.condition; at = q.at; rest = append-nil q.rest i }
 
 -- a lexeme that stands, whatever comes, stands where nothing does
-pub stands_here : (ended : Bool) (s : Scanner) (q : Place) (t : Lexeme) → StandsFast ended s q t → IsLexemeAt s q t
+pub stands_here : (ended : Bool) (s : Scanner) (q : Place) (t : Lexeme) → IsDecided ended s q t → IsLexemeAt s q t
 stands_here ended s q t fast = subst (λ x. IsLexemeAt s x t) (behind_none q) (fast.is [] (λ e. refl))
 
 -- a place goes on as its text does
@@ -39,7 +39,7 @@ after_behind next q t more within = λ i. record {
 }
 
 -- what stands whatever comes stands where the text has ended too
-pub fast_of : (ended : Bool) (s : Scanner) (q : Place) (t : Lexeme) → StandsFast false s q t → StandsFast ended s q t
+pub fast_of : (ended : Bool) (s : Scanner) (q : Place) (t : Lexeme) → IsDecided false s q t → IsDecided ended s q t
 fast_of ended s q t fast = record {
   is = λ more can. fast.is more (λ e. absurd (let off : false ≡ true → ⊥ = λ z. cc in off e));
   some = fast.some;
@@ -77,7 +77,7 @@ module _ (p : ScanPart) (m : Machine) where
 module _ (ended : Bool) (p : ScanPart) (m : Machine) where
   -- a decided match is one step, whatever comes
   step_behind : (w u : Progress) (t : Lexeme) (more : List ℕ) → CanFollow ended more
-      → StandsFast ended (scanner_in p) w.place t → IsStep p m w t u
+      → IsDecided ended (scanner_in p) w.place t → IsStep p m w t u
       → IsStep p m (with_more w more) t (with_more u more)
   step_behind w u t more can fast step =
       let bytes : take t.taken w.place.rest ≡ take t.taken (w.place.rest ++ more)
@@ -93,7 +93,7 @@ module _ (ended : Bool) (p : ScanPart) (m : Machine) where
       }
 
   -- and changes nothing
-  alike_one : (w u : Progress) (t : Lexeme) → FeedsInOneWay → StandsFast ended (scanner_in p) w.place t
+  alike_one : (w u : Progress) (t : Lexeme) → FeedsInOneWay → IsDecided ended (scanner_in p) w.place t
       → IsStep p m w t u → AreAlike ended p m w u
   alike_one w u t way fast step more can = alike_step p m (with_more w more) (with_more u more) t way
       (step_behind w u t more can fast step)
@@ -138,8 +138,8 @@ module _ (ended : Bool) (p : ScanPart) (m : Machine) where
       (rule.terminal (take t.taken s.rest)))
 
 -- a lexeme that stands, whatever comes, stands where more has come
-fast_with : (s : Scanner) (q : Place) (t : Lexeme) (more : List ℕ) → StandsFast false s q t
-    → StandsFast false s (behind q more) t
+fast_with : (s : Scanner) (q : Place) (t : Lexeme) (more : List ℕ) → IsDecided false s q t
+    → IsDecided false s (behind q more) t
 fast_with s q t more fast = record {
   is = λ rest can. subst (λ x. IsLexemeAt s x t)
       (λ i. record { line = q.line; condition = q.condition; at = q.at; rest = sym (append_assoc q.rest more rest) i })

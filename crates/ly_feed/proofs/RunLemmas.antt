@@ -22,7 +22,7 @@ use Rattle.ly_pack.specs.Machine.{Machine}
 use Rattle.ly_parse.proofs.FedOnceLemmas.{fed_in_one_way}
 use Rattle.ly_parse.specs.Parse.{Parse}
 use Rattle.ly_scan.specs.Lexers.{Lexer, scanner_of}
-use Rattle.ly_scan.specs.Pieces.{EndsFast, IsUndecided, PassesOver, StandsFast}
+use Rattle.ly_scan.specs.Pieces.{EndIsDecided, IsUndecided, PassesOver, IsDecided}
 
 -- a run halts where the next match isn't decided
 halts_undecided : (ended : Bool) (p : ScanPart) (q : Place) → ended ≡ false → IsUndecided (scanner_in p) q
@@ -31,7 +31,7 @@ halts_undecided false p q e undecided = undecided
 halts_undecided true p q e undecided = absurd cc
 
 -- and at the end of the text
-pub halts_at_end : (ended : Bool) (p : ScanPart) (q : Place) → EndsFast ended (scanner_in p) q Clean → Halts ended p q
+pub halts_at_end : (ended : Bool) (p : ScanPart) (q : Place) → EndIsDecided ended (scanner_in p) q Clean → Halts ended p q
 halts_at_end true p q ends = sym (append-nil q.rest) ∙ ends [] (λ e. refl)
 halts_at_end false p q ends = absurd
     (let none = ap length (ends (0 ∷ []) (anything_follows (0 ∷ []))) in
@@ -40,15 +40,15 @@ halts_at_end false p q ends = absurd
 -- what a lexer finds is what its set's scanner has there
 pub fast_there : (ended : Bool) (p : ScanPart) (l : Lexer) (q : Place) (o : Option Lexeme) (t : Lexeme) → IsLexerOf p l
     → MatchOption o ((ended ≡ false) × IsUndecided (scanner_of l.scanner) q)
-    (StandsFast ended (scanner_of l.scanner) q) → o ≡ Some t → StandsFast ended (scanner_in p) q t
+    (IsDecided ended (scanner_of l.scanner) q) → o ≡ Some t → IsDecided ended (scanner_in p) q t
 fast_there ended p l q (Some x) t is found at =
     let same : x ≡ t = cc in
-    subst (StandsFast ended (scanner_in p) q) same (subst (λ s. StandsFast ended s q x) is.scanner found)
+    subst (IsDecided ended (scanner_in p) q) same (subst (λ s. IsDecided ended s q x) is.scanner found)
 fast_there ended p l q None t is found at = absurd cc
 
 pub undecided_there : (ended : Bool) (p : ScanPart) (l : Lexer) (q : Place) (o : Option Lexeme) → IsLexerOf p l
     → MatchOption o ((ended ≡ false) × IsUndecided (scanner_of l.scanner) q)
-    (StandsFast ended (scanner_of l.scanner) q) → o ≡ None → Halts ended p q
+    (IsDecided ended (scanner_of l.scanner) q) → o ≡ None → Halts ended p q
 undecided_there ended p l q None is found at =
     halts_undecided ended p q found.0 (subst (λ s. IsUndecided s q) is.scanner found.1)
 undecided_there ended p l q (Some x) is found at = absurd cc
@@ -62,19 +62,19 @@ module _ (ended : Bool) (p : ScanPart) (m : Machine) (w : Progress) where
 
   -- no rule matches there
   pub stuck : (l : Lexer) (q : Place) (s : Parse) (e : End) (b : ℕ) → IsLexerOf p l
-      → Onward ended p m w (progress_of q s) → EndsFast ended (scanner_of l.scanner) q e → e ≡ Stuck b
+      → Onward ended p m w (progress_of q s) → EndIsDecided ended (scanner_of l.scanner) q e → e ≡ Stuck b
       → IsSettled ended p m w (unmatched b)
   stuck l q s e b is on ends at = settled_on ended p m (unmatched b) fed_in_one_way on
-      (settled_stuck ended p m (progress_of q s) b (subst (λ x. EndsFast ended (scanner_in p) q x) at
-      (subst (λ x. EndsFast ended x q e) is.scanner ends)))
+      (settled_stuck ended p m (progress_of q s) b (subst (λ x. EndIsDecided ended (scanner_in p) q x) at
+      (subst (λ x. EndIsDecided ended x q e) is.scanner ends)))
 
   -- or a cut leaves no byte or more than the match has
   pub cut : (l : Lexer) (q : Place) (s : Parse) (e : End) (b : ℕ) → IsLexerOf p l
-      → Onward ended p m w (progress_of q s) → EndsFast ended (scanner_of l.scanner) q e → e ≡ BadCut b
+      → Onward ended p m w (progress_of q s) → EndIsDecided ended (scanner_of l.scanner) q e → e ≡ BadCut b
       → IsSettled ended p m w faulty
   cut l q s e b is on ends at = settled_on ended p m faulty fed_in_one_way on
-      (settled_cut ended p m (progress_of q s) b (subst (λ x. EndsFast ended (scanner_in p) q x) at
-      (subst (λ x. EndsFast ended x q e) is.scanner ends)))
+      (settled_cut ended p m (progress_of q s) b (subst (λ x. EndIsDecided ended (scanner_in p) q x) at
+      (subst (λ x. EndIsDecided ended x q e) is.scanner ends)))
 
   -- what is settled behind decided matches
   pub settled_there : (q : Place) (s : Parse) (v : Verdict) → Onward ended p m w (progress_of q s)

@@ -15,7 +15,7 @@ use Rattle.ly_pack.specs.Machine.{Machine}
 use Rattle.ly_parse.specs.Expected.{AreExpected}
 use Rattle.ly_parse.specs.Feeding.{Feeds, states_on}
 use Rattle.ly_parse.specs.Feeding as fed
-use Rattle.ly_scan.specs.Pieces.{EndsFast, StandsFast, behind}
+use Rattle.ly_scan.specs.Pieces.{EndIsDecided, IsDecided, behind}
 
 -- nothing comes
 pub nothing_more : (w : Progress) (more : List ℕ) → more ≡ [] → with_more w more ≡ w
@@ -37,7 +37,7 @@ module _ (ended : Bool) (p : ScanPart) (m : Machine) where
 
   module _ (w : Progress) where
     -- the token of a match that is decided is refused, and these terminals are expected in its place
-    pub settled_refused : (t : Lexeme) (token : Token ℕ) (ts : List ℕ) → StandsFast ended (scanner_in p) w.place t
+    pub settled_refused : (t : Lexeme) (token : Token ℕ) (ts : List ℕ) → IsDecided ended (scanner_in p) w.place t
         → IsTokenAt p w.place t token → Feeds m token w.stack fed.refused → AreExpected m (states_on w.stack) ts
         → IsSettled ended p m w (refused (w.count + 1) token ts)
     settled_refused t token ts fast here feeds list more can =
@@ -45,20 +45,20 @@ module _ (ended : Bool) (p : ScanPart) (m : Machine) where
         (token_behind w.place t token more fast.within here) feeds list
 
     -- the tables are at fault on it
-    pub settled_fault : (t : Lexeme) (token : Token ℕ) → StandsFast ended (scanner_in p) w.place t
+    pub settled_fault : (t : Lexeme) (token : Token ℕ) → IsDecided ended (scanner_in p) w.place t
         → IsTokenAt p w.place t token → Feeds m token w.stack fed.faulty → IsSettled ended p m w faulty
     settled_fault t token fast here feeds more can =
         fails_here p m (with_more w more) (end_at (behind w.place more)) t token (fast.is more can)
         (token_behind w.place t token more fast.within here) feeds
 
     -- no rule matches
-    pub settled_stuck : (b : ℕ) → EndsFast ended (scanner_in p) w.place (Stuck b)
+    pub settled_stuck : (b : ℕ) → EndIsDecided ended (scanner_in p) w.place (Stuck b)
         → IsSettled ended p m w (unmatched b)
     settled_stuck b ends more can
         = sticks p m (with_more w more) (end_at (behind w.place more)) b (ends more can)
 
     -- a cut leaves no byte or more than the match has
-    pub settled_cut : (b : ℕ) → EndsFast ended (scanner_in p) w.place (BadCut b) → IsSettled ended p m w faulty
+    pub settled_cut : (b : ℕ) → EndIsDecided ended (scanner_in p) w.place (BadCut b) → IsSettled ended p m w faulty
     settled_cut b ends more can
         = cuts_badly p m (with_more w more) (end_at (behind w.place more)) b (ends more can)
 

@@ -9,21 +9,21 @@ use Rattle.ly_feed.proofs.FeedingLemmas.{not_accepted}
 use Rattle.ly_feed.proofs.RestLemmas.{one_token}
 use Rattle.ly_feed.proofs.SettledLemmas.{settled_fault, settled_refused}
 use Rattle.ly_feed.specs.Onward.{Onward, IsSettled, IsTokenAt, and_passes, and_reads, none_yet}
-use Rattle.ly_feed.specs.Flaw.{verdict_of}
+use Rattle.ly_feed.specs.SyntaxError.{verdict_of}
 use Rattle.ly_feed.specs.Closed.{progress_of}
 use Rattle.ly_feed.specs.Private.Running.{IsRefusalAt, IsTaken}
 use Rattle.ly_feed.specs.ScanPart.{ScanPart, condition_in, scanner_in, terminal_in}
 use Rattle.ly_feed.specs.TableAnswer.{Progress}
-use Rattle.ly_feed.specs.declared.flaw.Flaw.{Flaw}
+use Rattle.ly_feed.specs.declared.syntax_error.SyntaxError.{SyntaxError}
 use Rattle.ly_feed.specs.Verdict.{refused}
 use Rattle.ly_pack.specs.Machine.{IsMachine, Machine}
 use Rattle.ly_parse.specs.Expected.{AreExpected}
 use Rattle.ly_parse.specs.Feeding.{Feeds, pushed, states_on}
 use Rattle.ly_parse.specs.Feeding as fed
 use Rattle.ly_parse.specs.Parse.{IsTake, Parse}
-use Rattle.ly_parse.specs.declared.answer.Answer.{Answer}
-use Rattle.ly_parse.specs.declared.answer.Answer.TheVariants as answers
-use Rattle.ly_scan.specs.Pieces.{StandsFast}
+use Rattle.ly_parse.specs.declared.token_outcome.TokenOutcome.{TokenOutcome}
+use Rattle.ly_parse.specs.declared.token_outcome.TokenOutcome.TheVariants as answers
+use Rattle.ly_scan.specs.Pieces.{IsDecided}
 
 -- a terminal that is there, as the scanner's part says
 pub terminal_is : (o : Option Sym) (t : Sym) (x : Option ℕ) → option_map (λ (s : Sym). s.0) o ≡ x → o ≡ Some t
@@ -35,14 +35,14 @@ no_terminal o x e is = sym e ∙ ap (option_map (λ (s : Sym). s.0)) is
 
 module _ (ended : Bool) (p : ScanPart) (m : Machine) where
   -- a lexeme without a token is passed over
-  pub passes_on : (q : Place) (s : Parse) (t : Lexeme) → StandsFast ended (scanner_in p) q t
+  pub passes_on : (q : Place) (s : Parse) (t : Lexeme) → IsDecided ended (scanner_in p) q t
       → terminal_in p t.rule.0 (first t.taken q.rest) ≡ None
       → Onward ended p m (progress_of q s) (progress_of (place_after (condition_in p) q t) s)
   passes_on q s t fast none = and_passes t none_yet fast none
 
   -- what becomes of one with a token
-  pub taken : (q : Place) (s r : Parse) (t : Lexeme) (token : Token ℕ) (result : Answer) → IsMachine m
-      → s.machine ≡ m → s.over ≡ false → 1 ≤ token.terminal → StandsFast ended (scanner_in p) q t
+  pub taken : (q : Place) (s r : Parse) (t : Lexeme) (token : Token ℕ) (result : TokenOutcome) → IsMachine m
+      → s.machine ≡ m → s.over ≡ false → 1 ≤ token.terminal → IsDecided ended (scanner_in p) q t
       → IsTokenAt p q t token → IsTake s token r result → IsTaken ended p m (progress_of q s) t r result
   taken q s r t token answers.Reads legal machine goes low fast here f = (
     subst (λ k. Onward ended p m (progress_of q s) (record {
@@ -77,10 +77,10 @@ module _ (ended : Bool) (p : ScanPart) (m : Machine) where
       let both : a ∷ [] ≡ b ∷ [] = sym (one_token p m q t a f) ∙ one_token p m q t b g in cc
 
   -- what is wrong where it is refused
-  pub refused_there : (w : Progress) (t : Lexeme) (r : Parse) (flaw : Flaw) → r.machine ≡ m
-      → StandsFast ended (scanner_in p) w.place t → IsTaken ended p m w t r answers.Refuses
-      → IsRefusalAt p w.place t r flaw → IsSettled ended p m w (verdict_of flaw)
-  refused_there w t r flaw machine fast f told =
+  pub refused_there : (w : Progress) (t : Lexeme) (r : Parse) (syntax_error : SyntaxError) → r.machine ≡ m
+      → IsDecided ended (scanner_in p) w.place t → IsTaken ended p m w t r answers.Refuses
+      → IsRefusalAt p w.place t r syntax_error → IsSettled ended p m w (verdict_of syntax_error)
+  refused_there w t r syntax_error machine fast f told =
       let same = same_token w.place t told.0 f.0 told.2 f.1 in
       subst (IsSettled ended p m w)
       (sym (told.4 ∙ (ap (λ n. refused (n + 1) told.0 told.1) f.4 ∙ ap (λ x. refused (w.count + 1) x told.1) same)))

@@ -30,14 +30,14 @@ use Rattle.ly_feed.specs.declared.text_fault.TextFault.{TextFault}
 use Rattle.ly_feed.specs.declared.text_fault.TextFault.TheVariants as text
 use Rattle.ly_pack.specs.Machine.{Machine}
 use Rattle.ly_parse.specs.Parse.{Parse}
-use Rattle.ly_parse.specs.declared.answer.Answer.{Answer}
+use Rattle.ly_parse.specs.declared.token_outcome.TokenOutcome.{TokenOutcome}
 use Rattle.ly_scan.proofs.KnownWalkLemmas.{known_on}
 use Rattle.ly_scan.proofs.LexerLemmas.{known_passed}
-use Rattle.ly_scan.specs.Facts.{IsTold}
+use Rattle.ly_scan.specs.Facts.{IsTaggedLexeme}
 use Rattle.ly_scan.specs.KnownWalks.{AreKnown}
 use Rattle.ly_scan.specs.Lexers.{Lexer, scanner_of}
-use Rattle.ly_scan.specs.Pieces.{PassesOver, StandsFast}
-use Rattle.ly_scan.specs.declared.told.Told.{Told}
+use Rattle.ly_scan.specs.Pieces.{PassesOver, IsDecided}
+use Rattle.ly_scan.specs.declared.tagged_lexeme.TaggedLexeme.{TaggedLexeme}
 use Rattle.ly_tables.specs.TableSet.{ScanRule, TableSet}
 use Rattle.ly_tables.specs.Values.{scan_rule_from}
 use Rattle.ly_tables.specs.declared.scan_rule.ScanRule as scan
@@ -99,11 +99,11 @@ numbers_say s rules numbers all is rule some = by_rule (slice_get rules rule) re
         }
 
 -- what a lexer tells by such facts
-pub told_at : (p : ScanPart) (l : Lexer) (facts : List ℕ) (q : Place) (told : Told) → IsLexerOf p l
-    → (f : AreFactsOf p l.scanner facts) → IsTold (scanner_of l.scanner) f.numbers q told → IsToldAt p q told
+pub told_at : (p : ScanPart) (l : Lexer) (facts : List ℕ) (q : Place) (told : TaggedLexeme) → IsLexerOf p l
+    → (f : AreFactsOf p l.scanner facts) → IsTaggedLexeme (scanner_of l.scanner) f.numbers q told → IsToldAt p q told
 told_at p l facts q told is f tells = record {
   lexeme = tells.lexeme;
-  stands = subst (λ s. StandsFast false s q tells.lexeme) is.scanner tells.stands;
+  stands = subst (λ s. IsDecided false s q tells.lexeme) is.scanner tells.stands;
   taken = tells.taken;
   some = tells.some;
   says = subst (SaysOf p tells.lexeme.rule.0) tells.fact
@@ -111,7 +111,7 @@ told_at p l facts q told is f tells = record {
 }
 
 -- the terminal of a lexeme of which this is told, by its first byte
-pub terminal_there : (p : ScanPart) (q : Place) (told : Told) (is : IsToldAt p q told) (text : List ℕ) (first : ℕ)
+pub terminal_there : (p : ScanPart) (q : Place) (told : TaggedLexeme) (is : IsToldAt p q told) (text : List ℕ) (first : ℕ)
     (o : Option Sym) → text ≡ take told.taken q.rest → first ≡ slice_index text 0
     → option_map (λ (t : Sym). t.0) o ≡ terminal_told p told.fact first
     → option_map (λ (t : Sym). t.0) o ≡ part.terminal_in p is.lexeme.rule.0 (take is.lexeme.taken q.rest)
@@ -121,7 +121,7 @@ terminal_there p q told is text first o here begins says =
     ∙ sym (is.says.terminal (take is.lexeme.taken q.rest))
 
 -- what becomes of a lexeme, by the answer that is given
-pub answered : (ended : Bool) (p : ScanPart) (m : Machine) (w : Progress) (t : Lexeme) (r : Parse) (a b : Answer)
+pub answered : (ended : Bool) (p : ScanPart) (m : Machine) (w : Progress) (t : Lexeme) (r : Parse) (a b : TokenOutcome)
     → a ≡ b → IsTaken ended p m w t r a → IsTaken ended p m w t r b
 answered ended p m w t r a b is = subst (IsTaken ended p m w t r) is
 
@@ -134,7 +134,7 @@ has_terminal p q t token None here is =
     absurd cc
 
 -- where a lexeme leads of which this is told
-pub told_after : (p : ScanPart) (q next : Place) (told : Told) (is : IsToldAt p q told)
+pub told_after : (p : ScanPart) (q next : Place) (told : TaggedLexeme) (is : IsToldAt p q told)
     → next ≡ moved q told.taken None → next ≡ place_after (condition_in p) q is.lexeme
 told_after p q next told is moves = moves ∙ ap (λ n. moved q n None) (sym is.taken)
     ∙ ap (moved q is.lexeme.taken) (sym is.says.condition)

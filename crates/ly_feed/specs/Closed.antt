@@ -1,7 +1,7 @@
 -- The requirements on tables to run on a text, and the result of a text that has ended.
 use Rattle.std.specs.Prelude.{◌≡◌, ◌<◌, ◌≤◌, ℕ, Some, Result, Ok, Err}
 use Rattle.ly_base.specs.Lexed.{Place}
-use Rattle.ly_feed.specs.Flaw.{verdict_of}
+use Rattle.ly_feed.specs.SyntaxError.{verdict_of}
 use Rattle.ly_feed.specs.ScanPart.{ScanPart, terminal_in}
 use Rattle.ly_feed.specs.TableAnswer.{IsRest, Progress}
 use Rattle.ly_feed.specs.Verdict.{Verdict, accepted, faulty}
@@ -12,7 +12,7 @@ use Rattle.ly_feed.specs.declared.text_fault.TextFault.TheVariants.{FaultyTables
 use Rattle.ly_pack.specs.Machine.{IsMachine, Machine}
 use Rattle.ly_pack.specs.Steady.{IsSteady}
 use Rattle.ly_parse.specs.Parse.{Parse}
-use Rattle.ly_tree.specs.Costs.{IsPaid}
+use Rattle.ly_tree.specs.Costs.{IsBoundedBySize}
 use Rattle.ly_tree.specs.Forest.{Grown, StandsFor}
 use Rattle.ly_tree.specs.Term.{Term}
 
@@ -31,12 +31,12 @@ progress_of q s = record { place = q; stack = s.stack; count = s.count }
 -- the verdict that a value represents, with the terms of a forest
 abbrev pub IsVerdictOf : Grown → Ended → Verdict → Type 0
 IsVerdictOf forest (Accepted root) v = (d : Term) × (v ≡ accepted d) × StandsFor forest root d
-IsVerdictOf forest (Refused flaw) v = v ≡ verdict_of flaw
+IsVerdictOf forest (Refused syntax_error) v = v ≡ verdict_of syntax_error
 
 -- a term is in the forest, which has the budget for it
 abbrev pub IsThere : Grown → Ended → Type 0
-IsThere forest (Accepted root) = (d : Term) × StandsFor forest root d × IsPaid forest d
-IsThere forest (Refused flaw) = Unit {0}
+IsThere forest (Accepted root) = (d : Term) × StandsFor forest root d × IsBoundedBySize forest d
+IsThere forest (Refused syntax_error) = Unit {0}
 
 -- The result of a text that has ended: the value represents the verdict on it, or the tables are faulty. Out of memory
 -- means nothing.

@@ -1,6 +1,6 @@
 pub mod Closed
 pub mod FeedFaultNames
-pub mod Flaw
+pub mod SyntaxError
 pub mod Held
 pub mod JsonLines
 pub mod Laws

@@ -7,7 +7,7 @@ use Rattle.ly_feed.specs.TableAnswer.{Progress, IsRest, with_more}
 use Rattle.ly_feed.specs.Verdict.{Verdict}
 use Rattle.ly_pack.specs.Machine.{Machine}
 use Rattle.ly_parse.specs.Feeding.{Feeds, Level, pushed}
-use Rattle.ly_scan.specs.Pieces.{CanFollow, StandsFast}
+use Rattle.ly_scan.specs.Pieces.{CanFollow, IsDecided}
 
 -- the lexeme at a place has this token
 pub record IsTokenAt (p : ScanPart) (q : Place) (t : Lexeme) (token : Token ℕ) : Type 0 where
@@ -26,10 +26,10 @@ read_on p w t next = record { place = place_after (condition_in p) w.place t; st
 -- Decided matches lead from one progress to the other: each was skipped, or its token was read.
 pub data Onward (ended : Bool) (p : ScanPart) (m : Machine) (w : Progress) : Progress → Type 0 where
   none_yet : Onward ended p m w w
-  and_passes : {u : Progress} (t : Lexeme) → Onward ended p m w u → StandsFast ended (scanner_in p) u.place t
+  and_passes : {u : Progress} (t : Lexeme) → Onward ended p m w u → IsDecided ended (scanner_in p) u.place t
       → terminal_in p t.rule.0 (take t.taken u.place.rest) ≡ None → Onward ended p m w (passed_on p u t)
   and_reads : {u : Progress} {next : List Level} (t : Lexeme) (token : Token ℕ) → Onward ended p m w u
-      → StandsFast ended (scanner_in p) u.place t → IsTokenAt p u.place t token → Feeds m token u.stack (pushed next)
+      → IsDecided ended (scanner_in p) u.place t → IsTokenAt p u.place t token → Feeds m token u.stack (pushed next)
       → Onward ended p m w (read_on p u t next)
 
 -- both have the same verdict, whatever follows

@@ -20,14 +20,14 @@ text_fault_name (Write written) = codes "Write"
 text_fault_name OutOfMemory = codes "OutOfMemory"
 
 -- a write failed
-abbrev pub IsWrite : TextFault → Type 0
-IsWrite (Write written) = Unit {0}
-IsWrite _ = ⊥
+abbrev pub IsFailedWrite : TextFault → Type 0
+IsFailedWrite (Write written) = Unit {0}
+IsFailedWrite _ = ⊥
 
 -- nothing was written: any error but a failed write
-abbrev pub IsBeforeWriting : TextFault → Type 0
-IsBeforeWriting (Write written) = ⊥
-IsBeforeWriting _ = Unit {0}
+abbrev pub WroteNothing : TextFault → Type 0
+WroteNothing (Write written) = ⊥
+WroteNothing _ = Unit {0}
 
 -- an error of writing a result
 abbrev pub IsOfWriting : TextFault → Type 0

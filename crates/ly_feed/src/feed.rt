@@ -3,7 +3,7 @@ ghost use Rattle.std.specs.Io.KnownBytes.{Appends};
 ghost use Rattle.ly_print.specs.Device.{next_count};
 ghost use Rattle.ly_print.specs.TextWriter.{IsCutShort};
 ghost use Rattle.ly_feed.specs.Held.{bytes_held, nothing_read, IsAnswerOf, IsFinish, IsOver, IsPiece, IsRestOf};
-ghost use Rattle.ly_feed.specs.TextFault.{IsBeforeWriting, IsOfEnding, IsWrite};
+ghost use Rattle.ly_feed.specs.TextFault.{WroteNothing, IsOfEnding, IsFailedWrite};
 ghost use Rattle.ly_feed.specs.Verdict.{faulty};
 ghost use Rattle.ly_feed.specs.declared.outcome.Outcome.{Outcome as Answered};
 
@@ -122,8 +122,8 @@ impl<'a> Feed<'a> {
             false,
         )? {
             Halt::At(place) => place,
-            Halt::Flawed(flaw) => {
-                let (outcome, lines) = told(self.alloc, self.set, self.form, flaw)?;
+            Halt::Stopped(syntax_error) => {
+                let (outcome, lines) = told(self.alloc, self.set, self.form, syntax_error)?;
                 return Ok(Need::Settled(outcome, lines));
             }
         };
@@ -162,9 +162,9 @@ impl<'a> Feed<'a> {
             × IsCutShort (W.contents writer.old) (W.contents writer.new) written answer }
         ensures faulty { result ≡ Err TextFault.FaultyTables → IsRestOf self.old [] faulty }
         ensures ending { IfErr result IsOfEnding }
-        ensures write { IfErr result (λ e. IsWrite e → W.failures writer.new ≡ next_count (W.failures writer.old)) }
+        ensures write { IfErr result (λ e. IsFailedWrite e → W.failures writer.new ≡ next_count (W.failures writer.old)) }
         ensures writer_held { OnOk result (W.failures writer.new ≡ W.failures writer.old) }
-        ensures untouched { IfErr result (λ e. IsBeforeWriting e → writer.new ≡ writer.old) }
+        ensures untouched { IfErr result (λ e. WroteNothing e → writer.new ≡ writer.old) }
     {
         self.over = true;
         let place = self.window.place();

@@ -1,13 +1,13 @@
 ghost use Rattle.std.specs.Prelude.{◌≡◌, ◌++◌, IfOk, OnOk, map};
 ghost use Rattle.ly_feed.specs.JsonLines.{behind_commas, json_expected, json_names, json_refusal, json_refused_with};
 ghost use Rattle.ly_feed.specs.JsonLines.{json_token, json_unmatched_with};
-ghost use Rattle.ly_feed.specs.Flaw.{token_of, verdict_of};
+ghost use Rattle.ly_feed.specs.SyntaxError.{token_of, verdict_of};
 ghost use Rattle.ly_feed.specs.Private.Running.{words_of};
 ghost use Rattle.ly_feed.specs.Verdict.{json_printed};
 ghost use Rattle.ly_feed.specs.Vocabularies.{vocabulary_of};
 
-use crate::flaw::Flaw;
 use crate::names::Names;
+use crate::syntax_error::SyntaxError;
 use ly_base::{OutOfMemory, Sym};
 use ly_parse::Token;
 use ly_print::{push_json_content, push_json_name};
@@ -19,17 +19,17 @@ use std::io::Write;
 pub(crate) fn json_line(
     alloc: Global,
     names: &Names<'_>,
-    flaw: &Flaw<'_>,
+    syntax_error: &SyntaxError<'_>,
 ) -> Result<Vec<u8>, OutOfMemory>
-    ensures { IfOk result (λ line. line.items ≡ json_printed (words_of names.now) (verdict_of flaw.now)) }
+    ensures { IfOk result (λ line. line.items ≡ json_printed (words_of names.now) (verdict_of syntax_error.now)) }
 {
-    match flaw {
-        Flaw::Refused {
+    match syntax_error {
+        SyntaxError::Refused {
             number,
             token,
             expected,
         } => refused_line(alloc, names, *number, token, b"", expected),
-        Flaw::NoRule { byte } => json_unmatched_line(alloc, *byte, b""),
+        SyntaxError::NoRule { byte } => json_unmatched_line(alloc, *byte, b""),
     }
 }
 

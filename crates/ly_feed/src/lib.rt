@@ -27,7 +27,6 @@
 
 mod feed;
 mod feed_fault;
-mod flaw;
 mod json_lines;
 mod label_form;
 mod labels;
@@ -41,13 +40,13 @@ mod need;
 mod outcome;
 mod running;
 mod running_told;
+mod syntax_error;
 mod text_fault;
 mod told;
 mod window;
 
 pub use feed::Feed;
 pub use feed_fault::FeedFault;
-pub use flaw::Flaw;
 pub use json_lines::{json_refused_line, json_unmatched_line};
 pub use laws::{
     a_beginning_says_it, a_text_has_a_verdict, a_text_has_one_verdict,
@@ -58,4 +57,5 @@ pub use name_labels::NameLabels;
 pub use need::Need;
 pub use outcome::Outcome;
 pub use running::{Ended, TableParser, run_to_end};
+pub use syntax_error::SyntaxError;
 pub use text_fault::TextFault;

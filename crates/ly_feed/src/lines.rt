@@ -4,24 +4,24 @@ ghost use Rattle.ly_base.specs.Bytes.{newline};
 ghost use Rattle.ly_print.specs.Device.{next_count};
 ghost use Rattle.ly_print.specs.Text.{no_rule_line};
 ghost use Rattle.ly_print.specs.TextWriter.{IsCutShort};
-ghost use Rattle.ly_feed.specs.Flaw.{token_of, verdict_of};
+ghost use Rattle.ly_feed.specs.SyntaxError.{token_of, verdict_of};
 ghost use Rattle.ly_feed.specs.Closed.{IsThere, IsVerdictOf};
 ghost use Rattle.ly_feed.specs.Private.Running.{words_of};
-ghost use Rattle.ly_feed.specs.TextFault.{IsBeforeWriting, IsOfWriting, IsWrite};
+ghost use Rattle.ly_feed.specs.TextFault.{WroteNothing, IsOfWriting, IsFailedWrite};
 ghost use Rattle.ly_feed.specs.Verdict.{accepted, expected_line, printed, syntax_line, written_in, IsOutcome, Verdict};
 ghost use Rattle.ly_feed.specs.Vocabularies.{vocabulary_of};
-ghost use Rattle.ly_tree.specs.Costs.{IsPaid};
+ghost use Rattle.ly_tree.specs.Costs.{IsBoundedBySize};
 ghost use Rattle.ly_tree.specs.Forest.{term_of, StandsFor};
 ghost use Rattle.ly_tree.specs.Shown.{Vocabulary};
 ghost use Rattle.ly_tree.specs.Term.{Term};
 ghost use Rattle.ly_tree.specs.Written.{written as noted};
 
-use crate::flaw::Flaw;
 use crate::json_lines::json_line;
 use crate::labels::{JsonLabels, TermLabels};
 use crate::names::Names;
 use crate::outcome::Outcome;
 use crate::running::Ended;
+use crate::syntax_error::SyntaxError;
 use crate::text_fault::TextFault;
 use ly_base::{OutOfMemory, Sym};
 use ly_parse::Token;
@@ -49,17 +49,17 @@ pub(crate) fn write_ended<W: Sink>(
         → IsCutShort (W.contents writer.old) (W.contents writer.new) written
         (written_in form (vocabulary_of set.now) v) }
     ensures of_writing { IfErr result IsOfWriting }
-    ensures write { IfErr result (λ e. IsWrite e → W.failures writer.new ≡ next_count (W.failures writer.old)) }
+    ensures write { IfErr result (λ e. IsFailedWrite e → W.failures writer.new ≡ next_count (W.failures writer.old)) }
     ensures writer_held { OnOk result (W.failures writer.new ≡ W.failures writer.old) }
-    ensures untouched { IfErr result (λ e. IsBeforeWriting e → writer.new ≡ writer.old) }
+    ensures untouched { IfErr result (λ e. WroteNothing e → writer.new ≡ writer.old) }
 {
     match ended {
         Ended::Accepted(root) => {
             write_term(alloc, &Names::of(set), form, forest, root, writer)?;
             Ok(Outcome::Tree)
         }
-        Ended::Refused(flaw) => {
-            let (outcome, lines) = told(alloc, set, form, flaw)?;
+        Ended::Refused(syntax_error) => {
+            let (outcome, lines) = told(alloc, set, form, syntax_error)?;
             write_whole(writer, &lines)?;
             Ok(outcome)
         }
@@ -76,7 +76,7 @@ fn write_term<W: Sink>(
     writer: &mut W,
 ) -> Result<(), TextFault>
     requires known { IsSome (term_of forest.now root) }
-    requires paid { (t : Term) → StandsFor forest.now root t → IsPaid forest.now t }
+    requires paid { (t : Term) → StandsFor forest.now root t → IsBoundedBySize forest.now t }
     ensures ok { OnOk result ((t : Term) → StandsFor forest.now root t → Appends (W.contents writer.old)
         (W.contents writer.new) (written_in form (words_of names.now) (accepted t))) }
     ensures beginning { (written : ℕ) (t : Term) → result ≡ Err (TextFault.Write written)
@@ -84,9 +84,9 @@ fn write_term<W: Sink>(
         → IsCutShort (W.contents writer.old) (W.contents writer.new) written
         (written_in form (words_of names.now) (accepted t)) }
     ensures of_writing { IfErr result IsOfWriting }
-    ensures write { IfErr result (λ e. IsWrite e → W.failures writer.new ≡ next_count (W.failures writer.old)) }
+    ensures write { IfErr result (λ e. IsFailedWrite e → W.failures writer.new ≡ next_count (W.failures writer.old)) }
     ensures writer_held { OnOk result (W.failures writer.new ≡ W.failures writer.old) }
-    ensures untouched { IfErr result (λ e. IsBeforeWriting e → writer.new ≡ writer.old) }
+    ensures untouched { IfErr result (λ e. WroteNothing e → writer.new ≡ writer.old) }
 {
     match form {
         AnswerForm::Plain => {
@@ -110,7 +110,7 @@ fn write_line<N: TermNotation, W: Sink>(
     writer: &mut W,
 ) -> Result<(), TextFault>
     requires known { IsSome (term_of forest.now root) }
-    requires paid { (t : Term) → StandsFor forest.now root t → IsPaid forest.now t }
+    requires paid { (t : Term) → StandsFor forest.now root t → IsBoundedBySize forest.now t }
     ensures ok { OnOk result ((t : Term) → StandsFor forest.now root t → Appends (W.contents writer.old)
         (W.contents writer.new) (noted (N.form notation.now) t ++ newline ∷ [])) }
     ensures beginning { (written : ℕ) (t : Term) → result ≡ Err (TextFault.Write written)
@@ -118,9 +118,9 @@ fn write_line<N: TermNotation, W: Sink>(
         → IsCutShort (W.contents writer.old) (W.contents writer.new) written
         (noted (N.form notation.now) t ++ newline ∷ []) }
     ensures of_writing { IfErr result IsOfWriting }
-    ensures write { IfErr result (λ e. IsWrite e → W.failures writer.new ≡ next_count (W.failures writer.old)) }
+    ensures write { IfErr result (λ e. IsFailedWrite e → W.failures writer.new ≡ next_count (W.failures writer.old)) }
     ensures writer_held { OnOk result (W.failures writer.new ≡ W.failures writer.old) }
-    ensures untouched { IfErr result (λ e. IsBeforeWriting e → writer.new ≡ writer.old) }
+    ensures untouched { IfErr result (λ e. WroteNothing e → writer.new ≡ writer.old) }
 {
     let line = forest.line(alloc, notation, root)?;
     line.write(writer)?;
@@ -133,36 +133,40 @@ pub(crate) fn told(
     alloc: Global,
     set: &TableSet,
     form: AnswerForm,
-    flaw: Flaw<'_>,
+    syntax_error: SyntaxError<'_>,
 ) -> Result<(Outcome, Vec<u8>), OutOfMemory>
-    ensures { IfOk result (λ told. IsOutcome (verdict_of flaw.entry) told.0
-        × (told.1.items ≡ written_in form (vocabulary_of set.now) (verdict_of flaw.entry))) }
+    ensures { IfOk result (λ told. IsOutcome (verdict_of syntax_error.entry) told.0
+        × (told.1.items ≡ written_in form (vocabulary_of set.now) (verdict_of syntax_error.entry))) }
 {
-    let lines = flaw_text(alloc, &Names::of(set), form, &flaw)?;
-    Ok((flaw.into_outcome(), lines))
+    let lines = syntax_error_text(alloc, &Names::of(set), form, &syntax_error)?;
+    Ok((syntax_error.into_outcome(), lines))
 }
 
 /// The lines for an error in a text, in this form.
-fn flaw_text(
+fn syntax_error_text(
     alloc: Global,
     names: &Names<'_>,
     form: AnswerForm,
-    flaw: &Flaw<'_>,
+    syntax_error: &SyntaxError<'_>,
 ) -> Result<Vec<u8>, OutOfMemory>
-    ensures { IfOk result (λ text. text.items ≡ written_in form (words_of names.now) (verdict_of flaw.now)) }
+    ensures { IfOk result (λ text. text.items ≡ written_in form (words_of names.now) (verdict_of syntax_error.now)) }
 {
     match form {
-        AnswerForm::Plain => flaw_lines(alloc, names, flaw),
-        AnswerForm::Json => json_line(alloc, names, flaw),
+        AnswerForm::Plain => syntax_error_lines(alloc, names, syntax_error),
+        AnswerForm::Json => json_line(alloc, names, syntax_error),
     }
 }
 
 /// The plain lines for an error in a text.
-fn flaw_lines(alloc: Global, names: &Names<'_>, flaw: &Flaw<'_>) -> Result<Vec<u8>, OutOfMemory>
-    ensures { IfOk result (λ lines. lines.items ≡ printed (words_of names.now) (verdict_of flaw.now)) }
+fn syntax_error_lines(
+    alloc: Global,
+    names: &Names<'_>,
+    syntax_error: &SyntaxError<'_>,
+) -> Result<Vec<u8>, OutOfMemory>
+    ensures { IfOk result (λ lines. lines.items ≡ printed (words_of names.now) (verdict_of syntax_error.now)) }
 {
-    match flaw {
-        Flaw::Refused {
+    match syntax_error {
+        SyntaxError::Refused {
             number,
             token,
             expected,
@@ -171,7 +175,7 @@ fn flaw_lines(alloc: Global, names: &Names<'_>, flaw: &Flaw<'_>) -> Result<Vec<u
             push_expected_line(&mut lines, names, expected)?;
             Ok(lines)
         }
-        Flaw::NoRule { byte } => unmatched_line(alloc, *byte),
+        SyntaxError::NoRule { byte } => unmatched_line(alloc, *byte),
     }
 }
 

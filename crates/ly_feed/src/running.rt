@@ -6,15 +6,15 @@ ghost use Rattle.ly_feed.specs.Private.Running.{IsRunOn, IsTaken};
 ghost use Rattle.ly_feed.specs.Private.Told.{AreFactsOf};
 ghost use Rattle.ly_feed.specs.ScanPart.{scan_part_of, scanner_in, terminal_by, terminal_in};
 ghost use Rattle.ly_parse.specs.Parse.{IsTellable};
-ghost use Rattle.ly_scan.specs.Pieces.{StandsFast};
+ghost use Rattle.ly_scan.specs.Pieces.{IsDecided};
 
-use crate::flaw::Flaw;
 use crate::meaning::{action, terminal};
 use crate::running_told::run_told_by;
+use crate::syntax_error::SyntaxError;
 use crate::text_fault::TextFault;
 use ly_base::{Emitted, End, Lexeme, OutOfMemory, Place, ScanAction, StateNo, Sym};
 use ly_pack::{Comb, TableAction};
-use ly_parse::{Answer, ParseFault, Parser, Refusal, Step, Token};
+use ly_parse::{ParseFault, Parser, Refusal, Step, Token, TokenOutcome};
 use ly_print::Front;
 use ly_scan::{KnownWalks, Lexer};
 use ly_tables::TableSet;
@@ -30,7 +30,7 @@ pub(crate) enum Halt<'t> {
     /// To this position: the next match isn't decided there, or the text has ended.
     At(Place<'t>),
     /// The text has this error.
-    Flawed(Flaw<'t>),
+    Stopped(SyntaxError<'t>),
 }
 
 /// Runs scanner and parser from a place over the remaining bytes, lexeme by lexeme, as long as the next one is decided,
@@ -58,29 +58,31 @@ pub(crate) fn run_on<'t>(
     loop {
         let mut here = match run_told_by(set, lexer, facts, parser, place, &known)? {
             Halt::At(here) => here,
-            Halt::Flawed(flaw) => return Ok(Halt::Flawed(flaw)),
+            Halt::Stopped(syntax_error) => return Ok(Halt::Stopped(syntax_error)),
         };
         let lexeme = match lexer.next(&mut here, &mut known, ended) {
             Ok(Some(lexeme)) => lexeme,
             Ok(None) => return Ok(Halt::At(here)),
             // the text has ended
             Err(End::Clean) => return Ok(Halt::At(here)),
-            Err(End::Stuck { byte }) => return Ok(Halt::Flawed(Flaw::NoRule { byte: byte as u64 })),
+            Err(End::Stuck { byte }) => return Ok(Halt::Stopped(SyntaxError::NoRule {
+                byte: byte as u64,
+            })),
             Err(End::BadCut { .. }) => return Err(TextFault::FaultyTables),
         };
         let ScanAction { begin, emits } = action(set, lexeme.rule);
         match take(set, parser, &here, lexeme, emits) {
-            Answer::Reads => {
+            TokenOutcome::Reads => {
                 here.advance(lexeme.taken, begin);
                 place = here;
             }
-            Answer::Refuses => return Ok(Halt::Flawed(refusal(set, parser, here, lexeme)?)),
-            Answer::FaultyTables => return Err(TextFault::FaultyTables),
-            Answer::OutOfMemory => return Err(TextFault::OutOfMemory),
+            TokenOutcome::Refuses => return Ok(Halt::Stopped(refusal(set, parser, here, lexeme)?)),
+            TokenOutcome::FaultyTables => return Err(TextFault::FaultyTables),
+            TokenOutcome::OutOfMemory => return Err(TextFault::OutOfMemory),
             // only the end is accepted
-            Answer::Accepts => unreachable!(),
+            TokenOutcome::Accepts => unreachable!(),
             // after a token that is read, the parse hasn't ended
-            Answer::Over => unreachable!(),
+            TokenOutcome::Over => unreachable!(),
         }
     }
 }
@@ -94,21 +96,21 @@ fn take(
     place: &Place<'_>,
     lexeme: Lexeme,
     emits: Emitted,
-) -> Answer
+) -> TokenOutcome
     requires runs { CanRun (scan_part_of set.now) parser.old.machine }
     requires goes_on { parser.old.over ≡ false }
     requires some { 1 ≤ lexeme.taken }
     requires within { lexeme.taken ≤ length place.now.rest }
     requires emits { (bytes : List ℕ) → terminal_by (scan_part_of set.now) bytes emits
         ≡ terminal_in (scan_part_of set.now) lexeme.rule.0 bytes }
-    ensures taken { (ended : Bool) → StandsFast ended (scanner_in (scan_part_of set.now)) place.now lexeme
+    ensures taken { (ended : Bool) → IsDecided ended (scanner_in (scan_part_of set.now)) place.now lexeme
         → IsTaken ended (scan_part_of set.now) parser.old.machine (progress_of place.now parser.old) lexeme parser.new
         result }
     ensures machine { parser.new.machine ≡ parser.old.machine }
 {
     let text = Front::new(place.rest(), lexeme.taken);
     let Some(terminal) = terminal(set, emits, text.bytes()) else {
-        return Answer::Reads;
+        return TokenOutcome::Reads;
     };
     let at = place.at() as u64;
     parser.take(&Token { terminal, at, text })
@@ -121,7 +123,7 @@ fn refusal<'t>(
     parser: &TableParser<'_>,
     place: Place<'t>,
     lexeme: Lexeme,
-) -> Result<Flaw<'t>, OutOfMemory>
+) -> Result<SyntaxError<'t>, OutOfMemory>
     requires some { 1 ≤ lexeme.taken }
     requires within { lexeme.taken ≤ length place.rest }
     requires token { HasToken (scan_part_of set.now) place lexeme }
@@ -135,7 +137,7 @@ fn refusal<'t>(
     let Refusal { number, expected } = parser.refusal()?;
     let at = place.at() as u64;
     let token = Token { terminal, at, text };
-    Ok(Flaw::Refused {
+    Ok(SyntaxError::Refused {
         number,
         token,
         expected,
@@ -148,7 +150,7 @@ pub enum Ended<'t> {
     /// It has this term in the parser's forest.
     Accepted(TermRef),
     /// It has this error.
-    Refused(Flaw<'t>),
+    Refused(SyntaxError<'t>),
 }
 
 /// Runs scanner and parser from a place to the end of the text, which follows the remaining bytes. The result is the
@@ -171,7 +173,7 @@ pub fn run_to_end<'t>(
 {
     match run_on(alloc, set, lexer, None, parser, place, true)? {
         Halt::At(place) => close(parser, &place),
-        Halt::Flawed(flaw) => Ok(Ended::Refused(flaw)),
+        Halt::Stopped(syntax_error) => Ok(Ended::Refused(syntax_error)),
     }
 }
 
@@ -198,7 +200,7 @@ fn close<'t>(parser: &mut TableParser<'_>, place: &Place<'t>) -> Result<Ended<'t
                 at,
                 text: Front::new(place.rest(), 0),
             };
-            Ok(Ended::Refused(Flaw::Refused {
+            Ok(Ended::Refused(SyntaxError::Refused {
                 number,
                 token,
                 expected,

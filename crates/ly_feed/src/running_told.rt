@@ -10,14 +10,14 @@ ghost use Rattle.ly_feed.specs.ScanPart.{scan_part_of, terminal_in, ScanPart};
 ghost use Rattle.ly_parse.specs.Parse.{IsTellable};
 ghost use Rattle.ly_scan.specs.Beginning.{IsBegun};
 
-use crate::flaw::Flaw;
 use crate::running::{Halt, TableParser};
+use crate::syntax_error::SyntaxError;
 use crate::text_fault::TextFault;
 use crate::told::told_terminal;
 use ly_base::{OutOfMemory, Place, Sym};
-use ly_parse::{Answer, Refusal, Token};
+use ly_parse::{Refusal, Token, TokenOutcome};
 use ly_print::Front;
-use ly_scan::{Beginning, KnownWalks, Lexer, Told};
+use ly_scan::{Beginning, KnownWalks, Lexer, TaggedLexeme};
 use ly_tables::TableSet;
 
 /// Runs over lexemes that facts of states determine, if there are facts, like `run_told`, unless matches are cached for
@@ -87,17 +87,17 @@ fn run_told<'t, B: Beginning>(
         };
         let (answer, terminal) = take_told(set, parser, &place, told);
         match answer {
-            Answer::Reads => place.advance(told.taken, None),
-            Answer::Refuses => {
-                let flaw = told_refusal(parser, place, told.taken, terminal)?;
-                return Ok(Halt::Flawed(flaw));
+            TokenOutcome::Reads => place.advance(told.taken, None),
+            TokenOutcome::Refuses => {
+                let syntax_error = told_refusal(parser, place, told.taken, terminal)?;
+                return Ok(Halt::Stopped(syntax_error));
             }
-            Answer::FaultyTables => return Err(TextFault::FaultyTables),
-            Answer::OutOfMemory => return Err(TextFault::OutOfMemory),
+            TokenOutcome::FaultyTables => return Err(TextFault::FaultyTables),
+            TokenOutcome::OutOfMemory => return Err(TextFault::OutOfMemory),
             // only the end is accepted
-            Answer::Accepts => unreachable!(),
+            TokenOutcome::Accepts => unreachable!(),
             // after a token that is read, the parse hasn't ended
-            Answer::Over => unreachable!(),
+            TokenOutcome::Over => unreachable!(),
         }
     }
 }
@@ -109,8 +109,8 @@ fn take_told(
     set: &TableSet,
     parser: &mut TableParser<'_>,
     place: &Place<'_>,
-    told: Told,
-) -> (Answer, Option<Sym>)
+    told: TaggedLexeme,
+) -> (TokenOutcome, Option<Sym>)
     requires runs { CanRun (scan_part_of set.now) parser.old.machine }
     requires goes_on { parser.old.over ≡ false }
     requires told { IsToldAt (scan_part_of set.now) place.now told }
@@ -123,7 +123,7 @@ fn take_told(
 {
     let text = Front::new(place.rest(), told.taken);
     let Some(terminal) = told_terminal(set.literals(), told.fact, first_of(&text)) else {
-        return (Answer::Reads, None);
+        return (TokenOutcome::Reads, None);
     };
     let at = place.at() as u64;
     let answer = parser.go_on(&Token { terminal, at, text });
@@ -146,7 +146,7 @@ fn told_refusal<'t>(
     place: Place<'t>,
     taken: usize,
     terminal: Option<Sym>,
-) -> Result<Flaw<'t>, OutOfMemory>
+) -> Result<SyntaxError<'t>, OutOfMemory>
     requires within { taken ≤ length place.rest }
     requires token { IsSome terminal }
     requires tellable { IsTellable parser.now }
@@ -161,7 +161,7 @@ fn told_refusal<'t>(
     let Refusal { number, expected } = parser.refusal()?;
     let at = place.at() as u64;
     let token = Token { terminal, at, text };
-    Ok(Flaw::Refused {
+    Ok(SyntaxError::Refused {
         number,
         token,
         expected,

@@ -6,7 +6,7 @@ use Rattle.std.specs.declared.vec.Vec.{Vec}
 use Rattle.ly_join.specs.Joined.{Spec}
 use Rattle.ly_report.specs.Report.{IsReport}
 use Rattle.ly_generate.specs.Parser.{IsReportIf}
-use Rattle.ly_generate.specs.declared.report.Report.TheVariants.{Wanted}
+use Rattle.ly_generate.specs.declared.report_request.ReportRequest.TheVariants.{Wanted}
 
 -- it is there
 pub wanted_is_there : (s : Spec) (r : Option (Vec ℕ Global)) → IsReportIf Wanted s r → IsSome r

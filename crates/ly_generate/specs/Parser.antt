@@ -12,11 +12,11 @@ use Rattle.ly_report.specs.Report.{IsReport}
 use Rattle.ly_resolve.specs.Actions.{IsConflictFree}
 use Rattle.ly_generate.specs.Accepted.{IsFit}
 use Rattle.ly_generate.specs.declared.parser.SpecParser.{SpecParser}
-use Rattle.ly_generate.specs.declared.report.Report.{Report}
-use Rattle.ly_generate.specs.declared.report.Report.TheVariants.{Wanted, Unwanted}
+use Rattle.ly_generate.specs.declared.report_request.ReportRequest.{ReportRequest}
+use Rattle.ly_generate.specs.declared.report_request.ReportRequest.TheVariants.{Wanted, Unwanted}
 
 -- the report of the specification exists exactly if it is requested
-abbrev pub IsReportIf : Report → Spec → Option (Vec ℕ Global) → Type 0
+abbrev pub IsReportIf : ReportRequest → Spec → Option (Vec ℕ Global) → Type 0
 IsReportIf Wanted s (Some text) = IsReport s text.items
 IsReportIf Unwanted s None = Unit {0}
 IsReportIf _ s _ = ⊥
@@ -24,7 +24,7 @@ IsReportIf _ s _ = ⊥
 -- The tables are those of the specification's useful rules. The rules are within the limits, and every run of their
 -- tables ends. The conflicts are counted, the flag says whether no state has two possible actions, and the report
 -- exists if it is requested.
-pub record IsParserOf (limits : Sizes) (s : Spec) (report : Report) (p : SpecParser) : Type 0 where
+pub record IsParserOf (limits : Sizes) (s : Spec) (report : ReportRequest) (p : SpecParser) : Type 0 where
   pub automaton : Lr0Automaton
   pub is_automaton : IsLr0Automaton automaton
   pub few : length automaton.states ≤ limits.parser_states

@@ -16,7 +16,7 @@
 mod gen_fault;
 mod laws;
 mod parser;
-mod report;
+mod report_request;
 mod specification;
 mod tables;
 
@@ -25,6 +25,6 @@ pub use laws::{
     refusal_is_exact, sentences_are_answered, tables_answer_as_specified, trees_are_of_texts,
 };
 pub use parser::{SpecParser, file_parser, parser_tables, settle, specification_parser};
-pub use report::Report;
+pub use report_request::ReportRequest;
 pub use specification::{Specification, read_specification};
 pub use tables::{FileTables, file_tables};

@@ -13,7 +13,7 @@ ghost use Rattle.ly_generate.specs.Parser.{IsParserOf, IsReportIf};
 ghost use Rattle.ly_generate.specs.Private.Settled.{IsParserOver};
 
 use crate::gen_fault::GenFault;
-use crate::report::Report;
+use crate::report_request::ReportRequest;
 use crate::specification::read_specification;
 use ly_base::{Limits, OutOfMemory, StateNo, Version};
 use ly_emit::steady_machine;
@@ -47,7 +47,7 @@ pub fn specification_parser(
     alloc: Global,
     spec: &Spec,
     limits: &Limits,
-    report: Report,
+    report: ReportRequest,
 ) -> Result<SpecParser, GenFault>
     requires { AreShapesWithin spec.now }
     ensures parser { IfOk result (IsParserOf limits.now spec.now report) }
@@ -63,7 +63,7 @@ pub fn specification_parser(
 fn settled_parser(
     alloc: Global,
     resolved: &Resolved<'_>,
-    report: Report,
+    report: ReportRequest,
 ) -> Result<SpecParser, GenFault>
     requires shapes { AreShapesWithin resolved.now.spec }
     requires lawful { parser.IsLr0Automaton resolved.now.automaton }
@@ -90,7 +90,7 @@ pub fn file_parser(
     lex: &[u8],
     yacc: &[u8],
     limits: &Limits,
-    report: Report,
+    report: ReportRequest,
 ) -> Result<SpecParser, GenFault>
     ensures parser { IfOk result (λ p. (s : joined.Spec)
         × Specifies (least_of limits.now (sizes_in V2)) lex.now yacc.now s
@@ -106,13 +106,13 @@ pub fn file_parser(
 fn report_if(
     alloc: Global,
     resolved: &Resolved<'_>,
-    report: Report,
+    report: ReportRequest,
 ) -> Result<Option<Vec<u8>>, OutOfMemory>
     ensures { IfOk result (IsReportIf report resolved.now.spec) }
 {
     match report {
-        Report::Wanted => Ok(Some(report_text(alloc, resolved)?)),
-        Report::Unwanted => Ok(None),
+        ReportRequest::Wanted => Ok(Some(report_text(alloc, resolved)?)),
+        ReportRequest::Unwanted => Ok(None),
     }
 }
 

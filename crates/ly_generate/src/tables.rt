@@ -12,7 +12,7 @@ ghost use Rattle.ly_generate.specs.Private.Making.{FitsWith, IsMadeOf};
 
 use crate::gen_fault::GenFault;
 use crate::parser::specification_parser;
-use crate::report::Report;
+use crate::report_request::ReportRequest;
 use crate::specification::read_specification;
 use ly_base::{Limits, Version};
 use ly_emit::table_set;
@@ -44,7 +44,7 @@ pub fn file_tables(
     yacc: &[u8],
     limits: &Limits,
     version: Version,
-    report: Report,
+    report: ReportRequest,
 ) -> Result<FileTables, GenFault>
     ensures generated { IfOk result (λ m.
         (g : IsGenerated version (least_of limits.now (sizes_in version)) lex.now yacc.now m.set)
@@ -70,7 +70,7 @@ fn specification_tables(
     spec: &Spec,
     dfa: &Dfa,
     limits: &Limits,
-    report: Report,
+    report: ReportRequest,
 ) -> Result<FileTables, GenFault>
     requires shapes { AreShapesWithin spec.now }
     requires rules { length file.now.rules.items ≡ length spec.now.scanner }

@@ -11,7 +11,7 @@ use Rattle.ly_lexread.specs.Conditions.{Condition}
 use Rattle.ly_lexread.specs.Definitions.{at_first}
 use Rattle.ly_lexread.specs.LexText.{LexText}
 use Rattle.ly_lexread.specs.Rules.{Rules, end, rule, skip}
-use Rattle.ly_lexread.specs.Statements.{Follows, NamesCondition, SaysAction, Statement, StatementFirst, Statements}
+use Rattle.ly_lexread.specs.Statements.{HasEffect, NamesCondition, SaysAction, Statement, StatementFirst, Statements}
 use Rattle.ly_lexread.specs.Statements.{begins, done, empty, ends, in_braces, more, of_next, on_line, returns}
 use Rattle.ly_lexread.specs.Words.{Word, literal, mark, name, text_byte}
 use Rattle.ly_lexread.specs.declared.action.LexAction.{LexAction}
@@ -40,7 +40,7 @@ module _ (cs : List Condition) (some : 0 < length cs) where
   named_below (literal b) n h = absurd h
 
   follows_below : (e : Extent) (d f : Effect) (s : Statement) (text behind : List ℕ)
-      → StatementFirst cs e text s behind → Follows d s f → BeginsBelow (length cs) d → BeginsBelow (length cs) f
+      → StatementFirst cs e text s behind → HasEffect d s f → BeginsBelow (length cs) d → BeginsBelow (length cs) f
   follows_below e d f ends text behind first follows below = absurd follows
   follows_below e d f empty text behind first follows below = subst (BeginsBelow (length cs)) (sym follows) below
   follows_below e d f (begins n) text behind first follows below = λ c is.

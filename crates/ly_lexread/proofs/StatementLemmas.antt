@@ -14,7 +14,7 @@ use Rattle.ly_lexread.specs.Action.{Effect, Meaning, Saying, next, no_effect, ow
 use Rattle.ly_lexread.specs.Conditions.{Condition}
 use Rattle.ly_lexread.specs.Private.Statements.{EndsBy, saying_of, statement_of}
 use Rattle.ly_lexread.specs.Private.Words.{IsFound, IsFront, word_of}
-use Rattle.ly_lexread.specs.Statements.{Closed, Ends, Follows, Given, LineEnds, NamesCondition, Opens, StandsFor}
+use Rattle.ly_lexread.specs.Statements.{Closed, Ends, HasEffect, Given, LineEnds, NamesCondition, Opens, StandsFor}
 use Rattle.ly_lexread.specs.Statements.{SaysAction, Statement, in_braces, of_next, on_line}
 use Rattle.ly_lexread.specs.Statements.{StatementFirst, Statements, begins, done, empty, ends, gaps, more, returns}
 use Rattle.ly_lexread.specs.Words.{HasInFront, Word, Wording, bar, close_brace, close_parenthesis, literal, mark, name}
@@ -281,7 +281,7 @@ statement_one cs e text empty (returns m) q r a b = absurd
     (no_name_mark (codes "return") 59
     (word_one words (gaps e) text (name (codes "return")) semicolon b.1.0 q b.1.1 a).0)
 
-follows_one : (d f g : Effect) (s : Statement) → Follows d s f → Follows d s g → f ≡ g
+follows_one : (d f g : Effect) (s : Statement) → HasEffect d s f → HasEffect d s g → f ≡ g
 follows_one d f g ends a b = absurd a
 follows_one d f g empty a b = a ∙ sym b
 follows_one d f g (begins n) a b = a.1 ∙ sym b.1
@@ -289,14 +289,14 @@ follows_one d f g (returns m) a b = a.1 ∙ sym b.1
 
 -- statements behind a statement
 pub statements_behind : (cs : List Condition) (e : Extent) (d f g : Effect) (s : Statement) (text behind rest : List ℕ)
-    → StatementFirst cs e text s behind → Follows d s f → Statements cs e d text g rest
+    → StatementFirst cs e text s behind → HasEffect d s f → Statements cs e d text g rest
     → Statements cs e f behind g rest
 statements_behind cs e d f g s text behind rest h k (done _ _ _ i) =
     let same = statement_one cs e text s ends behind rest h i in
-    absurd (subst (λ t. Follows d t f) same.0 k)
+    absurd (subst (λ t. HasEffect d t f) same.0 k)
 statements_behind cs e d f g s text behind rest h k (more _ j _ t _ u _ i l m) =
     let same = statement_one cs e text t s u behind i h in
-    let there : Follows d s j = subst (λ v. Follows d v j) same.0 l in
+    let there : HasEffect d s j = subst (λ v. HasEffect d v j) same.0 l in
     subst (λ v. Statements cs e v behind g rest) (follows_one d j f s there k)
     (subst (λ v. Statements cs e j v g rest) same.1 m)
 
@@ -307,16 +307,16 @@ statements_over cs e d g text behind rest h (done _ _ _ i) = (
   (statement_one cs e text ends ends rest behind i h).1,
 )
 statements_over cs e d g text behind rest h (more _ j _ t _ u _ i l m)
-    = absurd (subst (λ v. Follows d v j) (statement_one cs e text t ends u behind i h).0 l)
+    = absurd (subst (λ v. HasEffect d v j) (statement_one cs e text t ends u behind i h).0 l)
 
 -- where no effect follows there are no statements
 pub no_statements : (cs : List Condition) (e : Extent) (d g : Effect) (s : Statement) (text behind rest : List ℕ)
-    → StatementFirst cs e text s behind → s ≢ ends → ((f : Effect) → Follows d s f → ⊥)
+    → StatementFirst cs e text s behind → s ≢ ends → ((f : Effect) → HasEffect d s f → ⊥)
     → Statements cs e d text g rest → ⊥
 no_statements cs e d g s text behind rest h some none (done _ _ _ i)
     = some (statement_one cs e text s ends behind rest h i).0
 no_statements cs e d g s text behind rest h some none (more _ j _ t _ u _ i l m)
-    = none j (subst (λ v. Follows d v j) (statement_one cs e text t s u behind i h).0 l)
+    = none j (subst (λ v. HasEffect d v j) (statement_one cs e text t s u behind i h).0 l)
 
 pub none_first : (cs : List Condition) (e : Extent) (d g : Effect) (text rest : List ℕ)
     → ((s : Statement) (r : List ℕ) → StatementFirst cs e text s r → ⊥) → Statements cs e d text g rest → ⊥

@@ -76,17 +76,17 @@ StatementFirst cs e text (returns m) rest =
     × StandsFor x m)
 
 -- The effect after a further statement: there is at most one BEGIN, at most one return, and no BEGIN after it.
-abbrev pub Follows : Effect → Statement → Effect → Type 0
-Follows d ends e = ⊥
-Follows d empty e = e ≡ d
-Follows d (begins n) e = (d ≡ no_effect) × (e ≡ record { begin = Some n; returns = nothing })
-Follows d (returns m) e = (d.returns ≡ nothing) × (e ≡ record { begin = d.begin; returns = m })
+abbrev pub HasEffect : Effect → Statement → Effect → Type 0
+HasEffect d ends e = ⊥
+HasEffect d empty e = e ≡ d
+HasEffect d (begins n) e = (d ≡ no_effect) × (e ≡ record { begin = Some n; returns = nothing })
+HasEffect d (returns m) e = (d.returns ≡ nothing) × (e ≡ record { begin = d.begin; returns = m })
 
 -- The statements, from the effect so far to that of all, then the rest.
 pub data Statements (cs : List Condition) (e : Extent) : Effect → List ℕ → Effect → List ℕ → Type 0 where
   done : (d : Effect) (text rest : List ℕ) → StatementFirst cs e text ends rest → Statements cs e d text d rest
   more : (d f g : Effect) (s : Statement) (text behind rest : List ℕ) → StatementFirst cs e text s behind
-      → Follows d s f → Statements cs e f behind g rest → Statements cs e d text g rest
+      → HasEffect d s f → Statements cs e f behind g rest → Statements cs e d text g rest
 
 -- the line ends after whitespace and comments, then comes the rest
 abbrev pub LineEnds : List ℕ → List ℕ → Type 0

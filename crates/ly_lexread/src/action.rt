@@ -5,7 +5,7 @@ ghost use Rattle.ly_base.specs.declared.language.Language.TheVariants.{Lex};
 ghost use Rattle.ly_lexread.specs.Action.{Effect, Saying, effect_of, meaning_of, no_effect, nothing, own};
 ghost use Rattle.ly_lexread.specs.Faults.{IsAtMost, IsTooHeavy};
 ghost use Rattle.ly_lexread.specs.Private.Statements.{saying_of, statement_of, value_meaning};
-ghost use Rattle.ly_lexread.specs.Statements.{Follows, LineEnds, SaysAction, Statements};
+ghost use Rattle.ly_lexread.specs.Statements.{HasEffect, LineEnds, SaysAction, Statements};
 ghost use Rattle.ly_lexread.specs.declared.action_fault.ActionFault.TheVariants as refusal;
 ghost use Rattle.ly_lexread.specs.declared.fault.LexFault.TheVariants.{OutOfMemory};
 ghost use Rattle.ly_lexread.specs.declared.statement.Extent.TheVariants.{Braces};
@@ -110,8 +110,8 @@ impl LexAction {
     /// Adds a statement to the action. `None` if the statement isn't allowed after those before it.
     fn with(self, alloc: Global, statement: Statement<'_>) -> Result<Option<LexAction>, AllocError>
         ensures { IfOk result (λ made. MatchOption made
-            ((e : Effect) → Follows (effect_of self) (statement_of statement.entry) e → ⊥)
-            (λ action. Follows (effect_of self) (statement_of statement.entry) (effect_of action))) }
+            ((e : Effect) → HasEffect (effect_of self) (statement_of statement.entry) e → ⊥)
+            (λ action. HasEffect (effect_of self) (statement_of statement.entry) (effect_of action))) }
     {
         match statement {
             Statement::Ends => Ok(None),

@@ -6,7 +6,7 @@ use Rattle.ly_base.specs.Lexed.{Lexed, Token, start_of, tokens_from}
 use Rattle.ly_base.specs.declared.lexeme.End.{End}
 use Rattle.ly_base.specs.declared.lexeme.End.TheVariants.{BadCut, Clean, Stuck}
 use Rattle.ly_base.specs.declared.lexeme.Lexeme.{Lexeme}
-use Rattle.ly_extents.specs.Extents.{empty_at, extent_of, json_extent}
+use Rattle.ly_spans.specs.Spans.{empty_at, span_of, json_span}
 use Rattle.ly_listing.specs.declared.token_end.TokenEnd.{TokenEnd}
 use Rattle.ly_listing.specs.declared.token_end.TokenEnd.TheVariants as token_end
 use Rattle.ly_print.specs.Json.{json_content, json_name}
@@ -19,7 +19,7 @@ use Rattle.ly_scan.specs.Lexer.{IsLexemeAt, ScanEndsAt, Scanner}
 -- `{"token":"NUM","start":[0,1,1],"end":[2,1,3],"text":"12"}`.
 abbrev pub token_line : AnswerForm → List ℕ → Token (List ℕ) → List ℕ
 token_line Plain text t = leaf_line (token t.terminal) t.bytes
-token_line Json text t = codes "{\"token\":" ++ (json_name t.terminal ++ (json_extent text (extent_of t)
+token_line Json text t = codes "{\"token\":" ++ (json_name t.terminal ++ (json_span text (span_of t)
     ++ (codes "," ++ (json_content t.bytes ++ codes "}\n"))))
 
 -- the last line, if no rule matches somewhere
@@ -27,7 +27,7 @@ abbrev pub end_line : AnswerForm → List ℕ → End → List ℕ
 end_line form text Clean = []
 end_line Plain text (Stuck byte) = no_rule_line byte
 end_line Json text (Stuck byte) = codes "{\"error\":\"unmatched\",\"byte\":" ++ (decimal byte
-    ++ (json_extent text (empty_at byte) ++ codes "}\n"))
+    ++ (json_span text (empty_at byte) ++ codes "}\n"))
 end_line form text (BadCut byte) = []
 
 -- the lines of tokens

@@ -6,10 +6,10 @@ ghost use Rattle.ly_listing.specs.Listings.{end_line, token_line, token_lines};
 
 use crate::token_names::TokenNames;
 use ly_base::{End, OutOfMemory, RuleNo};
-use ly_extents::{Extent, LineStarts, push_json_extent};
 use ly_print::{
     AnswerForm, Terminal, push_json_content, push_json_name, push_leaf, push_no_rule_line,
 };
+use ly_spans::{LineStarts, Span, push_json_span};
 use std::io::Write;
 
 /// Appends the line of a rule's lexeme at this place, if its token has a name. Fails if memory runs out.
@@ -19,7 +19,7 @@ pub(crate) fn push_lexeme<N: TokenNames>(
     starts: &LineStarts<'_>,
     names: &N,
     rule: RuleNo,
-    extent: Extent,
+    extent: Span,
     lexeme: &[u8],
 ) -> Result<(), OutOfMemory>
     requires some { 0 < length lexeme.now }
@@ -40,7 +40,7 @@ fn push_token(
     form: AnswerForm,
     starts: &LineStarts<'_>,
     name: &[u8],
-    extent: Extent,
+    extent: Span,
     token: &[u8],
 ) -> Result<(), OutOfMemory>
     requires whole { extent.end ≡ extent.start + length token.now }
@@ -56,7 +56,7 @@ fn push_token(
         AnswerForm::Json => {
             out.extend_from_slice(b"{\"token\":")?;
             push_json_name(out, name)?;
-            push_json_extent(out, starts, extent)?;
+            push_json_span(out, starts, extent)?;
             out.push(b',')?;
             push_json_content(out, token)?;
             out.extend_from_slice(b"}\n")?;
@@ -96,11 +96,11 @@ fn push_stuck(
         AnswerForm::Json => {
             out.extend_from_slice(b"{\"error\":\"unmatched\",\"byte\":")?;
             push_number(out, byte as u64)?;
-            let empty = Extent {
+            let empty = Span {
                 start: byte,
                 end: byte,
             };
-            push_json_extent(out, starts, empty)?;
+            push_json_span(out, starts, empty)?;
             out.extend_from_slice(b"}\n")?;
         }
     }

@@ -5,9 +5,9 @@ ghost use Rattle.ly_scan.specs.Lexers.{scanner_of};
 use crate::lines::{push_end, push_lexeme};
 use crate::token_names::TokenNames;
 use ly_base::{End, OutOfMemory, Place};
-use ly_extents::{Extent, LineStarts};
 use ly_print::AnswerForm;
 use ly_scan::{KnownWalks, Lexer};
+use ly_spans::{LineStarts, Span};
 use std::alloc::Global;
 
 /// The tokens of a text.
@@ -40,7 +40,7 @@ pub fn list_tokens<N: TokenNames>(
             Ok(Some(lexeme)) => {
                 let token = &place.rest()[..lexeme.taken];
                 let start = place.at();
-                let extent = Extent {
+                let extent = Span {
                     start,
                     end: start + lexeme.taken,
                 };

@@ -28,7 +28,7 @@ use Rattle.ly_loop.specs.Private.Entries.{AreEntries}
 use Rattle.ly_loop.specs.Private.Pairs.{pair_cmp}
 use Rattle.ly_loop.proofs.PairLemmas.{same_pair}
 use Rattle.ly_loop.specs.Private.Reductions.{AreAlike, AreFirsts, AreReducing, AreReductions, AreSeen, EndsAtOnce}
-use Rattle.ly_loop.specs.Private.Reductions.{IsIn, IsKeptOn, IsNoted, IsSaid}
+use Rattle.ly_loop.specs.Private.Reductions.{IsIn, IsKeptOn, IsNoted, IsCovered}
 
 in_push : (row : List RuleNo) (r : RuleNo) (n : ℕ) → IsIn row n → IsIn (row ++ r ∷ []) n
 in_push row r n is = (is.0, Contains-append_left row (r ∷ []) is.0 is.1, is.2)
@@ -210,7 +210,7 @@ alike_itself m p is =
     }
 
 -- a row more has what was said
-said_push : (m : Machine) (row : List RuleNo) (r : RuleNo) (p : ℕ) → IsSaid m row p → IsSaid m (row ++ r ∷ []) p
+said_push : (m : Machine) (row : List RuleNo) (r : RuleNo) (p : ℕ) → IsCovered m row p → IsCovered m (row ++ r ∷ []) p
 said_push m row r p is = (is.0, Contains-append_left row (r ∷ []) is.0 is.1, is.2)
 
 -- nothing is looked up
@@ -254,7 +254,7 @@ firsts_put m old new row rule x is put was left size r found =
 pub first_said : (m : Machine) (firsts : BTreeMap (ℕ × ℕ) RuleNo) (row : List RuleNo) (rule : RuleNo) (x : TableRule)
     (found : Option (Bor RuleNo)) → IsTableRule m rule.0 x → AreFirsts m firsts row
     → option_copied found ≡ tree.get pair_cmp firsts (x.left, x.body_length) → is_some found ≡ true
-    → IsSaid m row rule.0
+    → IsCovered m row rule.0
 first_said m firsts row rule x None is all at some = absurd (cc)
 first_said m firsts row rule x (Some r) is all at some =
     let there = all x.left x.body_length r.now (sym at) in (
@@ -273,7 +273,7 @@ first_said m firsts row rule x (Some r) is all at some =
 -- The rules of a row so far are kept, but for those by which a run ends at once, and those that say the same.
 pub record AreKeptOn (m : Machine) (state : ℕ) (row kept : List RuleNo) : Type 0 where
   pub rules : (r : RuleNo) → Contains kept r → IsRuleNumber m r.0
-  pub whole : (r : RuleNo) → Contains row r → IsSaid m kept r.0 ⊎ EndsAtOnce m state r.0
+  pub whole : (r : RuleNo) → Contains row r → IsCovered m kept r.0 ⊎ EndsAtOnce m state r.0
 
 pub kept_none : (m : Machine) (state : ℕ) → AreKeptOn m state [] []
 kept_none m state = record {
@@ -291,10 +291,10 @@ kept_more m state row kept rule new known was (inl pushed) = record {
   ];
   whole = λ r h. elim (Contains-push_cases row rule r h) [
     | inl old ↦ elim (was.whole r old) [
-      | inl there ↦ inl (subst (λ rs. IsSaid m rs r.0) (sym pushed) (said_push m kept rule r.0 there))
+      | inl there ↦ inl (subst (λ rs. IsCovered m rs r.0) (sym pushed) (said_push m kept rule r.0 there))
       | inr ends ↦ inr ends
     ]
-    | inr same ↦ inl (subst (λ rs. IsSaid m rs r.0) (sym pushed) (
+    | inr same ↦ inl (subst (λ rs. IsCovered m rs r.0) (sym pushed) (
       rule,
       Contains-push kept rule,
       subst (λ (x : RuleNo). AreAlike m rule.0 x.0) same
@@ -306,13 +306,13 @@ kept_more m state row kept rule new known was (inr left) = record {
   rules = λ r h. was.rules r (subst (λ rs. Contains rs r) left.0 h);
   whole = λ r h. elim (Contains-push_cases row rule r h) [
     | inl old ↦ elim (was.whole r old) [
-      | inl there ↦ inl (subst (λ rs. IsSaid m rs r.0) (sym left.0) there)
+      | inl there ↦ inl (subst (λ rs. IsCovered m rs r.0) (sym left.0) there)
       | inr ends ↦ inr ends
     ]
     | inr same ↦ elim left.1 [
       | inl ends ↦ inr (subst (λ (x : RuleNo). EndsAtOnce m state x.0) same ends)
-      | inr said ↦ inl (subst (λ rs. IsSaid m rs r.0) (sym left.0)
-          (subst (λ (x : RuleNo). IsSaid m kept x.0) same said))
+      | inr said ↦ inl (subst (λ rs. IsCovered m rs r.0) (sym left.0)
+          (subst (λ (x : RuleNo). IsCovered m kept x.0) same said))
     ]
   ];
 }
@@ -324,7 +324,7 @@ kept_all m state row kept are is = record {
   whole = λ t p action.
       let found = are.whole t p action in
       elim (is.whole found.0 found.1) [
-        | inl there ↦ inl (subst (IsSaid m kept) found.2 there)
+        | inl there ↦ inl (subst (IsCovered m kept) found.2 there)
         | inr ends ↦ inr (subst (EndsAtOnce m state) found.2 ends)
       ];
 }

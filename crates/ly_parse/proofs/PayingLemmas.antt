@@ -13,7 +13,7 @@ use Rattle.ly_parse.specs.Feeding.{Level}
 use Rattle.ly_parse.specs.Private.Paying.{places_in, stack_cost, IsStackPaid}
 use Rattle.ly_parse.specs.Private.Stack.{terms_onto}
 use Rattle.ly_tree.proofs.CostLemmas.{budget_kept, count_of, each_in_cost, place_cost, places_cost}
-use Rattle.ly_tree.specs.Costs.{budget, cost, costs, IsPaid}
+use Rattle.ly_tree.specs.Costs.{budget, cost, costs, IsBoundedBySize}
 use Rattle.ly_tree.specs.Forest.{Grown, Keeps}
 use Rattle.ly_tree.specs.Term.{Terms, leaf, made, more, none}
 
@@ -63,7 +63,7 @@ pub paid_kept : (f g : Grown) (stack : List Level) → Keeps f g → IsStackPaid
 paid_kept f g stack k h = λ each byte. omega (arith, h each byte, budget_kept f g k each byte)
 
 -- and the term on top alone
-pub top_paid : (f : Grown) (l : Level) (stack : List Level) → IsStackPaid f (l ∷ stack) → IsPaid f l.term
+pub top_paid : (f : Grown) (l : Level) (stack : List Level) → IsStackPaid f (l ∷ stack) → IsBoundedBySize f l.term
 top_paid f l stack h = λ each byte. omega (
   arith,
   h each byte,

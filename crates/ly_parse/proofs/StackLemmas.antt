@@ -17,7 +17,7 @@ use Rattle.ly_parse.specs.declared.level.Level as code
 use Rattle.ly_parse.proofs.FeedingLemmas.{legal}
 use Rattle.ly_parse.proofs.PayingLemmas.{leaf_paid, none_paid, paid_drop, paid_kept, top_paid}
 use Rattle.ly_tree.proofs.StandLemmas.{known_kept, known_stands, stands_known, stands_unwrapped, term_kept}
-use Rattle.ly_tree.specs.Costs.{budget, IsPaid}
+use Rattle.ly_tree.specs.Costs.{budget, IsBoundedBySize}
 use Rattle.ly_tree.specs.Forest.{term_of, Grown, Keeps, StandsFor}
 use Rattle.ly_tree.specs.Term.{Term, leaf, nothing}
 
@@ -178,12 +178,12 @@ accepts m f levels l p count over view h e =
 -- and the forest pays for it
 pub accepted_paid : (m : Machine) (f : Grown) (levels : List code.Level) (l : code.Level) (p : Parse) (count : ℕ)
     (over : Bool) (t : Term) → parse_from m f levels count over ≡ p → IsParse m f levels
-    → slice_get levels (length levels - 1) ≡ Some l → StandsFor p.forest l.term t → IsPaid p.forest t
+    → slice_get levels (length levels - 1) ≡ Some l → StandsFor p.forest l.term t → IsBoundedBySize p.forest t
 accepted_paid m f levels l p count over t view h e stands =
     let top = last_is levels l e in
     let paid = subst (IsStackPaid f) (ap (stack_from f) top.1 ∙ stack_from-push f top.0 l) h.paid in
-    subst (λ q. IsPaid q.forest t) view
-    (subst (IsPaid f) (stands_unwrapped f l.term t (subst (λ q. StandsFor q.forest l.term t) (sym view) stands))
+    subst (λ q. IsBoundedBySize q.forest t) view
+    (subst (IsBoundedBySize f) (stands_unwrapped f l.term t (subst (λ q. StandsFor q.forest l.term t) (sym view) stands))
     (top_paid f (level_from f l) (stack_from f top.0) paid))
 
 -- a shift

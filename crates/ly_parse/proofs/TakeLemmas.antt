@@ -10,8 +10,8 @@ use Rattle.ly_parse.specs.Parse.{ends_by, is_last, Comes, IsCall, IsTake, IsTell
 use Rattle.ly_parse.specs.Private.Answered.{with_note, IsAcceptance, IsTold}
 use Rattle.ly_parse.specs.Private.Before.{before_on, IsNoteOf}
 use Rattle.ly_parse.specs.Private.Stack.{parse_from, stack_from, FeedAlike, IsParse}
-use Rattle.ly_parse.specs.declared.answer.Answer.{Answer}
-use Rattle.ly_parse.specs.declared.answer.Answer.TheVariants as answers
+use Rattle.ly_parse.specs.declared.token_outcome.TokenOutcome.{TokenOutcome}
+use Rattle.ly_parse.specs.declared.token_outcome.TokenOutcome.TheVariants as answers
 use Rattle.ly_parse.specs.declared.before.Before.{Before}
 use Rattle.ly_parse.specs.declared.fault.ParseFault.{ParseFault}
 use Rattle.ly_parse.specs.declared.fault.ParseFault.TheVariants.{OutOfMemory, Over, FaultyTables}
@@ -62,7 +62,7 @@ module _ (p : Parse) (token : Token ℕ) (a : Before) (s : Parse)
       (fed, more ∙ ap (λ n. n + 1) counted)
 
   -- the tables accept
-  pub accepts_token : (answer : Answer) (b : Before) → action_of p.machine (top_of s.stack) token.terminal ≡ accept
+  pub accepts_token : (answer : TokenOutcome) (b : Before) → action_of p.machine (top_of s.stack) token.terminal ≡ accept
       → IsAcceptance s.stack answer → Comes (with_note p a) token (with_note s b) answer
   accepts_token answers.Accepts b action x =
       (x.0, alike token (done x.0) refl (feeds_by p.machine token s.stack accept (done x.0) action x.1), x.1)
@@ -89,7 +89,7 @@ module _ (p : Parse) (token : Token ℕ) (a : Before) (s : Parse)
   )
 
 -- a call of a parse that isn't over takes the token
-pub taken : (p : Parse) (token : Token ℕ) (q : Parse) (answer : Answer) → p.over ≡ false → Comes p token q answer
+pub taken : (p : Parse) (token : Token ℕ) (q : Parse) (answer : TokenOutcome) → p.over ≡ false → Comes p token q answer
     → q.machine ≡ p.machine → q.over ≡ ends_by answer → IsTake p token q answer
 taken p token q answer goes took same ended = record {
   after_end = not_over p.over goes;
@@ -99,7 +99,7 @@ taken p token q answer goes took same ended = record {
 }
 
 -- where the tables accept, a parse is over
-pub acceptance_ends : (stack : List Level) (answer : Answer) → IsAcceptance stack answer → true ≡ ends_by answer
+pub acceptance_ends : (stack : List Level) (answer : TokenOutcome) → IsAcceptance stack answer → true ≡ ends_by answer
 acceptance_ends stack answers.Accepts x = refl
 acceptance_ends stack answers.FaultyTables x = refl
 acceptance_ends stack answers.Reads x = absurd x
@@ -110,14 +110,14 @@ acceptance_ends stack answers.OutOfMemory x = absurd x
 -- A call that came to an answer, and what is told of it.
 module _ (p : Parse) (t : Token ℕ) (q : Parse) where
   -- a refusal can be told where a token was refused
-  pub refusal_told : (answer : Answer) → IsTake p t q answer → answer ≡ answers.Refuses → IsTellable q
+  pub refusal_told : (answer : TokenOutcome) → IsTake p t q answer → answer ≡ answers.Refuses → IsTellable q
   refusal_told answer took is = by p.over refl (subst (IsTake p t q) is took)
     where
       by : (over : Bool) → p.over ≡ over → IsTake p t q answers.Refuses → IsTellable q
       by true e h = absurd (let no : answers.Refuses ≡ answers.Over = (h.after_end e).0 in cc)
       by false e h = (h.before_end e).3
 
-  told_of : (answer : Answer) (r : Result step.Step ParseFault) → (answer ≡ answers.Over → ⊥) → IsTake p t q answer
+  told_of : (answer : TokenOutcome) (r : Result step.Step ParseFault) → (answer ≡ answers.Over → ⊥) → IsTake p t q answer
       → (Comes p t q answer → Takes p t q r) → ends_by answer ≡ is_last r → IsCall p t q r
   told_of answer r not_over h tells ended = record {
     after_end = λ e. absurd (not_over (h.after_end e).0);
@@ -160,7 +160,7 @@ module _ (p : Parse) (t : Token ℕ) (q : Parse) where
       (told_of answers.Refuses (Err OutOfMemory) (λ e. cc) h (λ x. tt) refl)
 
   -- what is told of a call is an answer of the call
-  pub told_call : (answer : Answer) (r : Result step.Step ParseFault) → IsTake p t q answer → IsTold q t.at answer r
+  pub told_call : (answer : TokenOutcome) (r : Result step.Step ParseFault) → IsTake p t q answer → IsTold q t.at answer r
       → IsCall p t q r
   told_call answers.Reads r h told =
       subst (IsCall p t q) (sym told) (told_of answers.Reads (Ok More) (λ e. cc) h (λ x. x) refl)

@@ -5,8 +5,8 @@ use Rattle.ly_pack.specs.Machine.{Machine, states_of}
 use Rattle.ly_pack.specs.SteadyLaws.{IsStack}
 use Rattle.ly_parse.specs.Expected.{AreExpected}
 use Rattle.ly_parse.specs.Feeding.{Feeds, Level, accept_with, done, faulty, pushed, refused, settles, states_on}
-use Rattle.ly_parse.specs.declared.answer.Answer.{Answer}
-use Rattle.ly_parse.specs.declared.answer.Answer.TheVariants as answers
+use Rattle.ly_parse.specs.declared.token_outcome.TokenOutcome.{TokenOutcome}
+use Rattle.ly_parse.specs.declared.token_outcome.TokenOutcome.TheVariants as answers
 use Rattle.ly_parse.specs.declared.fault.ParseFault.{ParseFault}
 use Rattle.ly_parse.specs.declared.fault.ParseFault.TheVariants.{OutOfMemory, Over, FaultyTables}
 use Rattle.ly_parse.specs.declared.step.Step as code
@@ -59,7 +59,7 @@ pub record IsTellable (q : Parse) : Type 0 where
 -- The effect of a token on a parse that hasn't ended, by the small result: it continues after the token; it accepts
 -- with the term on top of its stack; it rejects the token, whose refusal can be reconstructed with the stack as it was
 -- before the call; or the tables are faulty. Out of memory means nothing.
-abbrev pub Comes : Parse → Token ℕ → Parse → Answer → Type 0
+abbrev pub Comes : Parse → Token ℕ → Parse → TokenOutcome → Type 0
 Comes p t q answers.Reads = Feeds p.machine t p.stack (pushed q.stack) × (q.count ≡ p.count + 1)
 Comes p t q answers.Accepts = (d : Term) × Feeds p.machine t p.stack (done d) × (accept_with q.stack ≡ settles (done d))
 Comes p t q answers.Refuses = Feeds p.machine t p.stack refused × (q.asked ≡ states_on p.stack)
@@ -69,13 +69,13 @@ Comes p t q answers.Over = ⊥
 Comes p t q answers.OutOfMemory = Unit {0}
 
 -- whether a parse has ended after a small result
-abbrev pub ends_by : Answer → Bool
+abbrev pub ends_by : TokenOutcome → Bool
 ends_by answers.Reads = false
 ends_by _ = true
 
 -- The effect of a call with a token: a parse that has ended is unchanged and reports that; any other processes the
 -- token.
-pub record IsTake (p : Parse) (t : Token ℕ) (q : Parse) (answer : Answer) : Type 0 where
+pub record IsTake (p : Parse) (t : Token ℕ) (q : Parse) (answer : TokenOutcome) : Type 0 where
   pub after_end : p.over ≡ true → (answer ≡ answers.Over) × (q ≡ p)
   pub before_end : p.over ≡ false → Comes p t q answer
   pub machine : q.machine ≡ p.machine

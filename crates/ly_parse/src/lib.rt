@@ -24,7 +24,6 @@
 //! Not done here: finding tokens, and printing errors.
 #![tactic(auto)]
 
-mod answer;
 mod before;
 mod copied;
 mod fault;
@@ -44,11 +43,12 @@ mod shortcut;
 mod shortcuts;
 mod step;
 mod token;
+mod token_outcome;
 
-pub use answer::Answer;
 pub use fault::ParseFault;
 pub use laws::a_token_is_fed_in_one_way;
 pub use parser::Parser;
 pub use refusal::Refusal;
 pub use step::Step;
 pub use token::Token;
+pub use token_outcome::TokenOutcome;

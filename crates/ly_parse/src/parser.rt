@@ -3,19 +3,19 @@ ghost use Rattle.ly_pack.specs.Steady.{IsSteady};
 ghost use Rattle.ly_parse.specs.Expected.{AreExpected};
 ghost use Rattle.ly_parse.specs.Parse.{IsCall, IsTake, IsTellable};
 ghost use Rattle.ly_parse.specs.Private.Answered.{IsRefusal, IsTold};
-ghost use Rattle.ly_parse.specs.declared.answer.Answer.TheVariants as answers;
+ghost use Rattle.ly_parse.specs.declared.token_outcome.TokenOutcome.TheVariants as answers;
 ghost use Rattle.ly_parse.specs.declared.step.Step.TheVariants as step;
-ghost use Rattle.ly_tree.specs.Costs.{IsPaid};
+ghost use Rattle.ly_tree.specs.Costs.{IsBoundedBySize};
 ghost use Rattle.ly_tree.specs.Forest.{no_terms, StandsFor};
 ghost use Rattle.ly_tree.specs.Term.{Term};
 
-use crate::answer::Answer;
 use crate::before::Before;
 use crate::fault::ParseFault;
 use crate::refusal::Refusal;
 use crate::running::Running;
 use crate::step::Step;
 use crate::token::Token;
+use crate::token_outcome::TokenOutcome;
 use ly_base::{OutOfMemory, StateNo};
 use ly_pack::{MachineView, Rows, TableAction};
 use ly_tree::{Forest, TermRef};
@@ -81,7 +81,7 @@ impl<'a, A: Rows<TableAction> + Drop, G: Rows<StateNo> + Drop> Parser<'a, A, G> 
     /// Processes a token: makes the reductions before it, and then reads or rejects it. After any result other than
     /// `Reads` the parse has ended. For a rejected token, `refusal` returns the details.
     #[inline(always)] // it is a single call
-    pub fn take(&mut self, token: &Token<'_>) -> Answer
+    pub fn take(&mut self, token: &Token<'_>) -> TokenOutcome
         requires not_end { token.now.terminal.0 ≢ 0 }
         requires terminal { token.now.terminal.0 < self.old.machine.terminals }
         ensures { IsTake self.old (record {
@@ -95,7 +95,7 @@ impl<'a, A: Rows<TableAction> + Drop, G: Rows<StateNo> + Drop> Parser<'a, A, G> 
 
     /// Processes a token like `take`. The parse must not have ended.
     #[inline(always)] // it is a single call
-    pub fn go_on(&mut self, token: &Token<'_>) -> Answer
+    pub fn go_on(&mut self, token: &Token<'_>) -> TokenOutcome
         requires goes_on { self.old.over ≡ false }
         requires not_end { token.now.terminal.0 ≢ 0 }
         requires terminal { token.now.terminal.0 < self.old.machine.terminals }
@@ -153,7 +153,7 @@ impl<'a, A: Rows<TableAction> + Drop, G: Rows<StateNo> + Drop> Parser<'a, A, G> 
         ensures call { IsCall self.old (record { terminal = 0; at = at; bytes = [] }) self.new result }
         ensures last { result ≢ Ok step.More }
         ensures paid { (root : TermRef) (t : Term) → result ≡ Ok (step.Done root)
-            → StandsFor self.new.forest root t → IsPaid self.new.forest t }
+            → StandsFor self.new.forest root t → IsBoundedBySize self.new.forest t }
     {
         let answer = self.running.end(&mut self.before);
         self.told(answer, at)
@@ -161,19 +161,19 @@ impl<'a, A: Rows<TableAction> + Drop, G: Rows<StateNo> + Drop> Parser<'a, A, G> 
 
     /// The result of a call with this outcome, whose token is at this offset. A term that is accepted uses no part of
     /// the forest twice.
-    fn told(&self, answer: Answer, at: u64) -> Result<Step, ParseFault>
+    fn told(&self, answer: TokenOutcome, at: u64) -> Result<Step, ParseFault>
         requires { answer ≡ answers.Refuses → IsTellable self.now }
         ensures told { IsTold self.now at answer result }
         ensures paid { (root : TermRef) (t : Term) → result ≡ Ok (step.Done root)
-            → StandsFor self.now.forest root t → IsPaid self.now.forest t }
+            → StandsFor self.now.forest root t → IsBoundedBySize self.now.forest t }
     {
         match answer {
-            Answer::Reads => Ok(Step::More),
-            Answer::Accepts => self.running.accept(),
-            Answer::Refuses => self.refuse(at),
-            Answer::FaultyTables => Err(ParseFault::FaultyTables),
-            Answer::Over => Err(ParseFault::Over),
-            Answer::OutOfMemory => Err(ParseFault::OutOfMemory),
+            TokenOutcome::Reads => Ok(Step::More),
+            TokenOutcome::Accepts => self.running.accept(),
+            TokenOutcome::Refuses => self.refuse(at),
+            TokenOutcome::FaultyTables => Err(ParseFault::FaultyTables),
+            TokenOutcome::Over => Err(ParseFault::Over),
+            TokenOutcome::OutOfMemory => Err(ParseFault::OutOfMemory),
         }
     }
 

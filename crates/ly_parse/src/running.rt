@@ -7,13 +7,12 @@ ghost use Rattle.ly_parse.specs.Parse.{Comes, IsTake, IsTellable};
 ghost use Rattle.ly_parse.specs.Private.Answered.{with_note, IsAcceptance};
 ghost use Rattle.ly_parse.specs.Private.Before.{before_on};
 ghost use Rattle.ly_parse.specs.Private.Stack.{IsAccepted};
-ghost use Rattle.ly_parse.specs.declared.answer.Answer.TheVariants as answers;
+ghost use Rattle.ly_parse.specs.declared.token_outcome.TokenOutcome.TheVariants as answers;
 ghost use Rattle.ly_parse.specs.declared.step.Step.TheVariants as step;
-ghost use Rattle.ly_tree.specs.Costs.{IsPaid};
+ghost use Rattle.ly_tree.specs.Costs.{IsBoundedBySize};
 ghost use Rattle.ly_tree.specs.Forest.{no_terms, StandsFor};
 ghost use Rattle.ly_tree.specs.Term.{Term, leaf};
 
-use crate::answer::Answer;
 use crate::before::Before;
 use crate::fault::ParseFault;
 use crate::landing::Landing;
@@ -24,6 +23,7 @@ use crate::shortcut::Situation;
 use crate::shortcuts::Shortcuts;
 use crate::step::Step;
 use crate::token::Token;
+use crate::token_outcome::TokenOutcome;
 use ly_base::{OutOfMemory, StateNo, Sym};
 use ly_pack::{MachineView, Rows, TableAction};
 use ly_print::Front;
@@ -114,7 +114,7 @@ impl<'a, A: Rows<TableAction> + Drop, G: Rows<StateNo> + Drop> Running<'a, A, G>
     /// Processes a token: makes the reductions before it, and then reads or rejects it. After any result other than
     /// `Reads` the parse has ended. If the token is rejected, the stack as it was is noted.
     #[inline(always)] // a call would cost a fifteenth more instructions per token
-    pub(crate) fn feed(&mut self, token: &Token<'_>, before: &mut Before) -> Answer
+    pub(crate) fn feed(&mut self, token: &Token<'_>, before: &mut Before) -> TokenOutcome
         requires not_end { token.now.terminal.0 ≢ 0 }
         requires terminal { token.now.terminal.0 < self.old.machine.terminals }
         ensures { IsTake (with_note self.old before.old) (record {
@@ -124,14 +124,14 @@ impl<'a, A: Rows<TableAction> + Drop, G: Rows<StateNo> + Drop> Running<'a, A, G>
         }) (with_note self.new before.new) result }
     {
         if self.over {
-            return Answer::Over;
+            return TokenOutcome::Over;
         }
         self.go_on(token, before)
     }
 
     /// Processes a token like `feed`. The parse must not have ended.
     #[inline(always)] // so that a token that is read gets the registers
-    pub(crate) fn go_on(&mut self, token: &Token<'_>, before: &mut Before) -> Answer
+    pub(crate) fn go_on(&mut self, token: &Token<'_>, before: &mut Before) -> TokenOutcome
         requires goes_on { self.old.over ≡ false }
         requires not_end { token.now.terminal.0 ≢ 0 }
         requires terminal { token.now.terminal.0 < self.old.machine.terminals }
@@ -151,7 +151,7 @@ impl<'a, A: Rows<TableAction> + Drop, G: Rows<StateNo> + Drop> Running<'a, A, G>
     /// The outcome for a token: reductions are made before it, and then it is read or rejected. If it is rejected, the
     /// stack as it was is noted.
     #[inline(always)] // so that the loop over tokens gets the registers
-    fn come(&mut self, token: &Token<'_>, before: &mut Before) -> Answer
+    fn come(&mut self, token: &Token<'_>, before: &mut Before) -> TokenOutcome
         requires not_end { token.now.terminal.0 ≢ 0 }
         requires terminal { token.now.terminal.0 < self.old.machine.terminals }
         ensures comes { Comes (with_note self.old before.old) (record {
@@ -166,19 +166,19 @@ impl<'a, A: Rows<TableAction> + Drop, G: Rows<StateNo> + Drop> Running<'a, A, G>
         let _ = &self.machine;
         match self.settle(token.terminal, before) {
             Settled::Reads(state) => match self.read(state, token) {
-                Ok(()) => Answer::Reads,
-                Err(OutOfMemory) => Answer::OutOfMemory,
+                Ok(()) => TokenOutcome::Reads,
+                Err(OutOfMemory) => TokenOutcome::OutOfMemory,
             },
             Settled::Accepts => self.acceptance(),
-            Settled::Refuses => Answer::Refuses,
-            Settled::FaultyTables => Answer::FaultyTables,
-            Settled::OutOfMemory => Answer::OutOfMemory,
+            Settled::Refuses => TokenOutcome::Refuses,
+            Settled::FaultyTables => TokenOutcome::FaultyTables,
+            Settled::OutOfMemory => TokenOutcome::OutOfMemory,
         }
     }
 
     /// Processes the end of the text: makes the reductions before it, and then accepts or rejects it. The parse has
     /// then ended. If the end is rejected, the stack as it was is noted.
-    pub(crate) fn end(&mut self, before: &mut Before) -> Answer
+    pub(crate) fn end(&mut self, before: &mut Before) -> TokenOutcome
         requires { 0 < self.old.machine.terminals }
         ensures call { (at : ℕ) → IsTake (with_note self.old before.old) (record {
           terminal = 0;
@@ -188,27 +188,27 @@ impl<'a, A: Rows<TableAction> + Drop, G: Rows<StateNo> + Drop> Running<'a, A, G>
         ensures last { result ≢ answers.Reads }
     {
         if self.over {
-            return Answer::Over;
+            return TokenOutcome::Over;
         }
         self.over = true;
         match self.settle(Sym(0), before) {
             Settled::Accepts => self.acceptance(),
-            Settled::Refuses => Answer::Refuses,
-            Settled::FaultyTables => Answer::FaultyTables,
-            Settled::OutOfMemory => Answer::OutOfMemory,
+            Settled::Refuses => TokenOutcome::Refuses,
+            Settled::FaultyTables => TokenOutcome::FaultyTables,
+            Settled::OutOfMemory => TokenOutcome::OutOfMemory,
             // the end is never shifted
             Settled::Reads(_) => unreachable!(),
         }
     }
 
     /// The outcome of a call if the tables accept: they are faulty if there is no term.
-    fn acceptance(&self) -> Answer
+    fn acceptance(&self) -> TokenOutcome
         ensures { IsAcceptance self.now.stack result }
     {
         if self.stack.is_empty() {
-            return Answer::FaultyTables;
+            return TokenOutcome::FaultyTables;
         }
-        Answer::Accepts
+        TokenOutcome::Accepts
     }
 
     /// Pushes a token that is read onto the stack.
@@ -255,7 +255,7 @@ impl<'a, A: Rows<TableAction> + Drop, G: Rows<StateNo> + Drop> Running<'a, A, G>
     pub(crate) fn accept(&self) -> Result<Step, ParseFault>
         ensures accepted { IsAccepted self.now.forest self.now.stack result }
         ensures paid { (root : TermRef) (t : Term) → result ≡ Ok (step.Done root)
-            → StandsFor self.now.forest root t → IsPaid self.now.forest t }
+            → StandsFor self.now.forest root t → IsBoundedBySize self.now.forest t }
     {
         match self.stack.last() {
             Some(level) => Ok(Step::Done(level.term)),

@@ -11,7 +11,7 @@ use Rattle.ly_places.specs.Private.Kept.{first_extent, placed_term, placed_terms
 use Rattle.ly_places.specs.Private.Measured.{measure_of, tokens_among}
 use Rattle.ly_places.specs.Private.Waiting.{all_visits, body_from, listed, placed_at, visits, visits_among, visits_at}
 use Rattle.ly_places.specs.Private.Waiting.{visits_left, waiting_at, IsReady}
-use Rattle.ly_extents.specs.declared.extent.Extent.{Extent}
+use Rattle.ly_spans.specs.declared.span.Span.{Span}
 use Rattle.ly_places.specs.declared.flattening.Waiting.{Waiting}
 use Rattle.ly_places.specs.declared.measure.Measure.{Measure}
 use Rattle.ly_places.specs.declared.part.Part.{Part}
@@ -23,7 +23,7 @@ use Rattle.ly_tree.specs.declared.forest.TermRef.{TermRef}
 use Rattle.ly_tree.specs.declared.forest.TermRef.TheVariants.{Nothing}
 
 -- a body has as many as there are children and measures
-body_count : (tokens : List Extent) (first last : ℕ) (rs : List TermRef) (ms : List Measure) → length rs ≡ length ms
+body_count : (tokens : List Span) (first last : ℕ) (rs : List TermRef) (ms : List Measure) → length rs ≡ length ms
     → length (body_from tokens first last rs ms) ≡ length rs
 body_count tokens first last [] ms h = refl
 body_count tokens first last (r ∷ rs) [] h = absurd (omega arith)
@@ -34,7 +34,7 @@ body_count tokens first last (r ∷ rs) (m ∷ ms) h =
           (omega arith),
     )
 
-pub body_length : (tokens : List Extent) (first last start count : ℕ) (rs : List TermRef) (ms : List Measure)
+pub body_length : (tokens : List Span) (first last start count : ℕ) (rs : List TermRef) (ms : List Measure)
     → start + count ≤ length rs → start + count ≤ length ms
     → length (body_from tokens first last (take count (drop start rs)) (take count (drop start ms))) ≡ count
 body_length tokens first last start count rs ms h g =
@@ -56,7 +56,7 @@ abbrev pub in_a_row : List Placed → PlacedTerms
 in_a_row [] = none
 in_a_row (k ∷ ks) = more k (in_a_row ks)
 
-module _ (shape : ℕ → Shape) (tokens : List Extent) (f : Grown) where
+module _ (shape : ℕ → Shape) (tokens : List Span) (f : Grown) where
   pub body_placed : (rs : List TermRef) (ts : List Term) (first last : ℕ) → StandForAll f rs (all_of ts)
       → in_a_row (map (placed_at shape tokens f) (body_from tokens first last rs (map (measure_of shape) ts)))
       ≡ placed_terms shape last (drop first tokens) (all_of ts)

@@ -12,12 +12,12 @@ use Rattle.ly_base.specs.declared.lexeme.End.TheVariants.{BadCut, Clean, Stuck}
 use Rattle.ly_feed.proofs.OneVerdictLemmas.{one_tokens}
 use Rattle.ly_feed.proofs.OnwardLemmas.{from_start}
 use Rattle.ly_feed.specs.Closed.{CanRun, IsClosed, IsVerdictOf, progress_of}
-use Rattle.ly_feed.specs.Flaw.{verdict_of}
+use Rattle.ly_feed.specs.SyntaxError.{verdict_of}
 use Rattle.ly_feed.specs.ScanPart.{ScanPart, scan_part_of}
 use Rattle.ly_feed.specs.TableAnswer.{IsRest, IsVerdict, IsVerdictBy, Progress, ReadsAll, begun}
 use Rattle.ly_feed.specs.Verdict.{Verdict, accepted, faulty, refused, unmatched}
-use Rattle.ly_feed.specs.declared.flaw.Flaw.{Flaw}
-use Rattle.ly_feed.specs.declared.flaw.Flaw.TheVariants as flaws
+use Rattle.ly_feed.specs.declared.syntax_error.SyntaxError.{SyntaxError}
+use Rattle.ly_feed.specs.declared.syntax_error.SyntaxError.TheVariants as syntax_errors
 use Rattle.ly_feed.specs.declared.running.Ended.TheVariants as ended
 use Rattle.ly_feed.specs.declared.text_fault.TextFault.{TextFault}
 use Rattle.ly_feed.specs.declared.text_fault.TextFault.TheVariants as faults
@@ -29,7 +29,7 @@ use Rattle.ly_parse.specs.Feeding.{Fed, Feeds, Level, states_on}
 use Rattle.ly_parse.specs.Feeding as terms
 use Rattle.ly_parse.specs.Parse.{Parse}
 use Rattle.ly_parse.specs.Reading.{ReadsTokens, at_end, onward}
-use Rattle.ly_extents.specs.Extents.{extent_of}
+use Rattle.ly_spans.specs.Spans.{span_of}
 use Rattle.ly_places.proofs.KeepingLemmas.{fed_alike, machine_stays, same_expected, steady_still}
 use Rattle.ly_places.proofs.TreeFeeding.{TreeFed, TreeLevel, done_with_terms, done_with_trees, fed_by, levels_by}
 use Rattle.ly_places.proofs.TreeFeeding.{same_states}
@@ -277,16 +277,16 @@ module _ (s : TableSet) (text : List ℕ) (is_machine : IsMachine (machine_of s)
         tokens = it.tokens;
         tree = it.tree;
         derived = it.derived;
-        extents = listed.listed ∙ ap (map extent_of) (sym one.0);
+        extents = listed.listed ∙ ap (map span_of) (sym one.0);
         root = subst (StandsFor x.forest x.root) it.same (subst (λ f. StandsFor f x.root of.0) (sym same_forest)
             (subst (λ r. StandsFor forest r of.0) (sym same_root) of.2));
       }
 
   -- what is wrong with it is so by the tables themselves
-  pub refused_with : (forest : Grown) (flaw : Flaw) (v : Verdict) → IsSaidItself s text v
-      → IsVerdictOf forest (ended.Refused flaw) v → IsVerdict s text (verdict_of flaw)
-  refused_with forest (flaws.Refused number token expected) v said of = subst (IsSaidItself s text) of said
-  refused_with forest (flaws.NoRule byte) v said of = subst (IsSaidItself s text) of said
+  pub refused_with : (forest : Grown) (syntax_error : SyntaxError) (v : Verdict) → IsSaidItself s text v
+      → IsVerdictOf forest (ended.Refused syntax_error) v → IsVerdict s text (verdict_of syntax_error)
+  refused_with forest (syntax_errors.Refused number token expected) v said of = subst (IsSaidItself s text) of said
+  refused_with forest (syntax_errors.NoRule byte) v said of = subst (IsSaidItself s text) of said
 
   -- and so is a fault
   pub fault_with : (k : Machine) (w : Progress) (forest : Grown) (e : TextFault) (result : Result Derived TextFault)

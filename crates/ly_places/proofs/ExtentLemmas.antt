@@ -12,18 +12,18 @@ use Rattle.ly_feed.specs.LexerOf.{IsLexerOf}
 use Rattle.ly_feed.specs.Passing.{ArePassedOver}
 use Rattle.ly_feed.specs.ScanPart.{ScanPart, condition_in, scanner_in, terminal_in}
 use Rattle.ly_feed.specs.TableAnswer.{AreTokens}
-use Rattle.ly_extents.specs.Extents.{extent_of}
+use Rattle.ly_spans.specs.Spans.{span_of}
 use Rattle.ly_places.specs.Private.Derived.{AreExtents}
-use Rattle.ly_extents.specs.declared.extent.Extent.{Extent}
+use Rattle.ly_spans.specs.declared.span.Span.{Span}
 use Rattle.ly_scan.specs.Lexer.{IsLexemeAt, ScanEndsAt}
 use Rattle.ly_scan.specs.Lexers.{Lexer, scanner_of}
-use Rattle.ly_scan.specs.Pieces.{EndsFast, PassesOver, StandsFast}
+use Rattle.ly_scan.specs.Pieces.{EndIsDecided, PassesOver, IsDecided}
 use Rattle.ly_scan.specs.Pieces as pieces
 
 -- A run of a scanner leads from the one place to the other, over tokens that stand there.
-pub record AreListed (p : ScanPart) (q : Place) (extents : List Extent) (r : Place) : Type 0 where
+pub record AreListed (p : ScanPart) (q : Place) (extents : List Span) (r : Place) : Type 0 where
   pub tokens : List (Token ℕ)
-  pub listed : extents ≡ map extent_of tokens
+  pub listed : extents ≡ map span_of tokens
   pub front : (ts : List (Token ℕ)) (e : End) → AreTokens p r ts e → AreTokens p q (tokens ++ ts) e
 
 -- each match of a text that is whole is decided
@@ -62,7 +62,7 @@ module _ (p : ScanPart) where
   }
 
   -- a lexeme without a token changes nothing
-  pub listed_behind : (q r : Place) (extents : List Extent) (t : Lexeme) → IsLexemeAt (scanner_in p) r t
+  pub listed_behind : (q r : Place) (extents : List Span) (t : Lexeme) → IsLexemeAt (scanner_in p) r t
       → terminal_in p t.rule.0 (bytes_of r t) ≡ None → AreListed p q extents r
       → AreListed p q extents (place_after (condition_in p) r t)
   listed_behind q r extents t is none h = record {
@@ -73,7 +73,7 @@ module _ (p : ScanPart) where
   }
 
   -- one with a token is listed
-  pub listed_with : (q r : Place) (extents : List Extent) (t : Lexeme) (terminal : ℕ)
+  pub listed_with : (q r : Place) (extents : List Span) (t : Lexeme) (terminal : ℕ)
       → IsLexemeAt (scanner_in p) r t → t.taken ≤ length r.rest
       → terminal_in p t.rule.0 (bytes_of r t) ≡ Some terminal → AreListed p q extents r
       → AreListed p q (extents ++ record { start = r.at; end = r.at + t.taken } ∷ [])
@@ -84,15 +84,15 @@ module _ (p : ScanPart) where
       record {
         tokens = h.tokens ++ token ∷ [];
         listed = ap (λ xs. xs ++ record { start = r.at; end = r.at + t.taken } ∷ []) h.listed
-            ∙ (ap (λ n. map extent_of h.tokens ++ record { start = r.at; end = r.at + n } ∷ []) long
-            ∙ sym (map-append extent_of h.tokens (token ∷ [])));
+            ∙ (ap (λ n. map span_of h.tokens ++ record { start = r.at; end = r.at + n } ∷ []) long
+            ∙ sym (map-append span_of h.tokens (token ∷ [])));
         front = λ ts e are. subst (λ us. AreTokens p q us e) (sym (append_assoc h.tokens (token ∷ []) ts))
             (h.front (token ∷ ts) e (subst (λ o. AreTokens p r (token_if o r.at (bytes_of r t) ++ ts) e) some
             (behind_lexeme r t is ts e are)));
       }
 
   -- so do those that are passed over
-  over : (passed : List Bool) (q r s : Place) (extents : List Extent) → ArePassedOver p passed
+  over : (passed : List Bool) (q r s : Place) (extents : List Span) → ArePassedOver p passed
       → AreListed p q extents r → PassesOver (scanner_in p) passed r s → AreListed p q extents s
   over passed q r s extents are h pieces.none_yet = h
   over passed q r s extents are h (pieces.and_one {r = u} t on fast one is) =
@@ -103,14 +103,14 @@ module _ (p : ScanPart) where
       (listed_behind q u extents t (stands_here false (scanner_in p) u t fast) (rule.terminal (bytes_of u t))
       (over passed q r u extents are h on))
 
-  pub listed_over : (l : Lexer) (q r s : Place) (extents : List Extent) → IsLexerOf p l → AreListed p q extents r
+  pub listed_over : (l : Lexer) (q r s : Place) (extents : List Span) → IsLexerOf p l → AreListed p q extents r
       → PassesOver (scanner_of l.scanner) l.passed r s → AreListed p q extents s
   listed_over l q r s extents is h on = over l.passed q r s extents is.passed h
       (subst (λ x. PassesOver x l.passed r s) is.scanner on)
 
   -- where the run ends, these are all
-  pub all_listed : (l : Lexer) (text : List ℕ) (extents : List Extent) (r : Place) (e : End) → IsLexerOf p l
-      → AreListed p (start_of text) extents r → EndsFast true (scanner_of l.scanner) r e → AreExtents p text extents
+  pub all_listed : (l : Lexer) (text : List ℕ) (extents : List Span) (r : Place) (e : End) → IsLexerOf p l
+      → AreListed p (start_of text) extents r → EndIsDecided true (scanner_of l.scanner) r e → AreExtents p text extents
   all_listed l text extents r e is h ends = record {
     tokens = h.tokens;
     end = e;

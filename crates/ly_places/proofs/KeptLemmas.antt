@@ -11,7 +11,7 @@ use Rattle.ly_base.specs.Shape as shape
 use Rattle.ly_base.specs.Shape.{Shape, nil, place}
 use Rattle.ly_base.specs.Trees.{Tree, Trees, leaf, more, node, none, yield_of, yields_of}
 use Rattle.ly_pack.specs.Machine.{TableRule, IsShapeFor}
-use Rattle.ly_extents.specs.Extents.{extent_of}
+use Rattle.ly_spans.specs.Spans.{span_of}
 use Rattle.ly_places.proofs.SpanLemmas.{or_end, or_start}
 use Rattle.ly_places.specs.Derived.{IsDerived, IsShaped}
 use Rattle.ly_places.specs.Placed as placed
@@ -23,7 +23,7 @@ use Rattle.ly_places.specs.Private.Measured.{measure_of, measures_of, tokens_amo
 use Rattle.ly_places.specs.Private.Waiting.{last_end}
 use Rattle.ly_places.specs.Shapes.{count_of, keeping, keeping_rule, places_behind, shape_of_rule, AllFit, Fits}
 use Rattle.ly_places.specs.Shapes.{FitsRule}
-use Rattle.ly_extents.specs.declared.extent.Extent.{Extent}
+use Rattle.ly_spans.specs.declared.span.Span.{Span}
 use Rattle.ly_tree.proofs.StandLemmas.{stands_known, stands_unwrapped}
 use Rattle.ly_tree.specs.Forest.{term_of, Grown}
 use Rattle.ly_tree.specs.Private.Printing.{term_at}
@@ -32,30 +32,30 @@ use Rattle.ly_tree.specs.Term.{Term, Terms, at_place, at_places, build, builds}
 use Rattle.ly_tree.specs.declared.forest.TermRef.{TermRef}
 
 -- the extent of some tokens is that of those before and those behind
-joined_twice : (e : Extent) (a b : Option Extent) → joined (Some e) (joined a b) ≡ joined (joined (Some e) a) b
+joined_twice : (e : Span) (a b : Option Span) → joined (Some e) (joined a b) ≡ joined (joined (Some e) a) b
 joined_twice e None b = refl
 joined_twice e (Some a) None = refl
 joined_twice e (Some a) (Some b) = refl
 
-joined-append : (xs ys : List Extent) → all_joined (xs ++ ys) ≡ joined (all_joined xs) (all_joined ys)
+joined-append : (xs ys : List Span) → all_joined (xs ++ ys) ≡ joined (all_joined xs) (all_joined ys)
 joined-append [] ys = refl
 joined-append (x ∷ xs) ys = ap (joined (Some x)) (joined-append xs ys) ∙ joined_twice x (all_joined xs) (all_joined ys)
 
 mutual
   -- the tokens of a tree stand where it does
-  pub joined_is : (d : Tree) → all_joined (map extent_of (yield_of d)) ≡ tokens_extent d
+  pub joined_is : (d : Tree) → all_joined (map span_of (yield_of d)) ≡ tokens_extent d
   joined_is (leaf t) = refl
   joined_is (node p ts) = all_joined_is ts
 
-  pub all_joined_is : (ts : Trees) → all_joined (map extent_of (yields_of ts)) ≡ tokens_extents ts
+  pub all_joined_is : (ts : Trees) → all_joined (map span_of (yields_of ts)) ≡ tokens_extents ts
   all_joined_is none = refl
   all_joined_is (more t ts) =
-      ap all_joined (map-append extent_of (yield_of t) (yields_of ts))
-      ∙ (joined-append (map extent_of (yield_of t)) (map extent_of (yields_of ts))
+      ap all_joined (map-append span_of (yield_of t) (yields_of ts))
+      ∙ (joined-append (map span_of (yield_of t)) (map span_of (yields_of ts))
       ∙ λ i. joined (joined_is t i) (all_joined_is ts i))
 
 -- where the first tokens stand, of which there are as many as that
-first_are : (last n : ℕ) (xs es : List Extent) (o : Option Extent) → n ≡ length xs → all_joined xs ≡ o
+first_are : (last n : ℕ) (xs es : List Span) (o : Option Span) → n ≡ length xs → all_joined xs ≡ o
     → first_extent last n (xs ++ es) ≡ extent_or last o
 first_are last n xs es o count is =
     ap (λ ys. extent_or last (all_joined ys)) (take_at xs es n (sym count)) ∙ ap (extent_or last) is
@@ -86,7 +86,7 @@ counts sh none = refl
 counts sh (more t ts) = ap suc (counts sh ts)
 
 -- a placed term, whose tokens say where it begins
-again : (sh : ℕ → Shape) (p last : ℕ) (o : Option Extent) (ts : Trees)
+again : (sh : ℕ → Shape) (p last : ℕ) (o : Option Span) (ts : Trees)
     → made p (sh p) (extent_or last o) (placed_all sh (start_or last o) ts)
     ≡ made p (sh p) (extent_or (start_or last o) o) (placed_all sh (start_or (start_or last o) o) ts)
 again sh p last None ts = refl
@@ -97,7 +97,7 @@ begins : (sh : ℕ → Shape) (last : ℕ) (d : Tree)
 begins sh last (leaf t) = refl
 begins sh last (node p ts) = again sh p last (tokens_extents ts) ts
 
-joined-none : (o : Option Extent) → joined o None ≡ o
+joined-none : (o : Option Span) → joined o None ≡ o
 joined-none None = refl
 joined-none (Some e) = refl
 
@@ -105,14 +105,14 @@ joined-none (Some e) = refl
 pub record IsKept (sh keep : ℕ → Shape) (d : Tree) : Type 0 where
   pub tokens : (measure_of sh (build keep d)).tokens ≡ length (yield_of d)
   pub whole : IsWhole sh (build keep d)
-  pub placed : (last : ℕ) (es : List Extent)
-      → placed_term sh last (map extent_of (yield_of d) ++ es) (build keep d) ≡ placed.placed sh last d
+  pub placed : (last : ℕ) (es : List Span)
+      → placed_term sh last (map span_of (yield_of d) ++ es) (build keep d) ≡ placed.placed sh last d
 
 record AreKept (sh keep : ℕ → Shape) (ts : Trees) : Type 0 where
   tokens : tokens_among (measures_of sh (builds keep ts)) ≡ length (yields_of ts)
   whole : AreWhole sh (builds keep ts)
-  placed : (last : ℕ) (es : List Extent)
-      → placed_terms sh last (map extent_of (yields_of ts) ++ es) (builds keep ts) ≡ placed_all sh last ts
+  placed : (last : ℕ) (es : List Span)
+      → placed_terms sh last (map span_of (yields_of ts) ++ es) (builds keep ts) ≡ placed_all sh last ts
 
 -- a node that has its whole body
 whole_kept : (sh keep : ℕ → Shape) (p n : ℕ) (ts : Trees) → AreKept sh keep ts → IsShapeFor n (sh p) → count_of ts ≡ n
@@ -125,11 +125,11 @@ whole_kept sh keep p n ts kids fits count is =
       whole = subst (IsWhole sh) (sym built)
           (subst (λ k. IsShapeFor k (sh p)) (sym (counts keep ts ∙ count)) fits, kids.whole);
       placed = λ last es.
-          let xs = map extent_of (yields_of ts) in
+          let xs = map span_of (yields_of ts) in
           let here : first_extent last (measure_of sh (term.built p us)).tokens (xs ++ es)
           ≡ extent_or last (tokens_extents ts)
           = first_are last _ xs es (tokens_extents ts)
-          (kids.tokens ∙ sym (length-map (yields_of ts) extent_of)) (all_joined_is ts) in
+          (kids.tokens ∙ sym (length-map (yields_of ts) span_of)) (all_joined_is ts) in
           ap (placed_term sh last (xs ++ es)) built
           ∙ (ap (λ e. made p (sh p) e (placed_terms sh e.start (xs ++ es) us)) here
           ∙ (ap (λ s. made p (sh p) (extent_or last (tokens_extents ts)) (placed_terms sh s (xs ++ es) us))
@@ -149,7 +149,7 @@ passed_kept sh keep p t kid is kept =
       whole = subst (IsWhole sh) (sym built) kid.whole;
       placed = λ last es.
           let o = joined (tokens_extent t) None in
-          (λ i. placed_term sh last (map extent_of (alone i) ++ es) (built i))
+          (λ i. placed_term sh last (map span_of (alone i) ++ es) (built i))
           ∙ (kid.placed last es
           ∙ (begins sh last t
           ∙ (ap (λ e. placed.placed sh (start_or last e) t) (sym (joined-none (tokens_extent t)))
@@ -213,15 +213,15 @@ module _ (rules : List TableRule) (shaped : All IsShaped rules) where
     all_kept (more t ts) fits =
         let one = kept t fits.0 in
         let others = all_kept ts fits.1 in
-        let xs = map extent_of (yield_of t) in
-        let ys = map extent_of (yields_of ts) in
+        let xs = map span_of (yield_of t) in
+        let ys = map span_of (yields_of ts) in
         let n = (measure_of sh (build keep t)).tokens in
-        let count : length xs ≡ n = length-map (yield_of t) extent_of ∙ sym one.tokens in record {
+        let count : length xs ≡ n = length-map (yield_of t) span_of ∙ sym one.tokens in record {
           tokens = omega (arith, one.tokens, others.tokens, length-append (yield_of t) (yields_of ts));
           whole = (one.whole, others.whole);
           placed = λ last es.
-              let all : map extent_of (yield_of t ++ yields_of ts) ++ es ≡ xs ++ (ys ++ es)
-              = ap (λ zs. zs ++ es) (map-append extent_of (yield_of t) (yields_of ts)) ∙ append_assoc xs ys es in
+              let all : map span_of (yield_of t ++ yields_of ts) ++ es ≡ xs ++ (ys ++ es)
+              = ap (λ zs. zs ++ es) (map-append span_of (yield_of t) (yields_of ts)) ∙ append_assoc xs ys es in
               let next : (first_extent last n (xs ++ (ys ++ es))).end ≡ end_or last (tokens_extent t)
               = ap (λ e. e.end) (first_are last n xs (ys ++ es) (tokens_extent t) (sym count) (joined_is t))
               ∙ or_end last (tokens_extent t) in
@@ -232,13 +232,13 @@ module _ (rules : List TableRule) (shaped : All IsShaped rules) where
         }
 
 -- where the tokens before a tree end
-ends_behind : (ts : List (Token ℕ)) → last_end (map extent_of ts) ≡ end_behind ts
+ends_behind : (ts : List (Token ℕ)) → last_end (map span_of ts) ≡ end_behind ts
 ends_behind [] = refl
 ends_behind (t ∷ []) = refl
 ends_behind (t ∷ u ∷ ts) = ends_behind (u ∷ ts)
 
 -- what is known of the root of a derivation
-pub record IsRoot (f : Grown) (root : TermRef) (tokens : List Extent) (sh : ℕ → Shape) (before : List (Token ℕ))
+pub record IsRoot (f : Grown) (root : TermRef) (tokens : List Span) (sh : ℕ → Shape) (before : List (Token ℕ))
     (d : Tree) : Type 0 where
   pub known : IsSome (term_of f root)
   pub whole : IsWhole sh (term_at f root)
@@ -247,7 +247,7 @@ pub record IsRoot (f : Grown) (root : TermRef) (tokens : List Extent) (sh : ℕ 
       → placed_term sh (last_end (take first tokens)) (drop first tokens) (term_at f root)
       ≡ placed.placed sh (end_behind before) d
 
-pub derived_root : (f : Grown) (root : TermRef) (tokens : List Extent) (rules : List TableRule)
+pub derived_root : (f : Grown) (root : TermRef) (tokens : List Span) (rules : List TableRule)
     (before : List (Token ℕ)) (d : Tree) → All IsShaped rules → IsDerived f root tokens rules before d
     → IsRoot f root tokens (shape_of_rule rules) before d
 derived_root f root tokens rules before d shaped h =
@@ -256,23 +256,23 @@ derived_root f root tokens rules before d shaped h =
     let good = kept rules shaped d h.fits in
     let t = build keep d in
     let is : term_at f root ≡ t = stands_unwrapped f root t h.stands in
-    let xs = map extent_of before in
-    let ys = map extent_of (yield_of d) in
-    let all : xs ++ ys ≡ tokens = sym (map-append extent_of before (yield_of d)) ∙ h.extents in
+    let xs = map span_of before in
+    let ys = map span_of (yield_of d) in
+    let all : xs ++ ys ≡ tokens = sym (map-append span_of before (yield_of d)) ∙ h.extents in
     let within : length before + (measure_of sh (term_at f root)).tokens ≡ length tokens
     = omega (
       arith,
       ap (λ u. (measure_of sh u).tokens) is,
       good.tokens,
       ap length h.extents,
-      length-map (before ++ yield_of d) extent_of,
+      length-map (before ++ yield_of d) span_of,
       length-append before (yield_of d),
     ) in record {
       known = stands_known f root t h.stands;
       whole = subst (IsWhole sh) (sym is) good.whole;
       within = within;
       placed = λ first count.
-          let front : length xs ≡ first = omega (arith, length-map before extent_of) in
+          let front : length xs ≡ first = omega (arith, length-map before span_of) in
           let behind : drop first tokens ≡ ys ++ []
           = ap (drop first) (sym all) ∙ (drop_at xs ys first front ∙ sym (append-nil ys)) in
           let end : last_end (take first tokens) ≡ end_behind before

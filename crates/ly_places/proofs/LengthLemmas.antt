@@ -8,12 +8,12 @@ use Rattle.std.proofs.lemmas.List.Sums.{count_by-le-length, sum_by-cons}
 use Rattle.std.specs.Fmt.{decimal}
 use Rattle.std.specs.Prelude.{All, codes, sum_by}
 use Rattle.ly_base.specs.Location.{column_behind, is_newline, line_behind}
-use Rattle.ly_extents.proofs.LineStartsLemmas.{column_within}
+use Rattle.ly_spans.proofs.LineStartsLemmas.{column_within}
 use Rattle.ly_feed.specs.NameMembers.{node_member, token_member}
-use Rattle.ly_extents.specs.Extents.{bytes_at, json_extent, json_location, IsWithin}
+use Rattle.ly_spans.specs.Spans.{bytes_at, json_span, json_location, IsWithin}
 use Rattle.ly_places.specs.Private.Printing.{begun, behind_opening, closing, has_others, most_of, open_behind, opening}
 use Rattle.ly_places.specs.Private.Printing.{parts_text, still_open, AreSound}
-use Rattle.ly_extents.specs.declared.extent.Extent.{Extent}
+use Rattle.ly_spans.specs.declared.span.Span.{Span}
 use Rattle.ly_places.specs.declared.part.Part.{Part}
 use Rattle.ly_places.specs.declared.part.PartKind.{PartKind}
 use Rattle.ly_places.specs.declared.part.PartKind.TheVariants.{Node, Nothing, Token}
@@ -72,7 +72,7 @@ module _ (v : Vocabulary) (text : List ℕ) (longest : ℕ) (fits : length text 
         length-append column (codes "]"),
       )
 
-  extent_len : (e : Extent) → IsWithin (length text) e → length (json_extent text e) ≤ 144
+  extent_len : (e : Span) → IsWithin (length text) e → length (json_span text e) ≤ 144
   extent_len e within =
       omega (
         arith,
@@ -81,7 +81,7 @@ module _ (v : Vocabulary) (text : List ℕ) (longest : ℕ) (fits : length text 
         length-append (json_location text e.start) (codes ",\"end\":" ++ json_location text e.end),
       )
 
-  content_len : (e : Extent) → length (json_content (bytes_at text e)) ≤ 6 * (e.end - e.start) + 10
+  content_len : (e : Span) → length (json_content (bytes_at text e)) ≤ 6 * (e.end - e.start) + 10
   content_len e =
       omega (
         arith,
@@ -91,7 +91,7 @@ module _ (v : Vocabulary) (text : List ℕ) (longest : ℕ) (fits : length text 
       )
 
   -- a part up to its children, its end and a comma
-  begun_len : (kind : PartKind) (e : Extent) (parts left : ℕ) (ns : List ℕ) → IsWithin (length text) e
+  begun_len : (kind : PartKind) (e : Span) (parts left : ℕ) (ns : List ℕ) → IsWithin (length text) e
       → length (opening v text kind e) + 2 * length (begun kind parts left ns) + 1
       ≤ longest + 162 + 6 * (e.end - e.start) + 2 * length ns
   begun_len Nothing e parts left ns within = omega arith
@@ -102,8 +102,8 @@ module _ (v : Vocabulary) (text : List ℕ) (longest : ℕ) (fits : length text 
         leaves t.0,
         extent_len e within,
         content_len e,
-        length-append (json_name (v.terminal t.0)) (json_extent text e ++ (codes "," ++ (content ++ codes "}"))),
-        length-append (json_extent text e) (codes "," ++ (content ++ codes "}")),
+        length-append (json_name (v.terminal t.0)) (json_span text e ++ (codes "," ++ (content ++ codes "}"))),
+        length-append (json_span text e) (codes "," ++ (content ++ codes "}")),
         length-append content (codes "}"),
       )
   begun_len (Node p) e parts left ns within =
@@ -111,8 +111,8 @@ module _ (v : Vocabulary) (text : List ℕ) (longest : ℕ) (fits : length text 
         arith,
         nodes p.0,
         extent_len e within,
-        length-append (json_name (v.constructor p.0)) (json_extent text e ++ codes ",\"children\":["),
-        length-append (json_extent text e) (codes ",\"children\":["),
+        length-append (json_name (v.constructor p.0)) (json_span text e ++ codes ",\"children\":["),
+        length-append (json_span text e) (codes ",\"children\":["),
       )
 
   -- all of them, and the nodes around them

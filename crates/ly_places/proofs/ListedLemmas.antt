@@ -18,7 +18,7 @@ use Rattle.ly_places.specs.Private.Kept.{first_extent, placed_term, placed_terms
 use Rattle.ly_places.specs.Private.Measured.{measure_of, tokens_among}
 use Rattle.ly_places.specs.Private.Waiting.{body_from, kind_of, listed, placed_at, visits, visits_left}
 use Rattle.ly_places.specs.Private.Waiting.{last_end, visits_made, waiting_at, IsListed, IsOpened, IsReady}
-use Rattle.ly_extents.specs.declared.extent.Extent.{Extent}
+use Rattle.ly_spans.specs.declared.span.Span.{Span}
 use Rattle.ly_places.specs.declared.flattening.Listing.{Listing}
 use Rattle.ly_places.specs.declared.flattening.Waiting.{Waiting}
 use Rattle.ly_places.specs.declared.measure.Measure.{Measure}
@@ -36,7 +36,7 @@ use Rattle.ly_tree.specs.declared.forest.TermRef.{TermRef}
 use Rattle.ly_tree.specs.declared.forest.TermRef.TheVariants as ref
 use Rattle.ly_tree.specs.declared.look.Look.{Look}
 use Rattle.ly_tree.specs.declared.look.Look.TheVariants.{Leaf, Node, Nothing}
-use Rattle.ly_tree.specs.declared.span.Span.{Span}
+use Rattle.ly_tree.specs.declared.node_span.NodeSpan.{NodeSpan}
 
 -- a term that is there is seen
 pub term_seen : (f : Grown) (r : TermRef) (look : Look) → IsSome (term_of f r)
@@ -69,13 +69,13 @@ children_stand_all f rs start (suc count) h within =
     ))
 
 -- what is known of a node that is seen
-pub record IsNode (shape : ℕ → Shape) (f : Grown) (ms : List Measure) (s : Span) (t : Term) : Type 0 where
+pub record IsNode (shape : ℕ → Shape) (f : Grown) (ms : List Measure) (s : NodeSpan) (t : Term) : Type 0 where
   pub is : t ≡ built s.rule.0 (all_of (take s.count (drop s.start f.children)))
   pub within : s.start + s.count ≤ length f.children
   pub measured : s.start + s.count ≤ length ms
   pub tokens : tokens_among (take s.count (drop s.start ms)) ≡ (measure_of shape t).tokens
 
-pub node_seen : (shape : ℕ → Shape) (f : Grown) (ms : List Measure) (s : Span) (t : Term)
+pub node_seen : (shape : ℕ → Shape) (f : Grown) (ms : List Measure) (s : NodeSpan) (t : Term)
     → IsSeen f.children (Node s) (Some t) → ms ≡ map (measure_of shape) f.children → IsNode shape f ms s t
 node_seen shape f ms s t seen measured =
     let mine = take s.count (drop s.start f.children) in
@@ -88,7 +88,7 @@ node_seen shape f ms s t seen measured =
           ∙ ap (λ u. (measure_of shape u).tokens) (sym is);
     }
 
-pub node_shaped : (shape : ℕ → Shape) (f : Grown) (ms : List Measure) (s : Span) (t : Term) → IsNode shape f ms s t
+pub node_shaped : (shape : ℕ → Shape) (f : Grown) (ms : List Measure) (s : NodeSpan) (t : Term) → IsNode shape f ms s t
     → IsWhole shape t → IsShapeFor s.count (shape s.rule.0)
 node_shaped shape f ms s t seen whole =
     let mine = take s.count (drop s.start f.children) in
@@ -98,14 +98,14 @@ node_shaped shape f ms s t seen whole =
     subst (λ n. IsShapeFor n (shape s.rule.0)) count (subst (IsWhole shape) seen.is whole).0
 
 -- the part of a node
-abbrev pub node_part : ℕ → Extent → ℕ → Part
+abbrev pub node_part : ℕ → Span → ℕ → Part
 node_part rule e n = record { kind = kind.Node (record { 0 = rule }); extent = e; parts = n }
 
 -- the part with another kind
 abbrev of_kind : PartKind → Part → Part
 of_kind k p = record p { kind = k }
 
-module _ (shape : ℕ → Shape) (tokens : List Extent) (f : Grown) where
+module _ (shape : ℕ → Shape) (tokens : List Span) (f : Grown) where
   -- parts that are listed, and those that follow them at once
   parts_follow : (next : Waiting) (old new : Listing) (here behind : List Part)
       → new.parts.items ≡ old.parts.items ++ here
@@ -133,14 +133,14 @@ module _ (shape : ℕ → Shape) (tokens : List Extent) (f : Grown) where
   }
 
   -- what is known of a node that is taken
-  pub record IsTaken (next : Waiting) (rule : ℕ) (sh : Shape) (e : Extent) (p : Part) (b : List Waiting) : Type 0 where
+  pub record IsTaken (next : Waiting) (rule : ℕ) (sh : Shape) (e : Span) (p : Part) (b : List Waiting) : Type 0 where
     pub part : p ≡ node_part rule e (length (parts_of (placed_at shape tokens f next)))
     pub placed : placed_at shape tokens f next ≡ made rule sh e (in_a_row (map (placed_at shape tokens f) b))
     pub visits : visits shape (term_at f next.term) ≡ 1 + visits_made sh (map (λ w. visits shape (term_at f w.term)) b)
     pub fits : IsShapeFor (length b) sh
     pub ready : All (IsReady shape tokens f) b
 
-  pub node_listed : (next : Waiting) (rule : ℕ) (sh : Shape) (e : Extent) (p : Part) (b : List Waiting)
+  pub node_listed : (next : Waiting) (rule : ℕ) (sh : Shape) (e : Span) (p : Part) (b : List Waiting)
       (old new : Listing) → IsTaken next rule sh e p b → All (IsReady shape tokens f) old.waiting.items
       → IsOpened sh p b old new → IsListed shape tokens f next old new
   node_listed next rule nil e p b old new h ready opened =
@@ -194,7 +194,7 @@ module _ (shape : ℕ → Shape) (tokens : List Extent) (f : Grown) where
           (All-head (IsReady shape tokens f) w ws h))
 
   -- a node is taken
-  pub node_taken : (next : Waiting) (rs : List TermRef) (ms : List Measure) (s : Span) (p : Part)
+  pub node_taken : (next : Waiting) (rs : List TermRef) (ms : List Measure) (s : NodeSpan) (p : Part)
       → IsNode shape f ms s (term_at f next.term) → AreChildren f rs → ms ≡ map (measure_of shape) f.children
       → IsReady shape tokens f next → p.kind ≡ kind.Node s.rule
       → p.extent ≡ first_extent next.last (measure_of shape (term_at f next.term)).tokens (drop next.first tokens)
@@ -255,7 +255,7 @@ module _ (shape : ℕ → Shape) (tokens : List Extent) (f : Grown) where
 
   -- a term without children is taken
   pub plain_taken : (next : Waiting) (look : Look) (p : Part)
-      → IsSeen f.children look (Some (term_at f next.term)) → ((s : Span) → look ≡ Node s → ⊥)
+      → IsSeen f.children look (Some (term_at f next.term)) → ((s : NodeSpan) → look ≡ Node s → ⊥)
       → p.kind ≡ kind_of look
       → p.extent ≡ first_extent next.last (measure_of shape (term_at f next.term)).tokens (drop next.first tokens)
       → p.parts ≡ (measure_of shape (term_at f next.term)).parts

@@ -18,7 +18,7 @@ use Rattle.ly_tree.specs.Term.{Term, built, nothing}
 use Rattle.ly_tree.specs.declared.forest.TermRef.{TermRef}
 use Rattle.ly_tree.specs.declared.look.Look.{Look}
 use Rattle.ly_tree.specs.declared.look.Look.TheVariants.{Leaf, Node, Nothing}
-use Rattle.ly_tree.specs.declared.span.Span.{Span}
+use Rattle.ly_tree.specs.declared.node_span.NodeSpan.{NodeSpan}
 use Rattle.ly_tree.proofs.PieceLemmas.{mapped_some, piece_inside, piece_is}
 
 -- there is no place 0
@@ -79,14 +79,14 @@ seen_within (Node s) children t h =
     piece_inside s.start s.count children (mapped_some (λ ts. built s.rule.0 (all_of ts)) _ (sym (ap is_some h)))
 
 -- the term of a node that is seen
-pub seen_node : (s : Span) (children : List Term) (t : Term) → Some t ≡ node_over children s.count s.rule.0 s.start
+pub seen_node : (s : NodeSpan) (children : List Term) (t : Term) → Some t ≡ node_over children s.count s.rule.0 s.start
     → t ≡ built s.rule.0 (all_of (take s.count (drop s.start children)))
 seen_node s children t h =
     let within = seen_within (Node s) children t h in
     cc (h, ap (option_map (λ ts. built s.rule.0 (all_of ts))) (piece_is s.start s.count children within))
 
 -- the measures of a node's children
-pub body_measured : (shape : ℕ → Shape) (s : Span) (children : List Term) (ms : List Measure)
+pub body_measured : (shape : ℕ → Shape) (s : NodeSpan) (children : List Term) (ms : List Measure)
     → ms ≡ map (measure_of shape) children
     → take s.count (drop s.start ms) ≡ map (measure_of shape) (take s.count (drop s.start children))
 body_measured shape s children ms measured =
@@ -95,7 +95,7 @@ body_measured shape s children ms measured =
     ∙ take-map (measure_of shape) s.count (drop s.start children))
 
 -- the measure of a node, by those of its children
-pub node_measured : (shape : ℕ → Shape) (s : Span) (children : List Term) (t : Term) (ms body : List Measure)
+pub node_measured : (shape : ℕ → Shape) (s : NodeSpan) (children : List Term) (t : Term) (ms body : List Measure)
     (m : Measure) → Some t ≡ node_over children s.count s.rule.0 s.start → ms ≡ map (measure_of shape) children
     → body ≡ take s.count (drop s.start ms) → m.tokens ≡ tokens_among body
     → m.parts ≡ parts_made (shape s.rule.0) body → m ≡ measure_of shape t

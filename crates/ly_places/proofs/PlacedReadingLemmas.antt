@@ -5,7 +5,7 @@ use Rattle.std.proofs.lemmas.List.{append_cancel_left}
 use Rattle.std.specs.Fmt.{decimal}
 use Rattle.std.specs.Prelude.{codes}
 use Rattle.std.specs.Str.{is_utf8}
-use Rattle.ly_extents.specs.Extents.{json_extent}
+use Rattle.ly_spans.specs.Spans.{json_span}
 use Rattle.ly_places.specs.Placed as placed
 use Rattle.ly_places.specs.Placed.{PlacedTerms}
 use Rattle.ly_places.specs.PlacedJson.{placed_jsons}
@@ -141,7 +141,7 @@ mutual
   of_names v text (placed.nothing e) = refl
   of_names v text (placed.leaf t e) = refl
   of_names v text (placed.built p e ts) = ap (λ children. codes "{\"node\":" ++ (json_name (v.constructor p)
-      ++ (json_extent text e ++ (codes ",\"children\":[" ++ (children ++ codes "]}"))))) (all_of_names v text ts)
+      ++ (json_span text e ++ (codes ",\"children\":[" ++ (children ++ codes "]}"))))) (all_of_names v text ts)
 
   all_of_names : (v : Vocabulary) (text : List ℕ) (ts : PlacedTerms)
       → placed_jsons v text ts ≡ jsons_named (all_named v text ts)

@@ -5,16 +5,16 @@ use Rattle.ly_base.specs.Bytes.{newline}
 use Rattle.ly_base.specs.Lexed.{Token}
 use Rattle.ly_base.specs.Trees.{Tree}
 use Rattle.ly_base.specs.declared.lexeme.End.TheVariants.{Clean}
-use Rattle.ly_extents.specs.Extents.{extent_of}
-use Rattle.ly_extents.specs.declared.extent.Extent.{Extent}
-use Rattle.ly_feed.specs.Flaw.{token_of, verdict_of}
+use Rattle.ly_spans.specs.Spans.{span_of}
+use Rattle.ly_spans.specs.declared.span.Span.{Span}
+use Rattle.ly_feed.specs.SyntaxError.{token_of, verdict_of}
 use Rattle.ly_feed.specs.NameMembers.{names_in, vocabulary_in, Named}
 use Rattle.ly_feed.specs.ScanPart.{scan_part_of}
 use Rattle.ly_feed.specs.TableAnswer.{IsVerdict}
 use Rattle.ly_feed.specs.Verdict.{IsOutcome, Verdict}
 use Rattle.ly_feed.specs.Vocabularies.{vocabulary_of}
-use Rattle.ly_feed.specs.declared.flaw.Flaw.{Flaw}
-use Rattle.ly_feed.specs.declared.flaw.Flaw.TheVariants.{NoRule, Refused}
+use Rattle.ly_feed.specs.declared.syntax_error.SyntaxError.{SyntaxError}
+use Rattle.ly_feed.specs.declared.syntax_error.SyntaxError.TheVariants.{NoRule, Refused}
 use Rattle.ly_feed.specs.declared.outcome.Outcome.{Outcome}
 use Rattle.ly_feed.specs.declared.outcome.Outcome.TheVariants as outcome
 use Rattle.ly_feed.specs.declared.outcome.Outcome.TheVariants.{Syntax, Tree as AsTree}
@@ -39,40 +39,40 @@ use Rattle.ly_tree.specs.Forest.{Grown}
 use Rattle.ly_tree.specs.declared.forest.TermRef.{TermRef}
 
 -- the line of what is wrong with a text
-pub flaw_told : {A E : Type 0} (r : Result A E) (items : A → List ℕ) (s : TableSet) (text : List ℕ)
+pub syntax_error_told : {A E : Type 0} (r : Result A E) (items : A → List ℕ) (s : TableSet) (text : List ℕ)
     (v : PlacedVerdict) (w : Verdict) → IsPlacedVerdict s text v → answer.verdict_of text v ≡ w
     → IfOk r (λ a. items a ≡ placed_line (vocabulary_of s) text v)
     → IfOk r (λ a. (x : PlacedVerdict) × IsPlacedVerdict s text x × (answer.verdict_of text x ≡ w)
     × (items a ≡ placed_line (vocabulary_of s) text x))
-flaw_told (Ok a) items s text v w is same told = (v, is, same, told)
-flaw_told (Err e) items s text v w is same told = tt
+syntax_error_told (Ok a) items s text v w is same told = (v, is, same, told)
+syntax_error_told (Err e) items s text v w is same told = tt
 
 -- an outcome says what is wrong
-pub some_outcome : (flaw : Flaw) → (o : Outcome) × IsOutcome (verdict_of flaw) o
+pub some_outcome : (syntax_error : SyntaxError) → (o : Outcome) × IsOutcome (verdict_of syntax_error) o
 some_outcome (Refused number token expected) =
     (Syntax number token.at (length token.text) expected, (refl, refl, refl, refl))
 some_outcome (NoRule byte) = (outcome.NoRule byte, refl)
 
 -- what is wrong with a text is said with places too
-pub placed_flaw : (s : TableSet) (text : List ℕ) (flaw : Flaw) → IsVerdict s text (verdict_of flaw)
-    → (v : PlacedVerdict) × IsPlacedVerdict s text v × (answer.verdict_of text v ≡ verdict_of flaw)
-placed_flaw s text (Refused number token expected) is =
+pub placed_syntax_error : (s : TableSet) (text : List ℕ) (syntax_error : SyntaxError) → IsVerdict s text (verdict_of syntax_error)
+    → (v : PlacedVerdict) × IsPlacedVerdict s text v × (answer.verdict_of text v ≡ verdict_of syntax_error)
+placed_syntax_error s text (Refused number token expected) is =
     (answer.refused number (token_of token) (map (λ s. s.0) expected.items), is, refl)
-placed_flaw s text (NoRule byte) is = (answer.unmatched byte, is, refl)
+placed_syntax_error s text (NoRule byte) is = (answer.unmatched byte, is, refl)
 
 -- and without them
-pub plain_flaw : (s : TableSet) (text : List ℕ) (v : PlacedVerdict) (flaw : Flaw) → IsPlacedVerdict s text v
-    → answer.verdict_of text v ≡ verdict_of flaw → IsVerdict s text (verdict_of flaw)
-plain_flaw s text (accepted t) (Refused number token expected) is same = absurd cc
-plain_flaw s text (accepted t) (NoRule byte) is same = absurd cc
-plain_flaw s text (answer.refused k t ts) flaw is same = subst (IsVerdict s text) same is
-plain_flaw s text (answer.unmatched byte) flaw is same = subst (IsVerdict s text) same is
-plain_flaw s text answer.faulty (Refused number token expected) is same = absurd cc
-plain_flaw s text answer.faulty (NoRule byte) is same = absurd cc
+pub plain_syntax_error : (s : TableSet) (text : List ℕ) (v : PlacedVerdict) (syntax_error : SyntaxError) → IsPlacedVerdict s text v
+    → answer.verdict_of text v ≡ verdict_of syntax_error → IsVerdict s text (verdict_of syntax_error)
+plain_syntax_error s text (accepted t) (Refused number token expected) is same = absurd cc
+plain_syntax_error s text (accepted t) (NoRule byte) is same = absurd cc
+plain_syntax_error s text (answer.refused k t ts) syntax_error is same = subst (IsVerdict s text) same is
+plain_syntax_error s text (answer.unmatched byte) syntax_error is same = subst (IsVerdict s text) same is
+plain_syntax_error s text answer.faulty (Refused number token expected) is same = absurd cc
+plain_syntax_error s text answer.faulty (NoRule byte) is same = absurd cc
 
 -- the parts of derivations, by tokens and rules that are said to be these
 pub parts_made : {A E : Type 0} (r : Result A E) (items : A → List Part) (f : Grown) (root : TermRef)
-    (given tokens : List Extent) (listed rules : List TableRule) → given ≡ tokens → listed ≡ rules
+    (given tokens : List Span) (listed rules : List TableRule) → given ≡ tokens → listed ≡ rules
     → IfOk r (λ parts. (before : List (Token ℕ)) (d : Tree) → IsDerived f root given listed before d
     → items parts ≡ parts_of (placed (shape_of_rule listed) (end_behind before) d))
     → IfOk r (λ parts. (before : List (Token ℕ)) (d : Tree) → IsDerived f root tokens rules before d
@@ -93,7 +93,7 @@ module _ (s : TableSet) (text : List ℕ) (x : Derivation) (h : IsDerivationOf s
   is_derived = record {
     stands = h.root;
     fits = h.derived.fits;
-    extents = ap (map extent_of) (sym h.derived.yields) ∙ sym h.extents;
+    extents = ap (map span_of) (sym h.derived.yields) ∙ sym h.extents;
   }
 
   -- it is placed by the set
@@ -118,7 +118,7 @@ module _ (s : TableSet) (text : List ℕ) (tokens : List (Token ℕ)) (x : Deriv
   derived_over = record {
     stands = h.root;
     fits = h.fits;
-    extents = ap (map extent_of) (sym h.yields) ∙ sym h.extents;
+    extents = ap (map span_of) (sym h.yields) ∙ sym h.extents;
   }
 
   pub is_placed_over : IsPlacedOver s text tokens placed_over
@@ -126,12 +126,12 @@ module _ (s : TableSet) (text : List ℕ) (tokens : List (Token ℕ)) (x : Deriv
       = record { before = h.before; tree = h.tree; yields = h.yields; says = h.says; stands = refl }
 
 -- what is wrong with tokens is said with places too
-pub placed_token_flaw : (s : TableSet) (text : List ℕ) (tokens : List (Token ℕ)) (flaw : Flaw)
-    → IsTokenVerdict s text tokens (verdict_of flaw) → (v : PlacedVerdict) × IsPlacedTokenVerdict s text tokens v
-    × (answer.verdict_of text v ≡ verdict_of flaw)
-placed_token_flaw s text tokens (Refused number token expected) is =
+pub placed_token_syntax_error : (s : TableSet) (text : List ℕ) (tokens : List (Token ℕ)) (syntax_error : SyntaxError)
+    → IsTokenVerdict s text tokens (verdict_of syntax_error) → (v : PlacedVerdict) × IsPlacedTokenVerdict s text tokens v
+    × (answer.verdict_of text v ≡ verdict_of syntax_error)
+placed_token_syntax_error s text tokens (Refused number token expected) is =
     (answer.refused number (token_of token) (map (λ s. s.0) expected.items), is, refl)
-placed_token_flaw s text tokens (NoRule byte) is = absurd is
+placed_token_syntax_error s text tokens (NoRule byte) is = absurd is
 
 module _ (s : TableSet) (text : List ℕ) (t : Placed) (h : IsPlacedBy s text t) where
   -- a placed term stands in the text

@@ -3,14 +3,14 @@ use Rattle.std.proofs.Common.{◌≡◌, ◌∙◌, ◌<◌, ◌≤◌, ◌-◌,
 use Rattle.std.proofs.Common.{cond, nat_eq, nat_lt, sym, refl, subst, arith, append_assoc, append-nil, length-append}
 use Rattle.std.proofs.lemmas.Bool.Decides.{nat_tests}
 use Rattle.std.specs.Prelude.{codes}
-use Rattle.ly_extents.specs.Extents.{IsWithin}
+use Rattle.ly_spans.specs.Spans.{IsWithin}
 use Rattle.ly_places.specs.Parts.{all_parts, part, parts_of}
 use Rattle.ly_places.specs.Placed.{Placed, PlacedTerms, built, leaf, more, none, nothing}
 use Rattle.ly_places.specs.PlacedJson.{placed_json, placed_jsons}
 use Rattle.ly_places.specs.Private.Printing.{closing, opening}
 use Rattle.ly_places.specs.Private.Printing.{parts_text, still_open, AreSound}
 use Rattle.ly_places.specs.Within.{StandsWithin, AllStandWithin}
-use Rattle.ly_extents.specs.declared.extent.Extent.{Extent}
+use Rattle.ly_spans.specs.declared.span.Span.{Span}
 use Rattle.ly_places.specs.declared.part.Part.{Part}
 use Rattle.ly_places.specs.declared.part.PartKind.{PartKind}
 use Rattle.ly_places.specs.declared.part.PartKind.TheVariants.{Node, Nothing, Token}
@@ -59,7 +59,7 @@ module _ (v : Vocabulary) (text : List ℕ) where
       ≡ placed_jsons v text (more t ts) ++ (codes "]}" ++ behind_text nodes ps)
 
   -- a node begins
-  node_text : (p : ℕ) (e : Extent) (t : Placed) (ts : PlacedTerms) (nodes : List ℕ) (ps : List Part)
+  node_text : (p : ℕ) (e : Span) (t : Placed) (ts : PlacedTerms) (nodes : List ℕ) (ps : List Part)
       → AreTermsText (more t ts) nodes ps
       → parts_text v text nodes (parts_of (built p e (more t ts)) ++ ps)
       ≡ placed_json v text (built p e (more t ts)) ++ behind_text nodes ps
@@ -118,7 +118,7 @@ module _ (v : Vocabulary) (text : List ℕ) where
   parts_are_json t ps is = ap (parts_text v text []) (is ∙ sym (append-nil (parts_of t))) ∙ (term_text t [] []
       ∙ append-nil (placed_json v text t))
 
-sound_before : (count : ℕ) (kind : PartKind) (e : Extent) (n : ℕ) (ps : List Part) → IsWithin count e → 1 ≤ n
+sound_before : (count : ℕ) (kind : PartKind) (e : Span) (n : ℕ) (ps : List Part) → IsWithin count e → 1 ≤ n
     → n ≤ suc (length ps) → AreSound count ps → AreSound count (part kind e n ∷ ps)
 sound_before count kind e n ps within some left sound =
     (record { within = within; some = some; left_for_it = left }, sound)

@@ -5,10 +5,10 @@ use Rattle.std.proofs.lemmas.List.{get_or-drop, get_or-take, length-drop, length
 use Rattle.ly_places.specs.Placed.{end_or, extent_or, joined, start_or}
 use Rattle.ly_places.specs.Private.Kept.{all_joined, first_extent}
 use Rattle.ly_places.specs.Private.Waiting.{last_end}
-use Rattle.ly_extents.specs.declared.extent.Extent.{Extent}
+use Rattle.ly_spans.specs.declared.span.Span.{Span}
 
 -- from where the first of some tokens begins to where the last ends
-joined_ends : (es : List Extent) (n : ℕ) (d : Extent) → n + 1 ≡ length es
+joined_ends : (es : List Span) (n : ℕ) (d : Span) → n + 1 ≡ length es
     → all_joined es ≡ Some (record { start = (get_or es 0 d).start; end = (get_or es n d).end })
 joined_ends [] n d h = absurd (omega arith)
 joined_ends (e ∷ []) zero d h = refl
@@ -16,7 +16,7 @@ joined_ends (e ∷ []) (suc n) d h = absurd (omega arith)
 joined_ends (e ∷ f ∷ es) zero d h = absurd (omega arith)
 joined_ends (e ∷ f ∷ es) (suc n) d h = ap (joined (Some e)) (joined_ends (f ∷ es) n d (omega arith))
 
-pub extent_is : (tokens : List Extent) (first count last end : ℕ) (d : Extent) → 1 ≤ count
+pub extent_is : (tokens : List Span) (first count last end : ℕ) (d : Span) → 1 ≤ count
     → first + count ≤ length tokens → end + 1 ≡ first + count
     → record { start = (get_or tokens first d).start; end = (get_or tokens end d).end }
     ≡ first_extent last count (drop first tokens)
@@ -38,16 +38,16 @@ extent_is tokens first count last end d some within is =
     ∙ λ i. record { start = (low i).start; end = (high i).end })
 
 -- an extent begins where its parts may, and ends where those behind may
-pub or_start : (last : ℕ) (e : Option Extent) → (extent_or last e).start ≡ start_or last e
+pub or_start : (last : ℕ) (e : Option Span) → (extent_or last e).start ≡ start_or last e
 or_start last None = refl
 or_start last (Some e) = refl
 
-pub or_end : (last : ℕ) (e : Option Extent) → (extent_or last e).end ≡ end_or last e
+pub or_end : (last : ℕ) (e : Option Span) → (extent_or last e).end ≡ end_or last e
 or_end last None = refl
 or_end last (Some e) = refl
 
 -- the last token's end
-pub last_end_is : (es : List Extent) (e : Extent) → 0 < length es → e ≡ get_or es (length es - 1) e
+pub last_end_is : (es : List Span) (e : Span) → 0 < length es → e ≡ get_or es (length es - 1) e
     → e.end ≡ last_end es
 last_end_is [] e h is = absurd (omega arith)
 last_end_is (a ∷ []) e h is = ap (λ x. x.end) is

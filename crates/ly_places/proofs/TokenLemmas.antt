@@ -9,15 +9,15 @@ use Rattle.std.proofs.lemmas.List.Elements.{All-tail}
 use Rattle.ly_base.specs.Lexed.{Token, start_of}
 use Rattle.ly_base.specs.declared.lexeme.End.{End}
 use Rattle.ly_base.specs.declared.lexeme.End.TheVariants.{BadCut, Clean, Stuck}
-use Rattle.ly_extents.specs.Extents.{extent_of, IsWithin}
-use Rattle.ly_extents.specs.declared.extent.Extent.{Extent}
+use Rattle.ly_spans.specs.Spans.{span_of, IsWithin}
+use Rattle.ly_spans.specs.declared.span.Span.{Span}
 use Rattle.ly_feed.proofs.OneVerdictLemmas.{one_tokens}
 use Rattle.ly_feed.proofs.ReadingLemmas.{reads_on}
-use Rattle.ly_feed.specs.Flaw.{verdict_of}
+use Rattle.ly_feed.specs.SyntaxError.{verdict_of}
 use Rattle.ly_feed.specs.ScanPart.{scan_part_of}
 use Rattle.ly_feed.specs.TableAnswer.{AreTokens, Comes, IsVerdict, begun, end_of, fed_with}
 use Rattle.ly_feed.specs.Verdict.{Verdict, accepted, faulty, refused, unmatched}
-use Rattle.ly_feed.specs.declared.flaw.Flaw.{Flaw}
+use Rattle.ly_feed.specs.declared.syntax_error.SyntaxError.{SyntaxError}
 use Rattle.ly_feed.specs.declared.running.Ended.TheVariants as ended
 use Rattle.ly_feed.specs.declared.text_fault.TextFault.{TextFault}
 use Rattle.ly_feed.specs.declared.text_fault.TextFault.TheVariants as faults
@@ -42,7 +42,7 @@ use Rattle.ly_tree.specs.declared.forest.TermRef.{TermRef}
 
 -- where a token over a text stands
 pub same_extent : (text : List ℕ) (t : PlacedToken) → IsWithin (length text) t.extent
-    → extent_of (token_over text t) ≡ t.extent
+    → span_of (token_over text t) ≡ t.extent
 same_extent text t h =
     let e = t.extent in
     let forward = h.forward in
@@ -53,7 +53,7 @@ same_extent text t h =
 
 pub same_extents : (terminals : ℕ) (text : List ℕ) (ts : List PlacedToken)
     → All (IsTokenOver terminals (length text)) ts
-    → map (λ t. t.extent) ts ≡ map extent_of (map (token_over text) ts)
+    → map (λ t. t.extent) ts ≡ map span_of (map (token_over text) ts)
 same_extents terminals text [] h = refl
 same_extents terminals text (t ∷ ts) h =
     let first = h 0 t (omega arith) in
@@ -169,21 +169,21 @@ end_comes {last = last} end reads feeds
     = record { behind = []; split = refl; last = last; reads = reads; feeds = feeds }
 
 -- where nothing is wrong with them, tokens are read
-pub none_refused : (k : Machine) (tokens : List (Token ℕ)) (q : Parse) (o : Option Flaw)
-    → ((flaw : Flaw) → o ≡ Some flaw → ⊥) → AreReadOver k tokens q (Ok o)
+pub none_refused : (k : Machine) (tokens : List (Token ℕ)) (q : Parse) (o : Option SyntaxError)
+    → ((syntax_error : SyntaxError) → o ≡ Some syntax_error → ⊥) → AreReadOver k tokens q (Ok o)
     → ReadsTokens k [] tokens q.stack × (q.count ≡ length tokens) × (q.over ≡ false)
 none_refused k tokens q None not told = told
-none_refused k tokens q (Some flaw) not told = absurd (not flaw refl)
+none_refused k tokens q (Some syntax_error) not told = absurd (not syntax_error refl)
 
 -- What is said of tokens by the machine that keeps bodies is said by the set itself.
 module _ (s : TableSet) (text : List ℕ) (is_machine : IsMachine (machine_of s)) (tokens : List (Token ℕ)) where
   abbrev m : Machine
   m = machine_of s
 
-  pub flaw_told : (k : Machine) (q : Parse) (flaw : Flaw) → k ≡ keeping_machine m
-      → AreReadOver k tokens q (Ok (Some flaw)) → IsTokenVerdict s text tokens (verdict_of flaw)
-  flaw_told k q flaw same told =
-      let kept_told = subst (λ x. AreReadOver x tokens q (Ok (Some flaw))) same told in
+  pub syntax_error_told : (k : Machine) (q : Parse) (syntax_error : SyntaxError) → k ≡ keeping_machine m
+      → AreReadOver k tokens q (Ok (Some syntax_error)) → IsTokenVerdict s text tokens (verdict_of syntax_error)
+  syntax_error_told k q syntax_error same told =
+      let kept_told = subst (λ x. AreReadOver x tokens q (Ok (Some syntax_error))) same told in
       let own_told = refused_itself m is_machine kept_told.2 kept_told.3 kept_told.4 in
       subst (IsTokenVerdict s text tokens) (sym kept_told.5)
       (kept_told.0, with_end (end_of text) own_told.0, refl, own_told.1)
@@ -209,9 +209,9 @@ module _ (s : TableSet) (text : List ℕ) (is_machine : IsMachine (machine_of s)
 
   module _ (p : Parse) (reads : ReadsTokens (keeping_machine m) [] tokens p.stack)
       (machine : p.machine ≡ keeping_machine m) (counted : p.count ≡ length tokens) where
-    pub end_flaw_told : (f : Grown) (flaw : Flaw) → IsEndRead p text f (Ok (ended.Refused flaw))
-        → IsTokenVerdict s text tokens (verdict_of flaw)
-    end_flaw_told f flaw told =
+    pub end_syntax_error_told : (f : Grown) (syntax_error : SyntaxError) → IsEndRead p text f (Ok (ended.Refused syntax_error))
+        → IsTokenVerdict s text tokens (verdict_of syntax_error)
+    end_syntax_error_told f syntax_error told =
         let fed = subst (λ k. Feeds k (end_of text) p.stack terms.refused) machine told.1 in
         let listed = subst (λ k. AreExpected k (states_on p.stack) told.0) machine told.2 in
         let own_told = refused_itself m is_machine told.0 (end_comes (end_of text) reads fed) listed in
@@ -235,9 +235,9 @@ module _ (s : TableSet) (text : List ℕ) (is_machine : IsMachine (machine_of s)
     end_err_told f faults.Read (Err x) told is = absurd told
     end_err_told f (faults.Write written) (Err x) told is = absurd told
 
-    pub end_derived : (f : Grown) (root : TermRef) (x : Derivation) (extents : List Extent)
+    pub end_derived : (f : Grown) (root : TermRef) (x : Derivation) (extents : List Span)
         → IsEndRead p text f (Ok (ended.Accepted root)) → x.forest ≡ f → x.root ≡ root → x.tokens.items ≡ extents
-        → extents ≡ map extent_of tokens → IsDerivationOver s text tokens x
+        → extents ≡ map span_of tokens → IsDerivationOver s text tokens x
     end_derived f root x extents told same_forest same_root listed are =
         let fed = subst (λ k. Feeds k (end_of text) p.stack (terms.done told.0)) machine told.1 in
         let it = all_read m is_machine [] refl tt reads in

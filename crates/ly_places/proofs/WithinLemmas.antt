@@ -8,8 +8,8 @@ use Rattle.ly_base.specs.Trees.{Tree, yield_of}
 use Rattle.ly_base.specs.declared.lexeme.End.{End}
 use Rattle.ly_base.specs.declared.lexeme.End.TheVariants.{BadCut, Clean, Stuck}
 use Rattle.ly_base.specs.declared.lexeme.Lexeme.{Lexeme}
-use Rattle.ly_extents.specs.Extents.{extent_of, IsWithin}
-use Rattle.ly_extents.specs.declared.extent.Extent.{Extent}
+use Rattle.ly_spans.specs.Spans.{span_of, IsWithin}
+use Rattle.ly_spans.specs.declared.span.Span.{Span}
 use Rattle.ly_feed.specs.ScanPart.{ScanPart, condition_in, cut_in, scan_part_of, scanner_in, terminal_in}
 use Rattle.ly_feed.specs.TableAnswer.{AreTokens, IsVerdict, end_of, fed_with}
 use Rattle.ly_feed.specs.Verdict.{refused, unmatched}
@@ -143,25 +143,25 @@ stand_behind end (t ∷ before) ts f = behind_some 0 end t before ts f
 
 -- the last of them ends there
 last_within : (last end : ℕ) (ts : List (Token ℕ)) → last ≤ end → StandFrom last end ts
-    → end_or last (all_joined (map extent_of ts)) ≤ end
+    → end_or last (all_joined (map span_of ts)) ≤ end
 last_within last end [] low f = low
 last_within last end (t ∷ ts) low f =
-    subst (λ n. n ≤ end) (end_behind_one last (extent_of t) (all_joined (map extent_of ts)))
+    subst (λ n. n ≤ end) (end_behind_one last (span_of t) (all_joined (map span_of ts)))
     (last_within (t.at + length t.bytes) end ts f.0.1 f.1)
 
 -- what stands within something that ends there does so too, with all that it consists of
-within_one : (count : ℕ) (inner outer : Extent) → IsInside inner outer → outer.end ≤ count → IsWithin count inner
+within_one : (count : ℕ) (inner outer : Span) → IsInside inner outer → outer.end ≤ count → IsWithin count inner
 within_one count inner outer h high = record { forward = h.turned; inside = omega (arith, h.end, high) }
 
 mutual
-  nested_within : (count : ℕ) (k : Placed) (e : Extent) → IsInside (where_of k) e → IsNested k → e.end ≤ count
+  nested_within : (count : ℕ) (k : Placed) (e : Span) → IsInside (where_of k) e → IsNested k → e.end ≤ count
       → StandsWithin count k
   nested_within count (nothing own) e h f high = within_one count own e h high
   nested_within count (leaf t own) e h f high = within_one count own e h high
   nested_within count (built p own ks) e h f high =
       let here = within_one count own e h high in (here, all_nested_within count ks own f here.inside)
 
-  all_nested_within : (count : ℕ) (ks : PlacedTerms) (e : Extent) → AreNestedIn e ks → e.end ≤ count
+  all_nested_within : (count : ℕ) (ks : PlacedTerms) (e : Span) → AreNestedIn e ks → e.end ≤ count
       → AllStandWithin count ks
   all_nested_within count none e f high = tt
   all_nested_within count (more k ks) e f high =
@@ -176,7 +176,7 @@ placed_within p text tokens e shape before d are yields =
     let own = stand_behind (length text) before (yield_of d)
     (subst (StandFrom 0 (length text)) yields (text_stands p text tokens e are)) in
     let ends = last_within last (length text) (yield_of d) own.1 own.0 in
-    let is : end_or last (all_joined (map extent_of (yield_of d))) ≡ (extent_or last (tokens_extent d)).end
+    let is : end_or last (all_joined (map span_of (yield_of d))) ≡ (extent_or last (tokens_extent d)).end
     = ap (end_or last) (joined_is d) ∙ sym (or_end last (tokens_extent d)) in
     let both = placed_good shape last d (stand_follow last (length text) (yield_of d) own.0) in
     nested_within (length text) (placed shape last d) (extent_or last (tokens_extent d)) both.0 both.1

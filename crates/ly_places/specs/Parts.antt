@@ -1,13 +1,13 @@
 -- A placed term as a list of its parts: each precedes the parts that it consists of.
 use Rattle.std.specs.Prelude.{ℕ, suc, List, [], ◌∷◌, ◌++◌, length}
 use Rattle.ly_places.specs.Placed.{Placed, PlacedTerms, built, leaf, more, none, nothing}
-use Rattle.ly_extents.specs.declared.extent.Extent.{Extent}
+use Rattle.ly_spans.specs.declared.span.Span.{Span}
 use Rattle.ly_places.specs.declared.part.Part.{Part}
 use Rattle.ly_places.specs.declared.part.PartKind.{PartKind}
 use Rattle.ly_places.specs.declared.part.PartKind.TheVariants.{Node, Nothing, Token}
 
 -- a part of this kind, with this span and this number of parts, including itself
-abbrev pub part : PartKind → Extent → ℕ → Part
+abbrev pub part : PartKind → Span → ℕ → Part
 part kind e n = record { kind = kind; extent = e; parts = n }
 
 abbrev mutual

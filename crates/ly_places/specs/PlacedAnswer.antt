@@ -12,7 +12,7 @@ use Rattle.ly_feed.specs.Verdict as plain
 use Rattle.ly_feed.specs.Verdict.{IsOutcome, Verdict}
 use Rattle.ly_feed.specs.Vocabularies.{vocabulary_of}
 use Rattle.ly_feed.specs.declared.outcome.Outcome.{Outcome}
-use Rattle.ly_extents.specs.Extents.{empty_at, extent_of, json_extent}
+use Rattle.ly_spans.specs.Spans.{empty_at, span_of, json_span}
 use Rattle.ly_places.specs.Placed.{Placed, end_behind, forgotten, placed}
 use Rattle.ly_places.specs.PlacedJson.{placed_json}
 use Rattle.ly_places.specs.Shapes.{shape_of_rule}
@@ -54,10 +54,10 @@ verdict_of text faulty = plain.faulty
 -- the line of JSON; empty if the tables are faulty
 abbrev pub placed_line : Vocabulary → List ℕ → PlacedVerdict → List ℕ
 placed_line v text (accepted t) = placed_json v text t ++ newline ∷ []
-placed_line v text (refused k t ts) = json_refusal k t.at ++ (json_extent text (extent_of t) ++ (json_token v t
+placed_line v text (refused k t ts) = json_refusal k t.at ++ (json_span text (span_of t) ++ (json_token v t
     ++ (json_expected v ts ++ (codes "}" ++ newline ∷ []))))
 placed_line v text (unmatched byte) = codes "{\"error\":\"unmatched\",\"byte\":" ++ (decimal byte
-    ++ (json_extent text (empty_at byte) ++ (codes "}" ++ newline ∷ [])))
+    ++ (json_span text (empty_at byte) ++ (codes "}" ++ newline ∷ [])))
 placed_line v text faulty = []
 
 -- the text has this outcome and these bytes as its result

@@ -1,6 +1,6 @@
 -- Placed terms as JSON texts (RFC 8259), without blanks.
 use Rattle.std.specs.Prelude.{ℕ, List, ◌++◌, codes}
-use Rattle.ly_extents.specs.Extents.{bytes_at, json_extent}
+use Rattle.ly_spans.specs.Spans.{bytes_at, json_span}
 use Rattle.ly_places.specs.Placed.{Placed, PlacedTerms, built, leaf, more, none, nothing}
 use Rattle.ly_print.specs.Json.{json_content, json_name}
 use Rattle.ly_tree.specs.Shown.{Vocabulary}
@@ -10,9 +10,9 @@ abbrev mutual
   -- `{"node":"Add","start":[0,1,1],"end":[5,1,6],"children":[..]}`
   pub placed_json : Vocabulary → List ℕ → Placed → List ℕ
   placed_json v text (nothing e) = codes "null"
-  placed_json v text (leaf t e) = codes "{\"token\":" ++ (json_name (v.terminal t) ++ (json_extent text e
+  placed_json v text (leaf t e) = codes "{\"token\":" ++ (json_name (v.terminal t) ++ (json_span text e
       ++ (codes "," ++ (json_content (bytes_at text e) ++ codes "}"))))
-  placed_json v text (built p e ts) = codes "{\"node\":" ++ (json_name (v.constructor p) ++ (json_extent text e
+  placed_json v text (built p e ts) = codes "{\"node\":" ++ (json_name (v.constructor p) ++ (json_span text e
       ++ (codes ",\"children\":[" ++ (placed_jsons v text ts ++ codes "]}"))))
 
   -- terms with commas between them

@@ -1,7 +1,7 @@
 -- A JSON text with locations determines its tree.
 use Rattle.std.specs.Prelude.{◌≡◌, ◌<◌, ◌^◌, ℕ, List, [], ◌++◌, All, codes, take}
 use Rattle.ly_base.specs.Location.{column_behind, line_behind}
-use Rattle.ly_extents.specs.Extents.{bytes_at}
+use Rattle.ly_spans.specs.Spans.{bytes_at}
 use Rattle.ly_places.specs.Placed as placed
 use Rattle.ly_places.specs.Placed.{Placed, PlacedTerms}
 use Rattle.ly_places.specs.PlacedJson.{placed_json}

@@ -3,15 +3,15 @@ use Rattle.std.specs.Prelude.{◌≡◌, ◌≤◌, ◌+◌, ℕ, List, [], ◌�
 use Rattle.ly_base.specs.Lexed.{Token}
 use Rattle.ly_base.specs.Shape.{Shape}
 use Rattle.ly_base.specs.Trees.{Tree, yield_of}
-use Rattle.ly_extents.specs.Extents.{bytes_at, extent_of}
+use Rattle.ly_spans.specs.Spans.{bytes_at, span_of}
 use Rattle.ly_places.specs.Placed.{Placed, PlacedTerms, built, forgotten, leaf, more, none}
 use Rattle.ly_places.specs.Placed.{nothing, placed, where_of}
-use Rattle.ly_extents.specs.declared.extent.Extent.{Extent}
+use Rattle.ly_spans.specs.declared.span.Span.{Span}
 use Rattle.ly_tree.specs.Term.{build}
 
 -- a token has the bytes of the text in its span
 abbrev pub IsOfText : List ℕ → Token ℕ → Type 0
-IsOfText text t = bytes_at text (extent_of t) ≡ t.bytes
+IsOfText text t = bytes_at text (span_of t) ≡ t.bytes
 
 -- tokens follow one another from an offset on: each begins at or after the end of the one before, the first at or after
 -- this offset
@@ -20,7 +20,7 @@ FollowFrom last [] = Unit {0}
 FollowFrom last (t ∷ ts) = (last ≤ t.at) × FollowFrom (t.at + length t.bytes) ts
 
 -- it is within the other one, and its start isn't after its end
-pub record IsInside (inner outer : Extent) : Type 0 where
+pub record IsInside (inner outer : Span) : Type 0 where
   pub start : outer.start ≤ inner.start
   pub turned : inner.start ≤ inner.end
   pub end : inner.end ≤ outer.end
@@ -32,7 +32,7 @@ abbrev mutual
   IsNested (leaf t e) = Unit {0}
   IsNested (built p e ts) = AreNestedIn e ts
 
-  pub AreNestedIn : Extent → PlacedTerms → Type 0
+  pub AreNestedIn : Span → PlacedTerms → Type 0
   AreNestedIn e none = Unit {0}
   AreNestedIn e (more t ts) = IsInside (where_of t) e × IsNested t × AreNestedIn e ts
 

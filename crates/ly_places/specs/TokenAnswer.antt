@@ -3,7 +3,7 @@ use Rattle.std.specs.Prelude.{◌≡◌, ◌↔◌, ◌<◌, ◌≤◌, ℕ, ◌
 use Rattle.ly_base.specs.Lexed.{Token, start_of}
 use Rattle.ly_base.specs.Trees.{Tree, yield_of}
 use Rattle.ly_base.specs.declared.lexeme.End.TheVariants.{Clean}
-use Rattle.ly_extents.specs.Extents.{bytes_at, IsWithin}
+use Rattle.ly_spans.specs.Spans.{bytes_at, IsWithin}
 use Rattle.ly_feed.specs.ScanPart.{scan_part_of}
 use Rattle.ly_feed.specs.TableAnswer.{AreTokens, IsVerdict, end_of}
 use Rattle.ly_feed.specs.Verdict as plain

@@ -1,6 +1,6 @@
 -- Placed terms whose parts are within a text.
 use Rattle.std.specs.Prelude.{ℕ}
-use Rattle.ly_extents.specs.Extents.{IsWithin}
+use Rattle.ly_spans.specs.Spans.{IsWithin}
 use Rattle.ly_places.specs.Placed.{Placed, PlacedTerms, built, leaf, more, none, nothing}
 
 abbrev mutual

@@ -7,10 +7,10 @@ ghost use Rattle.ly_places.specs.Shapes.{keeping_rule};
 
 use crate::keeping_parser::keeping_parser;
 use ly_base::{OutOfMemory, Place, ScanAction};
-use ly_extents::Extent;
-use ly_feed::{Ended, Flaw, TextFault, meaning, run_to_end};
+use ly_feed::{Ended, SyntaxError, TextFault, meaning, run_to_end};
 use ly_pack::TableRule;
 use ly_scan::{KnownWalks, Lexer};
+use ly_spans::Span;
 use ly_tables::TableSet;
 use ly_tree::{Forest, TermRef};
 use std::alloc::Global;
@@ -23,7 +23,7 @@ pub(crate) struct Derivation {
     /// The term of the text in this forest.
     pub(crate) root: TermRef,
     /// The spans of the tokens, in their order.
-    pub(crate) tokens: Vec<Extent>,
+    pub(crate) tokens: Vec<Span>,
 }
 
 /// The result of deriving a text.
@@ -32,7 +32,7 @@ pub(crate) enum Derived<'t> {
     /// The text has this derivation.
     Accepted(Derivation),
     /// The text has this error.
-    Refused(Flaw<'t>),
+    Refused(SyntaxError<'t>),
 }
 
 /// The derivation of a text by a table set, or the error in the text. Its tokens are listed by a second run of the
@@ -61,7 +61,7 @@ pub(crate) fn derive<'t>(
                 tokens,
             }))
         }
-        Ended::Refused(flaw) => Ok(Derived::Refused(flaw)),
+        Ended::Refused(syntax_error) => Ok(Derived::Refused(syntax_error)),
     }
 }
 
@@ -71,7 +71,7 @@ fn token_extents(
     set: &TableSet,
     lexer: &Lexer,
     text: &[u8],
-) -> Result<Vec<Extent>, OutOfMemory>
+) -> Result<Vec<Span>, OutOfMemory>
     requires { IsLexerOf (scan_part_of set.now) lexer.now }
     ensures { IfOk result (λ extents. AreExtents (scan_part_of set.now) text.now extents.items) }
 {
@@ -94,6 +94,6 @@ fn token_extents(
             continue;
         }
         let end = place.at();
-        extents.push(Extent { start, end })?;
+        extents.push(Span { start, end })?;
     }
 }

@@ -23,9 +23,9 @@ ghost use Rattle.ly_places.specs.Shapes.{shape_of_rule};
 use crate::measure::{Measure, measure_children, measured, tree_of};
 use crate::part::{Part, PartKind};
 use ly_base::{OutOfMemory, RuleTree};
-use ly_extents::Extent;
 use ly_pack::TableRule;
-use ly_tree::{Forest, Look, Span, TermRef};
+use ly_spans::Span;
+use ly_tree::{Forest, Look, NodeSpan, TermRef};
 use std::alloc::Global;
 
 /// The parts of the tree that rules make of a derivation, whose tokens are the last ones of a text.
@@ -35,7 +35,7 @@ pub(crate) fn parts_of(
     alloc: Global,
     forest: &Forest,
     root: TermRef,
-    tokens: &[Extent],
+    tokens: &[Span],
     rules: &[TableRule],
 ) -> Result<Vec<Part>, OutOfMemory>
     requires derived { (before : List (Token ℕ)) × (d : Tree)
@@ -83,7 +83,7 @@ struct Flattening<'d> {
     /// The rules, with the trees that they build.
     rules: &'d [TableRule],
     /// The spans of the text's tokens.
-    tokens: &'d [Extent],
+    tokens: &'d [Span],
 }
 
 /// A term whose parts have not been listed yet.
@@ -109,17 +109,17 @@ struct Listing {
 }
 
 /// The span of this many tokens from one on. If there are none, an empty span at `last`.
-fn extent_at(tokens: &[Extent], first: usize, count: usize, last: usize) -> Extent
+fn extent_at(tokens: &[Span], first: usize, count: usize, last: usize) -> Span
     requires { first + count ≤ length tokens.now }
     ensures { result ≡ first_extent last count (drop first tokens.now) }
 {
     if count == 0 {
-        return Extent {
+        return Span {
             start: last,
             end: last,
         };
     }
-    Extent {
+    Span {
         start: tokens[first].start,
         end: tokens[first + count - 1].end,
     }
@@ -146,7 +146,7 @@ impl Flattening<'_> {
     /// The body of a node, given its first token and its start.
     fn body_of(
         &self,
-        span: Span,
+        span: NodeSpan,
         first: usize,
         start: usize,
         body: &mut Vec<Waiting>,
@@ -180,7 +180,7 @@ impl Flattening<'_> {
     /// Lists a node by its rule: its part, if it makes one of its own. The terms that it consists of are queued.
     fn list_node(
         &self,
-        span: Span,
+        span: NodeSpan,
         part: Part,
         first: usize,
         listing: &mut Listing,
@@ -248,7 +248,7 @@ fn kind_of(look: Look) -> PartKind
 }
 
 /// The end of the last token, or the start of the text.
-fn last_end(tokens: &[Extent]) -> usize
+fn last_end(tokens: &[Span]) -> usize
     ensures { result ≡ last_end tokens.now }
 {
     match tokens.last() {

@@ -18,7 +18,6 @@
 
 mod derivation;
 mod flattening;
-mod flaw_lines;
 mod keeping;
 mod keeping_parser;
 mod laws;
@@ -30,20 +29,21 @@ mod placed_line;
 mod placed_token;
 mod placing;
 mod printing;
+mod syntax_error_lines;
 mod text_parser;
 mod token_derivation;
 mod token_parsing;
 
-pub use flaw_lines::{refused_line, unmatched_line};
 pub use laws::{
     a_placed_json_text_says_one_tree, parts_are_nested, places_are_forgotten,
     tokens_say_what_their_text_says,
 };
-pub use ly_extents::{Extent, LineStarts};
+pub use ly_spans::{LineStarts, Span};
 pub use parsing::{Parsed, parse};
 pub use part::{Part, PartKind};
 pub use placed_line::PlacedLine;
 pub use placed_token::PlacedToken;
 pub use placing::{drive_placed, place_text, run_placed};
+pub use syntax_error_lines::{refused_line, unmatched_line};
 pub use text_parser::TextParser;
 pub use token_parsing::parse_tokens;

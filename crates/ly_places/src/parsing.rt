@@ -18,7 +18,7 @@ use crate::flattening::parts_of;
 use crate::keeping_parser::rules_of;
 use crate::part::Part;
 use ly_base::OutOfMemory;
-use ly_feed::{Flaw, TextFault, lexer_of};
+use ly_feed::{SyntaxError, TextFault, lexer_of};
 use ly_pack::TableRule;
 use ly_scan::Lexer;
 use ly_tables::TableSet;
@@ -30,7 +30,7 @@ pub enum Parsed<'t> {
     /// The text has a tree with these parts.
     Tree(Vec<Part>),
     /// The text has this error.
-    Refused(Flaw<'t>),
+    Refused(SyntaxError<'t>),
 }
 
 /// Parses a text with a table set. Returns the parts of its tree with their spans, or the error in the text.
@@ -67,7 +67,7 @@ pub(crate) fn parse_by<'t>(
             let parts = parts_by(alloc, set, derivation)?;
             Ok(Parsed::Tree(parts))
         }
-        Derived::Refused(flaw) => Ok(Parsed::Refused(flaw)),
+        Derived::Refused(syntax_error) => Ok(Parsed::Refused(syntax_error)),
     }
 }
 

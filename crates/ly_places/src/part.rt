@@ -1,5 +1,5 @@
 use ly_base::{RuleNo, Sym};
-use ly_extents::Extent;
+use ly_spans::Span;
 
 /// The kinds of parts of a tree.
 #[derive(Clone, Copy, Debug, PartialEq, Eq)]
@@ -18,7 +18,7 @@ pub struct Part {
     /// Its kind.
     pub kind: PartKind,
     /// Its span.
-    pub extent: Extent,
+    pub extent: Span,
     /// The number of parts of the list that it consists of, including itself.
     pub parts: usize,
 }

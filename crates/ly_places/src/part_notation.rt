@@ -2,7 +2,7 @@ ghost use Rattle.std.specs.Prelude.{◌≡◌, ◌<◌, ◌≤◌, ◌+◌, ◌^
 ghost use Rattle.std.specs.Prelude.{OnErr, OnOk};
 ghost use Rattle.ly_base.specs.Location.{column_behind, line_behind};
 ghost use Rattle.ly_feed.specs.NameMembers.{vocabulary_in};
-ghost use Rattle.ly_extents.specs.Extents.{bytes_at, json_extent, json_location, IsWithin};
+ghost use Rattle.ly_spans.specs.Spans.{bytes_at, json_span, json_location, IsWithin};
 ghost use Rattle.ly_places.specs.Private.Printing.{most_of, opening, parts_text, AreSound};
 ghost use Rattle.ly_places.specs.declared.part.PartKind.TheVariants.{Node, Token};
 ghost use Rattle.ly_print.specs.Device.{next_count};
@@ -10,9 +10,9 @@ ghost use Rattle.ly_print.specs.TextWriter.{bytes_of, IsAppended};
 
 use crate::part::{Part, PartKind};
 use ly_base::{Location, OutOfMemory, RuleNo, Sym};
-use ly_extents::{Extent, LineStarts};
 use ly_feed::NameLabels;
 use ly_print::{Front, Label, Sink, TextWriter, WriteFault, are_bytes};
+use ly_spans::{LineStarts, Span};
 use std::alloc::Global;
 
 /// The maximum number of bytes of a part without its name and content: 146 for its positions with their keys, 13 for
@@ -92,7 +92,7 @@ impl<'a> PartNotation<'a> {
         out: &mut TextWriter,
         writer: &mut S,
         terminal: Sym,
-        extent: Extent,
+        extent: Span,
         line: &mut u64,
     ) -> Result<(), WriteFault>
         requires within { IsWithin (length self.now.lines) extent }
@@ -111,7 +111,7 @@ impl<'a> PartNotation<'a> {
     }
 
     /// The bytes of the text in this span.
-    fn bytes_at(&self, extent: Extent) -> Front<'a>
+    fn bytes_at(&self, extent: Span) -> Front<'a>
         requires { IsWithin (length self.now.lines) extent }
         ensures { result ≡ bytes_at self.now.lines extent }
     {
@@ -125,7 +125,7 @@ impl<'a> PartNotation<'a> {
         out: &mut TextWriter,
         writer: &mut S,
         rule: RuleNo,
-        extent: Extent,
+        extent: Span,
         line: &mut u64,
     ) -> Result<(), WriteFault>
         requires within { IsWithin (length self.now.lines) extent }
@@ -148,15 +148,15 @@ impl<'a> PartNotation<'a> {
         &self,
         out: &mut TextWriter,
         writer: &mut S,
-        extent: Extent,
+        extent: Span,
         line: &mut u64,
     ) -> Result<(), WriteFault>
         requires within { IsWithin (length self.now.lines) extent }
-        requires countable { bytes_of out.old + length (json_extent self.now.lines extent) < 2 ^ 64 }
+        requires countable { bytes_of out.old + length (json_span self.now.lines extent) < 2 ^ 64 }
         ensures text { IsAppended out.old out.new (S.contents writer.old) (S.contents writer.new)
-            (json_extent self.now.lines extent) result }
+            (json_span self.now.lines extent) result }
         ensures counted { OnOk result (bytes_of out.new
-            ≡ bytes_of out.old + length (json_extent self.now.lines extent)) }
+            ≡ bytes_of out.old + length (json_span self.now.lines extent)) }
         ensures no_failure { OnOk result (S.failures writer.new ≡ S.failures writer.old) }
         ensures failed { OnErr result (S.failures writer.new ≡ next_count (S.failures writer.old)) }
     {

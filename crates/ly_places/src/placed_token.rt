@@ -1,12 +1,12 @@
 ghost use Rattle.std.specs.Prelude.{◌≡◌, length};
-ghost use Rattle.ly_extents.specs.Extents.{IsWithin};
+ghost use Rattle.ly_spans.specs.Spans.{IsWithin};
 ghost use Rattle.ly_places.specs.TokenAnswer.{token_over};
-ghost use Rattle.ly_feed.specs.Flaw.{token_of};
+ghost use Rattle.ly_feed.specs.SyntaxError.{token_of};
 
 use ly_base::Sym;
-use ly_extents::Extent;
 use ly_parse::Token;
 use ly_print::Front;
+use ly_spans::Span;
 
 /// A token of a text, found by any means.
 #[derive(Clone, Copy, Debug, PartialEq, Eq)]
@@ -14,7 +14,7 @@ pub struct PlacedToken {
     /// Its terminal.
     pub terminal: Sym,
     /// Its span in the text.
-    pub extent: Extent,
+    pub extent: Span,
 }
 
 impl PlacedToken {
@@ -23,7 +23,7 @@ impl PlacedToken {
         requires { IsWithin (length text.now) self.now.extent }
         ensures { token_of result ≡ token_over text.now self.now }
     {
-        let Extent { start, end } = self.extent;
+        let Span { start, end } = self.extent;
         Token {
             terminal: self.terminal,
             at: start as u64,

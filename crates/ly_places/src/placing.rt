@@ -4,10 +4,10 @@ ghost use Rattle.ly_drive.specs.Answering.{IsDriven, IsFaultyOn};
 ghost use Rattle.ly_drive.specs.DriveFault as drive;
 ghost use Rattle.ly_drive.specs.DriveFault.{IsOfFile};
 ghost use Rattle.ly_feed.specs.TableAnswer.{IsVerdict};
-ghost use Rattle.ly_feed.specs.TextFault.{IsBeforeWriting, IsOfEnding, IsOfWriting, IsWrite};
+ghost use Rattle.ly_feed.specs.TextFault.{WroteNothing, IsOfEnding, IsOfWriting, IsFailedWrite};
 ghost use Rattle.ly_feed.specs.Verdict.{faulty};
 ghost use Rattle.ly_feed.specs.declared.outcome.Outcome.{Outcome as Answered};
-ghost use Rattle.ly_feed.specs.Flaw.{verdict_of};
+ghost use Rattle.ly_feed.specs.SyntaxError.{verdict_of};
 ghost use Rattle.ly_feed.specs.Vocabularies.{vocabulary_of};
 ghost use Rattle.ly_places.specs.PlacedAnswer.{placed_line, verdict_of as plain_of, IsPlacedBy, IsPlacedVerdict};
 ghost use Rattle.ly_places.specs.PlacedAnswer.{PlacedAnswer, PlacedVerdict};
@@ -21,13 +21,13 @@ ghost use Rattle.ly_tables.specs.TableSet.{TableSet as Tables};
 ghost use Rattle.ly_tables.specs.declared.fault.TableFault as file;
 ghost use Rattle.ly_tables.specs.declared.fault.TableFault.TheVariants.{OutOfMemory as NoMemory};
 
-use crate::flaw_lines::{refused_line, unmatched_line};
 use crate::parsing::{Parsed, parse};
 use crate::part::Part;
 use crate::placed_line::PlacedLine;
+use crate::syntax_error_lines::{refused_line, unmatched_line};
 use ly_base::OutOfMemory;
 use ly_drive::DriveFault;
-use ly_feed::{Flaw, NameLabels, Outcome, TextFault};
+use ly_feed::{NameLabels, Outcome, SyntaxError, TextFault};
 use ly_print::{ReadFault, Sink, Source, read_whole, write_whole};
 use ly_tables::{TableSet, read_tables};
 use std::alloc::Global;
@@ -59,9 +59,9 @@ pub fn drive_placed<R: Source, W: Sink>(
         → R.failures reader.new ≡ next_count (R.failures reader.old) }
     ensures reader_held { (IsErrOf result (DriveFault.Text TextFault.Read) → ⊥)
         → R.failures reader.new ≡ R.failures reader.old }
-    ensures write { IfErr result (λ e. drive.IsWrite e → W.failures writer.new ≡ next_count (W.failures writer.old)) }
+    ensures write { IfErr result (λ e. drive.IsFailedWrite e → W.failures writer.new ≡ next_count (W.failures writer.old)) }
     ensures writer_held { OnOk result (W.failures writer.new ≡ W.failures writer.old) }
-    ensures untouched { IfErr result (λ e. drive.IsBeforeWriting e → writer.new ≡ writer.old) }
+    ensures untouched { IfErr result (λ e. drive.WroteNothing e → writer.new ≡ writer.old) }
 {
     let (set, _version) = read_tables(alloc, tables)?;
     let answered = run_placed(alloc, &set, reader, writer);
@@ -87,9 +87,9 @@ pub fn run_placed<R: Source, W: Sink>(
     ensures ended { OnOk result (IsAtEnd (R.remaining reader.new)) }
     ensures read { IsErrOf result TextFault.Read → R.failures reader.new ≡ next_count (R.failures reader.old) }
     ensures reader_held { (IsErrOf result TextFault.Read → ⊥) → R.failures reader.new ≡ R.failures reader.old }
-    ensures write { IfErr result (λ e. IsWrite e → W.failures writer.new ≡ next_count (W.failures writer.old)) }
+    ensures write { IfErr result (λ e. IsFailedWrite e → W.failures writer.new ≡ next_count (W.failures writer.old)) }
     ensures writer_held { OnOk result (W.failures writer.new ≡ W.failures writer.old) }
-    ensures untouched { IfErr result (λ e. IsBeforeWriting e → writer.new ≡ writer.old) }
+    ensures untouched { IfErr result (λ e. WroteNothing e → writer.new ≡ writer.old) }
 {
     let text = match read_whole(alloc, reader) {
         Ok(text) => text,
@@ -115,16 +115,16 @@ pub fn place_text<W: Sink>(
         × IsCutShort (W.contents writer.old) (W.contents writer.new) written answer }
     ensures faulty { result ≡ Err TextFault.FaultyTables → IsVerdict set.now text.now faulty }
     ensures ending { IfErr result IsOfEnding }
-    ensures write { IfErr result (λ e. IsWrite e → W.failures writer.new ≡ next_count (W.failures writer.old)) }
+    ensures write { IfErr result (λ e. IsFailedWrite e → W.failures writer.new ≡ next_count (W.failures writer.old)) }
     ensures writer_held { OnOk result (W.failures writer.new ≡ W.failures writer.old) }
-    ensures untouched { IfErr result (λ e. IsBeforeWriting e → writer.new ≡ writer.old) }
+    ensures untouched { IfErr result (λ e. WroteNothing e → writer.new ≡ writer.old) }
 {
     match parse(alloc, set, text)? {
         Parsed::Tree(parts) => write_tree(alloc, set, text, &parts, writer),
-        Parsed::Refused(flaw) => {
-            let line = flaw_line(alloc, set, text, &flaw)?;
+        Parsed::Refused(syntax_error) => {
+            let line = syntax_error_line(alloc, set, text, &syntax_error)?;
             write_whole(writer, &line)?;
-            Ok(flaw.into_outcome())
+            Ok(syntax_error.into_outcome())
         }
     }
 }
@@ -144,9 +144,9 @@ fn write_tree<W: Sink>(
         → (answer : List ℕ) × (o : Answered) × PlacedAnswer set.now text.now o answer
         × IsCutShort (W.contents writer.old) (W.contents writer.new) written answer }
     ensures of_writing { IfErr result IsOfWriting }
-    ensures write { IfErr result (λ e. IsWrite e → W.failures writer.new ≡ next_count (W.failures writer.old)) }
+    ensures write { IfErr result (λ e. IsFailedWrite e → W.failures writer.new ≡ next_count (W.failures writer.old)) }
     ensures writer_held { OnOk result (W.failures writer.new ≡ W.failures writer.old) }
-    ensures untouched { IfErr result (λ e. IsBeforeWriting e → writer.new ≡ writer.old) }
+    ensures untouched { IfErr result (λ e. WroteNothing e → writer.new ≡ writer.old) }
 {
     let line = PlacedLine::new(alloc, NameLabels::of(alloc, set)?, text, parts)?;
     line.write(writer)?;
@@ -154,23 +154,23 @@ fn write_tree<W: Sink>(
 }
 
 /// The line for the error that a table set finds in a text.
-fn flaw_line(
+fn syntax_error_line(
     alloc: Global,
     set: &TableSet,
     text: &[u8],
-    flaw: &Flaw<'_>,
+    syntax_error: &SyntaxError<'_>,
 ) -> Result<Vec<u8>, OutOfMemory>
-    requires { IsVerdict set.now text.now (verdict_of flaw.now) }
+    requires { IsVerdict set.now text.now (verdict_of syntax_error.now) }
     ensures { IfOk result (λ line. (v : PlacedVerdict) × IsPlacedVerdict set.now text.now v
-        × (plain_of text.now v ≡ verdict_of flaw.now)
+        × (plain_of text.now v ≡ verdict_of syntax_error.now)
         × (line.items ≡ placed_line (vocabulary_of set.now) text.now v)) }
 {
-    match flaw {
-        Flaw::Refused {
+    match syntax_error {
+        SyntaxError::Refused {
             number,
             token,
             expected,
         } => refused_line(alloc, set, text, *number, token, expected),
-        Flaw::NoRule { byte } => unmatched_line(alloc, text, *byte),
+        SyntaxError::NoRule { byte } => unmatched_line(alloc, text, *byte),
     }
 }

@@ -10,11 +10,11 @@ use crate::derivation::{Derivation, Derived};
 use crate::keeping_parser::keeping_parser;
 use crate::placed_token::PlacedToken;
 use ly_base::{OutOfMemory, Sym};
-use ly_extents::Extent;
-use ly_feed::{Ended, Flaw, TableParser, TextFault};
+use ly_feed::{Ended, SyntaxError, TableParser, TextFault};
 use ly_pack::TableRule;
 use ly_parse::{ParseFault, Step, Token};
 use ly_print::Front;
+use ly_spans::Span;
 use ly_tables::TableSet;
 use std::alloc::Global;
 
@@ -34,8 +34,8 @@ pub(crate) fn derive_tokens<'t>(
     ensures { IsTokenDerived set.now text.now (map (token_over text.now) tokens.now) result }
 {
     let mut parser = keeping_parser(alloc, set, rules);
-    if let Some(flaw) = read_tokens(&mut parser, text, tokens)? {
-        return Ok(Derived::Refused(flaw));
+    if let Some(syntax_error) = read_tokens(&mut parser, text, tokens)? {
+        return Ok(Derived::Refused(syntax_error));
     }
     match read_end(&mut parser, text)? {
         Ended::Accepted(root) => {
@@ -46,12 +46,12 @@ pub(crate) fn derive_tokens<'t>(
                 tokens,
             }))
         }
-        Ended::Refused(flaw) => Ok(Derived::Refused(flaw)),
+        Ended::Refused(syntax_error) => Ok(Derived::Refused(syntax_error)),
     }
 }
 
 /// The spans of tokens.
-fn extents_of(alloc: Global, tokens: &[PlacedToken]) -> Result<Vec<Extent>, OutOfMemory>
+fn extents_of(alloc: Global, tokens: &[PlacedToken]) -> Result<Vec<Span>, OutOfMemory>
     ensures { IfOk result (λ extents. extents.items ≡ map (λ t. t.extent) tokens.now) }
 {
     Ok(tokens.iter().map(|token| token.extent).collect(alloc)?)
@@ -63,7 +63,7 @@ fn read_tokens<'t>(
     parser: &mut TableParser<'_>,
     text: &'t [u8],
     tokens: &[PlacedToken],
-) -> Result<Option<Flaw<'t>>, TextFault>
+) -> Result<Option<SyntaxError<'t>>, TextFault>
     requires machine { IsMachine parser.old.machine }
     requires empty { parser.old.stack ≡ [] }
     requires none { parser.old.count ≡ 0 }
@@ -83,7 +83,7 @@ fn read_tokens<'t>(
                     ..
                 },
             ) => {
-                return Ok(Some(Flaw::Refused {
+                return Ok(Some(SyntaxError::Refused {
                     number,
                     token,
                     expected,
@@ -121,7 +121,7 @@ fn read_end<'t>(parser: &mut TableParser<'_>, text: &'t [u8]) -> Result<Ended<'t
                 at,
                 text: Front::new(text, 0),
             };
-            Ok(Ended::Refused(Flaw::Refused {
+            Ok(Ended::Refused(SyntaxError::Refused {
                 number,
                 token,
                 expected,

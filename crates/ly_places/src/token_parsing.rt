@@ -33,6 +33,6 @@ pub fn parse_tokens<'t>(
     let rules = rules_of(alloc, set)?;
     match derive_tokens(alloc, set, &rules, text, tokens)? {
         Derived::Accepted(derivation) => { Ok(Parsed::Tree(parts_by(alloc, set, derivation)?)) }
-        Derived::Refused(flaw) => Ok(Parsed::Refused(flaw)),
+        Derived::Refused(syntax_error) => Ok(Parsed::Refused(syntax_error)),
     }
 }

@@ -11,7 +11,7 @@ use Rattle.ly_join.specs.Grammar.{Grammar, Symbol}
 use Rattle.ly_grammar.specs.Items.{IsViable, Merges}
 use Rattle.ly_lr0.specs.Automaton.{Lr0Automaton, ComesBefore, IsLr0Automaton, Reaches, goto_of, prefix_of}
 use Rattle.ly_lr0.proofs.OrderLemmas.{before_trans, not_before_itself}
-use Rattle.ly_resolve.specs.Actions.{Action, Judge, Verdict, IsAction, IsConflictFree, IsDone, IsRaw, error}
+use Rattle.ly_resolve.specs.Actions.{Action, Judge, PrecedenceVerdict, IsAction, IsConflictFree, IsDone, IsRaw, error}
 use Rattle.ly_resolve.specs.Actions.{reduce}
 use Rattle.ly_resolve.specs.Actions.{shift}
 use Rattle.ly_resolve.specs.Conflicts.{AreConflicts, Conflict, CountsAs, IsBefore, IsConflict, IsCounted, IsLeast, Kind}
@@ -42,12 +42,12 @@ raw_same : {G : Grammar} {g : List Symbol} {t : ℕ} {s : Bool} {rs : List ℕ} 
 raw_same asked a = ((asked_same asked a).1, (asked_same asked a).0)
 
 -- what is done or counted is asked for
-done_asks : (A : Action → Type 0) (v : ℕ → Verdict) (a : Action) → IsDone A v a → (b : Action) × A b
+done_asks : (A : Action → Type 0) (v : ℕ → PrecedenceVerdict) (a : Action) → IsDone A v a → (b : Action) × A b
 done_asks A v shift d = (shift, d.0)
 done_asks A v (reduce p) d = (reduce p, d.0.0)
 done_asks A v error d = (shift, d.0)
 
-counts_asks : (A : Action → Type 0) (v : ℕ → Verdict) (k : Kind) (p : ℕ) → CountsAs A v k p → (b : Action) × A b
+counts_asks : (A : Action → Type 0) (v : ℕ → PrecedenceVerdict) (k : Kind) (p : ℕ) → CountsAs A v k p → (b : Action) × A b
 counts_asks A v shift_reduce p c = (shift, c.0)
 counts_asks A v reduce_reduce p c = (reduce p, c.0.0)
 

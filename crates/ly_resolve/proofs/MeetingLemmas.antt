@@ -17,7 +17,7 @@ use Rattle.ly_base.proofs.MemberLemmas.{Contains-one}
 use Rattle.ly_base.proofs.ListLemmas.{AllPairs-append, AllPairs-head, AllPairs-tail}
 use Rattle.ly_join.specs.Grammar.{Symbol}
 use Rattle.ly_join.proofs.ListLemmas.{in_mapped, mapped_in, member_at, placed}
-use Rattle.ly_resolve.specs.Actions.{Action, Stays, Verdict, IsDone, error, reduce, shift, to_error}
+use Rattle.ly_resolve.specs.Actions.{Action, Stays, PrecedenceVerdict, IsDone, error, reduce, shift, to_error}
 use Rattle.ly_resolve.specs.Actions.{to_reduce, to_shift, unsettled}
 use Rattle.ly_resolve.specs.Conflicts.{Conflict, CountsAs, Kind, IsBefore, IsKindBefore, reduce_reduce, shift_reduce}
 use Rattle.ly_resolve.specs.Private.Meetings.{all_told, is_counted, is_for_reduction, is_unsettled, reduces_by, told}
@@ -25,7 +25,7 @@ use Rattle.ly_resolve.specs.Private.Meetings.{AreMany, IsAskedBy}
 
 -- WHERE THE SAME ACTIONS ARE ASKED FOR
 
-module _ (A B : Action → Type 0) (v : ℕ → Verdict) (same : (a : Action) → A a ↔ B a) where
+module _ (A B : Action → Type 0) (v : ℕ → PrecedenceVerdict) (same : (a : Action) → A a ↔ B a) where
   stays_too : (p : ℕ) → Stays A v p → Stays B v p
   stays_too p s = ((same (reduce p)).0 s.0, λ b. s.1 ((same shift).1 b))
 
@@ -50,7 +50,7 @@ module _ (A B : Action → Type 0) (v : ℕ → Verdict) (same : (a : Action) �
   counts_too reduce_reduce p c = (stays_too p c.0, c.1, c.2, stays_too c.1 c.3)
 
 -- one thing is done
-module _ (A : Action → Type 0) (v : ℕ → Verdict) where
+module _ (A : Action → Type 0) (v : ℕ → PrecedenceVerdict) where
   shift_not_reduce : (p : ℕ) → IsDone A v shift → Stays A v p → ⊥
   shift_not_reduce p d s = elim (d.1 p s.0) [
     | inl e ↦ (let no : to_shift ≡ to_reduce → ⊥ = λ z. cc in no (sym e ∙ s.1 d.0))
@@ -106,13 +106,13 @@ module _ (A : Action → Type 0) (v : ℕ → Verdict) where
 
 -- WHAT IS COUNTED, BY TRUTH VALUES
 
-for_reduction : (x : Verdict) → IsTrue (is_for_reduction x) → x ≡ to_reduce
+for_reduction : (x : PrecedenceVerdict) → IsTrue (is_for_reduction x) → x ≡ to_reduce
 for_reduction to_reduce h = refl
 for_reduction to_shift h = absurd (cc)
 for_reduction to_error h = absurd (cc)
 for_reduction unsettled h = absurd (cc)
 
-says_nothing : (x : Verdict) → IsTrue (is_unsettled x) → x ≡ unsettled
+says_nothing : (x : PrecedenceVerdict) → IsTrue (is_unsettled x) → x ≡ unsettled
 says_nothing to_reduce h = absurd (cc)
 says_nothing to_shift h = absurd (cc)
 says_nothing to_error h = absurd (cc)
@@ -136,11 +136,11 @@ is_not_chosen shift p ne = refl
 is_not_chosen error p ne = refl
 is_not_chosen (reduce q) p ne = ap not (ne_eqb q p (λ e. ne (ap reduce e)))
 
-stays_by : (s : Bool) (x : Verdict) → (IsTrue s → x ≡ to_reduce) → (not s || is_for_reduction x) ≡ true
+stays_by : (s : Bool) (x : PrecedenceVerdict) → (IsTrue s → x ≡ to_reduce) → (not s || is_for_reduction x) ≡ true
 stays_by true x h = ap is_for_reduction (h refl)
 stays_by false x h = refl
 
-module _ (s : Bool) (rs : List ℕ) (v : ℕ → Verdict) (a : Action) (done : IsDone (IsAskedBy s rs) v a) where
+module _ (s : Bool) (rs : List ℕ) (v : ℕ → PrecedenceVerdict) (a : Action) (done : IsDone (IsAskedBy s rs) v a) where
   -- what is counted by truth values counts
   counted_to : (k : Kind) (p : ℕ) → Contains rs p → IsTrue (is_counted s v a k p) → CountsAs (IsAskedBy s rs) v k p
   counted_to shift_reduce p has h =
@@ -213,14 +213,14 @@ abbrev conflict_at : List Symbol → ℕ → Action → Kind → ℕ → Conflic
 conflict_at g t a k p = record { prefix = g; terminal = t; kind = k; rule = p; choice = a }
 
 -- What a conflict says that is told at a string before a terminal.
-pub record IsToldAt (g : List Symbol) (t : ℕ) (A : Action → Type 0) (v : ℕ → Verdict) (a : Action)
+pub record IsToldAt (g : List Symbol) (t : ℕ) (A : Action → Type 0) (v : ℕ → PrecedenceVerdict) (a : Action)
     (c : Conflict) : Type 0 where
   pub prefix : c.prefix ≡ g
   pub terminal : c.terminal ≡ t
   pub choice : c.choice ≡ a
   pub counts : CountsAs A v c.kind c.rule
 
-module _ (g : List Symbol) (t : ℕ) (s : Bool) (rs : List ℕ) (v : ℕ → Verdict) (a : Action)
+module _ (g : List Symbol) (t : ℕ) (s : Bool) (rs : List ℕ) (v : ℕ → PrecedenceVerdict) (a : Action)
     (done : IsDone (IsAskedBy s rs) v a) where
   told_kind : (k : Kind) (c : Conflict) → Contains (told g t s rs v a k) c
       → (c.kind ≡ k) × IsToldAt g t (IsAskedBy s rs) v a c
@@ -347,7 +347,7 @@ not_single s (p ∷ rs) rising (inr (t, le)) one =
     no same
 
 -- where no two actions are asked for, nothing is told
-pub told_none : (g : List Symbol) (t : ℕ) (s : Bool) (rs : List ℕ) (v : ℕ → Verdict) (a : Action)
+pub told_none : (g : List Symbol) (t : ℕ) (s : Bool) (rs : List ℕ) (v : ℕ → PrecedenceVerdict) (a : Action)
     → IsDone (IsAskedBy s rs) v a → AllPairs (λ p q. p < q) rs → (AreMany s rs → ⊥) → all_told g t s rs v a ≡ []
 told_none g t s rs v a done rising few = empty (all_told g t s rs v a) (λ c has.
     let w = (told_are g t s rs v a done c).0 has in
@@ -374,7 +374,7 @@ taken_all xs i x le has =
     let k = placed xs x has in
     take_has xs i k.0 x (let lt = slice_get_within xs k.0 x k.1 in omega (arith, lt, le)) k.1
 
-module _ (s : Bool) (rs : List ℕ) (v : ℕ → Verdict) (i : ℕ) where
+module _ (s : Bool) (rs : List ℕ) (v : ℕ → PrecedenceVerdict) (i : ℕ) where
   -- the first rule that stays is what is done
   pub earliest_found : i < length rs → AllPairs (λ p q. p < q) rs
       → ((p : ℕ) → Contains (take i rs) p → (IsTrue s → v p ≡ to_reduce) → ⊥)
@@ -431,7 +431,7 @@ module _ (s : Bool) (rs : List ℕ) (v : ℕ → Verdict) (i : ℕ) where
       ∙ append-nil (told g t s (take i rs) v a k)
 
 -- where no reduction stays and no shift is asked for, nothing is
-pub nothing_asked : (s : Bool) (rs : List ℕ) (v : ℕ → Verdict) → s ≡ false
+pub nothing_asked : (s : Bool) (rs : List ℕ) (v : ℕ → PrecedenceVerdict) → s ≡ false
     → ((p : ℕ) → Stays (IsAskedBy s rs) v p → ⊥) → (a : Action) → IsAskedBy s rs a → ⊥
 nothing_asked true rs v off none a asked = absurd (cc)
 nothing_asked false rs v off none shift asked = absurd (cc)

@@ -6,7 +6,7 @@ use Rattle.ly_base.specs.Trees.{Tree, leaf, node, none, yield_of}
 use Rattle.ly_join.specs.Grammar.{Grammar, IsRule, Symbol, nonterminal, terminal}
 use Rattle.ly_grammar.proofs.ItemLemmas.{length-onto}
 use Rattle.ly_grammar.proofs.SearchLemmas.{rule_is_one}
-use Rattle.ly_resolve.specs.Actions.{Action, IsAction, IsTerminalRefused, Judge, Verdict, error, reduce, shift}
+use Rattle.ly_resolve.specs.Actions.{Action, IsAction, IsTerminalRefused, Judge, PrecedenceVerdict, error, reduce, shift}
 use Rattle.ly_resolve.specs.Actions.{to_error}
 use Rattle.ly_resolve.specs.Actions.{to_reduce, to_shift, unsettled}
 use Rattle.ly_resolve.specs.Laws.{IsUnambiguous}
@@ -16,11 +16,11 @@ use Rattle.ly_resolve.proofs.AcceptLemmas.{accepts_all}
 use Rattle.ly_resolve.proofs.StackLemmas.{length-symbols_of}
 
 -- a verdict that leaves the shift is neither for the reduction nor for an error
-leaves_no_reduce : (v : Verdict) → (v ≡ to_shift) ⊎ (v ≡ unsettled) → v ≡ to_reduce → ⊥
+leaves_no_reduce : (v : PrecedenceVerdict) → (v ≡ to_shift) ⊎ (v ≡ unsettled) → v ≡ to_reduce → ⊥
 leaves_no_reduce v (inl a) b = cc
 leaves_no_reduce v (inr a) b = cc
 
-leaves_no_error : (v : Verdict) → (v ≡ to_shift) ⊎ (v ≡ unsettled) → v ≡ to_error → ⊥
+leaves_no_error : (v : PrecedenceVerdict) → (v ≡ to_shift) ⊎ (v ≡ unsettled) → v ≡ to_error → ⊥
 leaves_no_error v (inl a) b = cc
 leaves_no_error v (inr a) b = cc
 

@@ -15,7 +15,7 @@ use Rattle.ly_join.specs.Grammar.{Symbol, nonterminal, terminal}
 use Rattle.ly_lr0.specs.Automaton.{IsLess, IsLr0Automaton, Lr0Automaton, Transition, goto_of, prefix_of, state_at}
 use Rattle.ly_lr0.specs.Automaton.{is_shift, target_of}
 use Rattle.ly_lr0.proofs.StateLemmas.{state_there, target_at, target_some}
-use Rattle.ly_resolve.specs.Actions.{Action, Judge, IsAction, IsRaw, Verdict, error, reduce, shift}
+use Rattle.ly_resolve.specs.Actions.{Action, Judge, IsAction, IsRaw, PrecedenceVerdict, error, reduce, shift}
 use Rattle.ly_resolve.specs.Conflicts.{Conflict, CountsAs, Kind, reduce_reduce, shift_reduce}
 use Rattle.ly_resolve.specs.Private.Found.{AreTold, IsPast}
 use Rattle.ly_resolve.specs.Private.Shifts.{AreShifts, IsShiftedTo}
@@ -24,7 +24,7 @@ use Rattle.ly_resolve.proofs.FoundLemmas.{later_state}
 use Rattle.ly_resolve.proofs.RawLemmas.{reduction_complete, terminal_shifted}
 
 -- what is counted asks for a reduction by its rule
-counts_reduce : (A : Action → Type 0) (v : ℕ → Verdict) (k : Kind) (p : ℕ) → CountsAs A v k p → A (reduce p)
+counts_reduce : (A : Action → Type 0) (v : ℕ → PrecedenceVerdict) (k : Kind) (p : ℕ) → CountsAs A v k p → A (reduce p)
 counts_reduce A v shift_reduce p c = c.1
 counts_reduce A v reduce_reduce p c = c.0.0
 

@@ -22,18 +22,18 @@ abbrev pub IsConflictFree : Grammar → Type 0
 IsConflictFree G = (g : List Symbol) (t : ℕ) (a b : Action) → IsViable G g → IsRaw G g t a → IsRaw G g t b → a ≡ b
 
 -- The verdict of precedence on a shift against a reduction: the shift, the reduction, neither, or no verdict.
-pub data Verdict : Type 0 where
-  to_shift : Verdict
-  to_reduce : Verdict
-  to_error : Verdict
-  unsettled : Verdict
+pub data PrecedenceVerdict : Type 0 where
+  to_shift : PrecedenceVerdict
+  to_reduce : PrecedenceVerdict
+  to_error : PrecedenceVerdict
+  unsettled : PrecedenceVerdict
 
 -- for each rule and terminal, the verdict of precedence
 abbrev pub Judge : Type 0
-Judge = ℕ → ℕ → Verdict
+Judge = ℕ → ℕ → PrecedenceVerdict
 
 -- The chosen action, given the possible actions and the verdict of precedence on each rule.
-module _ (IsAsked : Action → Type 0) (verdict : ℕ → Verdict) where
+module _ (IsAsked : Action → Type 0) (verdict : ℕ → PrecedenceVerdict) where
   -- the reduction stays: precedence prefers it, or no shift is possible
   abbrev pub Stays : ℕ → Type 0
   Stays p = IsAsked (reduce p) × (IsAsked shift → verdict p ≡ to_reduce)

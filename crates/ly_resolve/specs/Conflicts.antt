@@ -3,7 +3,7 @@ use Rattle.std.specs.Prelude.{◌≡◌, ◌↔◌, ◌⊎◌, ℕ, ◌<◌, Lis
 use Rattle.ly_join.specs.Grammar.{Grammar, Symbol}
 use Rattle.ly_grammar.specs.Items.{IsViable, Merges}
 use Rattle.ly_lr0.specs.Automaton.{ComesBefore}
-use Rattle.ly_resolve.specs.Actions.{Action, Judge, Stays, Verdict, IsAction, IsRaw, reduce, shift}
+use Rattle.ly_resolve.specs.Actions.{Action, Judge, Stays, PrecedenceVerdict, IsAction, IsRaw, reduce, shift}
 use Rattle.ly_resolve.specs.Actions.{unsettled}
 
 -- a shift against a reduction, or two reductions
@@ -20,7 +20,7 @@ pub record Conflict : Type 0 where
   pub choice : Action
 
 -- The rules that are counted, given the possible actions and the verdict of precedence on each rule.
-module _ (IsAsked : Action → Type 0) (verdict : ℕ → Verdict) where
+module _ (IsAsked : Action → Type 0) (verdict : ℕ → PrecedenceVerdict) where
   -- A shift against a reduction is counted if precedence has no verdict. Of the reductions that stay, each but the
   -- earliest is counted.
   abbrev pub CountsAs : Kind → ℕ → Type 0

@@ -64,7 +64,7 @@ NextContinues = (G : Grammar) (judge : Judge) → IsAugmented G → IsReduced G 
     → (t : ℕ) → Next G judge stack t ↔ Continues G before t
 
 -- The outcome for one token of a terminal decides whether the terminal is among those that would be read.
-pub record IsTold (G : Grammar) (judge : Judge) (stack : List Pushed) (probe : Token ℕ) : Type 0 where
+pub record DecidesNext (G : Grammar) (judge : Judge) (stack : List Pushed) (probe : Token ℕ) : Type 0 where
   pub read : (next : List Pushed) → Leads G judge (record { stack = stack; rest = probe ∷ [] })
       (record { stack = next; rest = [] }) → Next G judge stack probe.terminal
   pub accepted : (c : Configuration) (d : Tree) → Leads G judge (record { stack = stack; rest = probe ∷ [] }) c
@@ -73,7 +73,7 @@ pub record IsTold (G : Grammar) (judge : Judge) (stack : List Pushed) (probe : T
       → Refuses G judge c → Next G judge stack probe.terminal → ⊥
 
 abbrev pub OneTokenTells : Type 0
-OneTokenTells = (G : Grammar) (judge : Judge) (stack : List Pushed) (probe : Token ℕ) → IsTold G judge stack probe
+OneTokenTells = (G : Grammar) (judge : Judge) (stack : List Pushed) (probe : Token ℕ) → DecidesNext G judge stack probe
 
 -- the stack after tokens that are read is unique
 abbrev pub ReadsToOne : Type 0

@@ -5,21 +5,21 @@ use Rattle.ly_join.specs.Joined.{Spec}
 use Rattle.ly_join.specs.declared.precedence.Associativity.{Associativity}
 use Rattle.ly_join.specs.declared.precedence.Associativity.TheVariants.{Left, Right, Nonassociative}
 use Rattle.ly_join.specs.declared.precedence.Precedence.{Precedence}
-use Rattle.ly_resolve.specs.Actions.{Judge, Verdict, to_shift, to_reduce, to_error, unsettled}
+use Rattle.ly_resolve.specs.Actions.{Judge, PrecedenceVerdict, to_shift, to_reduce, to_error, unsettled}
 
 -- for equal precedences, left prefers the reduction, right the shift, and nonassociative neither
-abbrev pub between_equals : Associativity → Verdict
+abbrev pub between_equals : Associativity → PrecedenceVerdict
 between_equals Left = to_reduce
 between_equals Right = to_shift
 between_equals Nonassociative = to_error
 
 -- the verdict on a rule's precedence against a terminal's: the higher wins
-abbrev pub by_levels : Precedence → Precedence → Verdict
+abbrev pub by_levels : Precedence → Precedence → PrecedenceVerdict
 by_levels rule token = if ltb token.level rule.level then to_reduce
     else (if ltb rule.level token.level then to_shift else between_equals token.associativity)
 
 -- there is no verdict unless both have a precedence
-abbrev pub verdict_of : Option Precedence → Option Precedence → Verdict
+abbrev pub verdict_of : Option Precedence → Option Precedence → PrecedenceVerdict
 verdict_of (Some rule) (Some token) = by_levels rule token
 verdict_of _ _ = unsettled
 

@@ -30,10 +30,10 @@ mod conflict;
 mod conflicts;
 mod laws;
 mod meeting;
+mod precedence_verdict;
 mod resolved;
 mod settle;
 mod shifting;
-mod verdict;
 
 pub use action::{Action, TerminalAction};
 pub use conflict::{Conflict, ConflictKind};

@@ -11,7 +11,7 @@ ghost use Rattle.ly_resolve.specs.Values.{action_from, conflict_from, kind_from,
 use crate::action::Action;
 use crate::conflict::{Conflict, ConflictKind};
 use crate::conflicts::Conflicts;
-use crate::verdict::{Verdict, judge};
+use crate::precedence_verdict::{PrecedenceVerdict, judge};
 use ly_base::{RuleNo, StateNo, Sym};
 use ly_join::Spec;
 use std::alloc::AllocError;
@@ -81,7 +81,7 @@ impl<'a> Meeting<'a> {
             × (judge_of self.now.spec.now p self.now.terminal.0 ≡ to_error)) }
     {
         for rule in self.reductions {
-            if self.verdict(*rule) == Verdict::Error {
+            if self.verdict(*rule) == PrecedenceVerdict::Error {
                 return true;
             }
         }
@@ -93,11 +93,11 @@ impl<'a> Meeting<'a> {
         ensures { IsTrue result
             ↔ (IsTrue self.now.shift → judge_of self.now.spec.now rule self.now.terminal.0 ≡ to_reduce) }
     {
-        !self.shift || self.verdict(rule) == Verdict::Reduce
+        !self.shift || self.verdict(rule) == PrecedenceVerdict::Reduce
     }
 
     /// The verdict of precedence on a reduction against the shift.
-    fn verdict(&self, rule: u32) -> Verdict
+    fn verdict(&self, rule: u32) -> PrecedenceVerdict
         ensures { verdict_from result ≡ judge_of self.now.spec.now rule self.now.terminal.0 }
     {
         judge(self.spec, rule as usize, self.terminal)
@@ -158,7 +158,8 @@ impl<'a> Meeting<'a> {
             (action_from choice) (kind_from kind) rule }
     {
         match kind {
-            ConflictKind::ShiftReduce => self.shift && self.verdict(rule) == Verdict::Unsettled,
+            ConflictKind::ShiftReduce => self.shift
+                && self.verdict(rule) == PrecedenceVerdict::Unsettled,
             ConflictKind::ReduceReduce => choice != Action::Reduce(RuleNo(rule))
                 && self.stays(rule),
         }

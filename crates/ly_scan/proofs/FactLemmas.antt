@@ -10,16 +10,16 @@ use Rattle.ly_base.specs.declared.numbers.RuleNo.{RuleNo}
 use Rattle.ly_scan.proofs.PieceLemmas.{stands_fast}
 use Rattle.ly_scan.proofs.WalkLemmas.{best_fast, ends_best, ends_within}
 use Rattle.ly_scan.specs.Cuts.{token_len}
-use Rattle.ly_scan.specs.Facts.{IsTold, fact_by, facts_by, is_whole}
+use Rattle.ly_scan.specs.Facts.{IsTaggedLexeme, fact_by, facts_by, is_whole}
 use Rattle.ly_scan.specs.Lexer.{Scanner}
 use Rattle.ly_scan.specs.Lexers.{scanner_of}
-use Rattle.ly_scan.specs.Pieces.{StandsFast}
+use Rattle.ly_scan.specs.Pieces.{IsDecided}
 use Rattle.ly_scan.specs.StateRows.{state_at}
 use Rattle.ly_scan.specs.StateTable.{StateTable, ahead_at, cut_at, start_at, states_of}
 use Rattle.ly_scan.specs.StateWalk.{ahead_of-ended}
 use Rattle.ly_scan.specs.Walk.{IsLongest, Walk}
 use Rattle.ly_scan.specs.declared.state_rows.RowStart.{RowStart}
-use Rattle.ly_scan.specs.declared.told.Told.{Told}
+use Rattle.ly_scan.specs.declared.tagged_lexeme.TaggedLexeme.{TaggedLexeme}
 
 whole_is : (cut : Cut) → is_whole cut ≡ true → cut ≡ Whole
 whole_is Whole e = refl
@@ -56,7 +56,7 @@ told_there : (t : StateTable) (q : Place) (line : Bool) (start at : RowStart) (n
     → ((text : List ℕ) → ahead_at t at text ≡ ahead_at t start (take n q.rest ++ text))
     → ahead_at t start (take (n + 1) q.rest) ≡ None → slice_index_or t.rules (state_at at) None ≡ Some rule
     → cut_at t rule.0 ≡ Whole
-    → StandsFast false (scanner_of t) q (record { rule = rule; matched = n; taken = n })
+    → IsDecided false (scanner_of t) q (record { rule = rule; matched = n; taken = n })
 told_there t q line start at n rule initial lines begun some within on ended is whole =
     stands_fast s q false rule n n (λ more follows. (
       best_fast walk q.rest more (Some (n, rule)) stays
@@ -81,13 +81,13 @@ told_there t q line start at n rule initial lines begun some within on ended is 
         on refl (sym (ap (option_map (λ (r : RuleNo). r.0)) is)) (λ less. ended)
 
 -- so it is told by the state
-pub is_told : (t : StateTable) (q : Place) (line : Bool) (start at : RowStart) (by_rule facts : List ℕ) (told : Told)
+pub is_told : (t : StateTable) (q : Place) (line : Bool) (start at : RowStart) (by_rule facts : List ℕ) (told : TaggedLexeme)
     → facts ≡ facts_by t by_rule → state_at at < length t.rules → get_or facts (state_at at) 0 ≡ told.fact
     → told.fact ≢ 0 → q.condition ≡ 0 → (scanner_of t).walk 0 line ≡ (scanner_of t).walk 0 q.line
     → ((text : List ℕ) → ahead_at t start text ≡ (scanner_of t).walk 0 line text) → 0 < told.taken
     → told.taken < length q.rest
     → ((text : List ℕ) → ahead_at t at text ≡ ahead_at t start (take told.taken q.rest ++ text))
-    → ahead_at t start (take (told.taken + 1) q.rest) ≡ None → IsTold (scanner_of t) by_rule q told
+    → ahead_at t start (take (told.taken + 1) q.rest) ≡ None → IsTaggedLexeme (scanner_of t) by_rule q told
 is_told t q line start at by_rule facts told all there found more initial lines begun some within on ended =
     let fact : fact_by t by_rule (slice_index_or t.rules (state_at at) None) ≡ told.fact
     = sym (get_or-map (fact_by t by_rule) t.rules (state_at at) None 0 there)

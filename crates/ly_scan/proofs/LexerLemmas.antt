@@ -7,7 +7,7 @@ use Rattle.ly_scan.proofs.MatcherLemmas.{not_ended}
 use Rattle.ly_scan.specs.KnownWalks.{AreKnown, Known}
 use Rattle.ly_scan.specs.Lexer.{Scanner}
 use Rattle.ly_scan.specs.LoneBytes.{IsLoneAt}
-use Rattle.ly_scan.specs.Matcher.{IsDecided, IsUnderway, StandsBehind, Underway}
+use Rattle.ly_scan.specs.Matcher.{IsDecidedMatch, IsUnderway, StandsBehind, Underway}
 use Rattle.ly_scan.specs.Lexers.{IsUnderwayAt, Lexer, scanner_of}
 use Rattle.ly_scan.specs.Pieces.{IsUndecided, PassesOver, and_one, behind, none_yet}
 use Rattle.ly_scan.specs.StateTable.{StandsIn, StateTable, ahead_at}
@@ -19,7 +19,7 @@ use Rattle.ly_scan.specs.declared.state_rows.RowStart.{RowStart}
 abbrev pub Becomes : StateTable → ℕ → Bool → List ℕ → Option Match → Underway RowStart → Type 0
 Becomes t condition line seen o u = MatchOption o
     (IsUnderway ((scanner_of t).walk condition line) (ahead_at t) (StandsIn t) seen u)
-    (IsDecided ((scanner_of t).walk condition line) (scanner_of t).cut seen)
+    (IsDecidedMatch ((scanner_of t).walk condition line) (scanner_of t).cut seen)
 
 -- a match that all bytes at a place don't decide is under way
 pub underway_at : (l : Lexer) (q : Place) (condition : ℕ) (line : Bool) (bytes : List ℕ) (o : Option Match)

@@ -10,7 +10,7 @@ use Rattle.ly_base.specs.declared.cut.Cut.{Cut}
 use Rattle.ly_base.specs.declared.numbers.RuleNo.{RuleNo}
 use Rattle.ly_scan.proofs.LexingLemmas.{no_bytes}
 use Rattle.ly_scan.proofs.WalkLemmas.{best_ended, best_further, best_next, none_from_start, told}
-use Rattle.ly_scan.specs.Matcher.{IsDecided, IsUnderway, StandsBehind, Underway}
+use Rattle.ly_scan.specs.Matcher.{IsDecidedMatch, IsUnderway, StandsBehind, Underway}
 use Rattle.ly_scan.specs.Matching.{IsMatch}
 use Rattle.ly_scan.specs.Walk.{IsBest, Walk, better_of}
 use Rattle.ly_scan.specs.declared.matching.Match.{Match}
@@ -29,7 +29,7 @@ begun walk ahead stands at there = record {
 -- what a walk that can't begin finds
 pub decided_at_once : {P : Type 0} (walk : Walk) (ahead : P → Walk) (stands : P → Type 0) (cut : ℕ → Cut)
     (seen bytes : List ℕ) (u : Underway P) → ((t v : List ℕ) → walk t ≡ None → walk (t ++ v) ≡ None) → u.at ≡ None
-    → bytes ≢ [] → IsUnderway walk ahead stands seen u → IsDecided walk cut (seen ++ bytes) Stuck
+    → bytes ≢ [] → IsUnderway walk ahead stands seen u → IsDecidedMatch walk cut (seen ++ bytes) Stuck
 decided_at_once walk ahead stands cut seen bytes u stays none some h =
     let there : StandsBehind walk ahead stands seen None = subst (StandsBehind walk ahead stands seen) none h.there in
     let same : seen ++ bytes ≡ bytes = ap (λ t. t ++ bytes) there.0 in
@@ -43,7 +43,7 @@ decided_at_once walk ahead stands cut seen bytes u stays none some h =
 decided_here : (walk : Walk) (cut : ℕ → Cut) (text : List ℕ) (i : ℕ) (best : Option (ℕ × RuleNo)) (m : Match)
     → i < length text → ((t u : List ℕ) → walk t ≡ None → walk (t ++ u) ≡ None) → walk (take (i + 1) text) ≡ None
     → IsBest walk text i best
-    → ((t : List ℕ) → IsBest walk t (length t) best → IsMatch walk cut t m) → IsDecided walk cut text m
+    → ((t : List ℕ) → IsBest walk t (length t) best → IsMatch walk cut t m) → IsDecidedMatch walk cut text m
 decided_here walk cut text i best m lt stays none h match = record {
   some = λ e. omega (arith, lt, ap length e);
   ended = ap walk (sym (take-append-drop (i + 1) text)) ∙ stays (take (i + 1) text) (drop (i + 1) text) none;
@@ -58,7 +58,7 @@ pub decided_behind : (walk here : Walk) (cut : ℕ → Cut) (seen bytes : List �
     (m : Match) → i < length bytes → ((t u : List ℕ) → walk t ≡ None → walk (t ++ u) ≡ None)
     → ((text : List ℕ) → here text ≡ walk ((seen ++ take i bytes) ++ text)) → here (get_or bytes i 0 ∷ []) ≡ None
     → IsBest walk (seen ++ take i bytes) (length (seen ++ take i bytes)) best
-    → ((t : List ℕ) → IsBest walk t (length t) best → IsMatch walk cut t m) → IsDecided walk cut (seen ++ bytes) m
+    → ((t : List ℕ) → IsBest walk t (length t) best → IsMatch walk cut t m) → IsDecidedMatch walk cut (seen ++ bytes) m
 decided_behind walk here cut seen bytes i best m lt stays there none h match =
     let n : ℕ = length (seen ++ take i bytes) in
     let b : ℕ = get_or bytes i 0 in

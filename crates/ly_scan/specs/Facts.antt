@@ -6,9 +6,9 @@ use Rattle.ly_base.specs.declared.cut.Cut.TheVariants.{Head, Tail, Whole}
 use Rattle.ly_base.specs.declared.lexeme.Lexeme.{Lexeme}
 use Rattle.ly_base.specs.declared.numbers.RuleNo.{RuleNo}
 use Rattle.ly_scan.specs.Lexer.{Scanner}
-use Rattle.ly_scan.specs.Pieces.{StandsFast}
+use Rattle.ly_scan.specs.Pieces.{IsDecided}
 use Rattle.ly_scan.specs.StateTable.{StateTable, cut_at}
-use Rattle.ly_scan.specs.declared.told.Told.{Told}
+use Rattle.ly_scan.specs.declared.tagged_lexeme.TaggedLexeme.{TaggedLexeme}
 
 abbrev pub is_whole : Cut → Bool
 is_whole Whole = true
@@ -24,11 +24,11 @@ fact_by t by_rule (Some rule) = if is_whole (cut_at t rule.0) then get_or by_rul
 abbrev pub facts_by : StateTable → List ℕ → List ℕ
 facts_by t by_rule = map (fact_by t by_rule) t.rules
 
--- The place has a lexeme, whatever bytes follow the known ones. Told has the number of bytes taken and the fact of its
+-- The place has a lexeme, whatever bytes follow the known ones. TaggedLexeme has the number of bytes taken and the fact of its
 -- rule.
-pub record IsTold (s : Scanner) (by_rule : List ℕ) (q : Place) (told : Told) : Type 0 where
+pub record IsTaggedLexeme (s : Scanner) (by_rule : List ℕ) (q : Place) (told : TaggedLexeme) : Type 0 where
   pub lexeme : Lexeme
-  pub stands : StandsFast false s q lexeme
+  pub stands : IsDecided false s q lexeme
   pub taken : lexeme.taken ≡ told.taken
   pub fact : get_or by_rule lexeme.rule.0 0 ≡ told.fact
   pub some : told.fact ≢ 0

@@ -4,7 +4,7 @@ use Rattle.ly_base.specs.Lexed.{Place}
 use Rattle.ly_base.specs.declared.cut.Cut.TheVariants.{Whole}
 use Rattle.ly_base.specs.declared.lexeme.Lexeme.{Lexeme}
 use Rattle.ly_scan.specs.Lexer.{Scanner}
-use Rattle.ly_scan.specs.Pieces.{StandsFast}
+use Rattle.ly_scan.specs.Pieces.{IsDecided}
 
 -- a byte alone, at the start of a line or not, has a rule that is skipped and has no trailing context
 pub record IsOfPassed (s : Scanner) (passed : List Bool) (line : Bool) (byte : ℕ) : Type 0 where
@@ -24,6 +24,6 @@ pub record AreLone (s : Scanner) (passed : List Bool) (l : List Bool × List Boo
 -- a skipped lexeme of one byte begins at the place, whatever bytes follow the known ones
 pub record IsLoneAt (s : Scanner) (passed : List Bool) (p : Place) : Type 0 where
   pub lexeme : Lexeme
-  pub stands : StandsFast false s p lexeme
+  pub stands : IsDecided false s p lexeme
   pub one : lexeme.taken ≡ 1
   pub is_passed : slice_get passed lexeme.rule.0 ≡ Some true

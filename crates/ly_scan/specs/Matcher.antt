@@ -27,7 +27,7 @@ pub record IsUnderway {P : Type 0} (walk : Walk) (ahead : P → Walk) (stands : 
   pub best : IsBest walk seen (length seen) u.best
 
 -- A match is decided by the bytes so far, whatever bytes follow: its walk has ended.
-pub record IsDecided (walk : Walk) (cut : ℕ → Cut) (seen : List ℕ) (m : Match) : Type 0 where
+pub record IsDecidedMatch (walk : Walk) (cut : ℕ → Cut) (seen : List ℕ) (m : Match) : Type 0 where
   pub some : seen ≢ []
   pub ended : walk seen ≡ None
   pub is : (more : List ℕ) → IsMatch walk cut (seen ++ more) m

@@ -1,7 +1,7 @@
 ghost use Rattle.std.specs.Prelude.{◌≡◌, ℕ, false, IfErr, IfOk, MatchOption};
 ghost use Rattle.ly_scan.specs.KnownWalks.{AreKnown};
 ghost use Rattle.ly_scan.specs.Lexer.{Scanner};
-ghost use Rattle.ly_scan.specs.Pieces.{EndsFast, IsUndecided, StandsFast};
+ghost use Rattle.ly_scan.specs.Pieces.{EndIsDecided, IsUndecided, IsDecided};
 
 use crate::known_walks::KnownWalks;
 use crate::matching::{Match, known_match};
@@ -20,9 +20,9 @@ pub fn next_lexeme<S: Steps>(
 ) -> Result<Option<Lexeme>, End>
     requires known { AreKnown (S.ahead_by steps.now) ended place.now.rest known.old }
     ensures found { let s : Scanner = record { walk = S.walk steps.now; cut = S.cut_of steps.now } in
-        IfOk result (λ o. MatchOption o ((ended ≡ false) × IsUndecided s place.now) (StandsFast ended s place.now)) }
+        IfOk result (λ o. MatchOption o ((ended ≡ false) × IsUndecided s place.now) (IsDecided ended s place.now)) }
     ensures end { let s : Scanner = record { walk = S.walk steps.now; cut = S.cut_of steps.now } in
-        IfErr result (EndsFast ended s place.now) }
+        IfErr result (EndIsDecided ended s place.now) }
     ensures known { AreKnown (S.ahead_by steps.now) ended place.now.rest known.new }
 {
     let rest = place.rest();

@@ -2,10 +2,10 @@ ghost use Rattle.std.specs.Prelude.{◌≡◌, ◌<◌, ◌≤◌, ◌+◌, ◌^
 ghost use Rattle.std.specs.Prelude.{IfSome, MatchOption};
 ghost use Rattle.ly_base.specs.Lexed as lexed;
 ghost use Rattle.ly_scan.specs.Beginning.{anywhere, by_line, IsBegun};
-ghost use Rattle.ly_scan.specs.Facts.{fact_by, facts_by, IsTold};
+ghost use Rattle.ly_scan.specs.Facts.{fact_by, facts_by, IsTaggedLexeme};
 ghost use Rattle.ly_scan.specs.KnownWalks.{AreKnown};
 ghost use Rattle.ly_scan.specs.Lexers.{scanner_of, IsUnderwayAt};
-ghost use Rattle.ly_scan.specs.Pieces.{behind, EndsFast, IsUndecided, PassesOver, StandsFast};
+ghost use Rattle.ly_scan.specs.Pieces.{behind, EndIsDecided, IsUndecided, PassesOver, IsDecided};
 ghost use Rattle.ly_scan.specs.StateTable.{ahead_at, ahead_in, StandsIn};
 
 use crate::beginning::{Anywhere, Beginning, ByLine};
@@ -17,7 +17,7 @@ use crate::matching::walk_on;
 use crate::scanner::Scanner;
 use crate::state_rows::RowStart;
 use crate::steps::Steps;
-use crate::told::Told;
+use crate::tagged_lexeme::TaggedLexeme;
 use ly_base::{Cut, End, Lexeme, OutOfMemory, Place, RuleNo};
 use std::alloc::Global;
 use std::marker::Model;
@@ -81,8 +81,8 @@ impl Lexer {
         ensures left { length place.new.rest ≤ length place.old.rest }
         ensures found { let s = scanner_of self.now.scanner in
             IfOk result (λ o. MatchOption o ((ended ≡ false) × IsUndecided s place.new)
-            (StandsFast ended s place.new)) }
-        ensures end { IfErr result (EndsFast ended (scanner_of self.now.scanner) place.new) }
+            (IsDecided ended s place.new)) }
+        ensures end { IfErr result (EndIsDecided ended (scanner_of self.now.scanner) place.new) }
         ensures known { (taken : ℕ) → taken ≤ length place.new.rest
             → AreKnown (ahead_in self.now.scanner) ended (drop taken place.new.rest) known.new }
     {
@@ -107,12 +107,17 @@ impl Lexer {
     /// Returns `None` in some cases although there is a lexeme: in a condition other than the initial one, if the fact
     /// is 0, if the walk reaches the end of the bytes, and if matches are cached for points after it.
     #[inline(always)] // leaves the registers to a loop over such lexemes
-    pub fn tell(&self, facts: &[u32], place: &mut Place<'_>, known: &KnownWalks) -> Option<Told>
+    pub fn tell(
+        &self,
+        facts: &[u32],
+        place: &mut Place<'_>,
+        known: &KnownWalks,
+    ) -> Option<TaggedLexeme>
         requires full { length facts.now ≡ length self.now.scanner.rules }
         ensures passed { PassesOver (scanner_of self.now.scanner) self.now.passed place.old place.new }
         ensures left { length place.new.rest ≤ length place.old.rest }
         ensures told { (by_rule : List ℕ) → facts.now ≡ facts_by self.now.scanner by_rule
-            → IfSome result (IsTold (scanner_of self.now.scanner) by_rule place.new) }
+            → IfSome result (IsTaggedLexeme (scanner_of self.now.scanner) by_rule place.new) }
     {
         self.pass_over(place);
         let rest = place.rest();
@@ -146,13 +151,13 @@ impl Lexer {
         beginning: &B,
         facts: &[u32],
         place: &mut Place<'_>,
-    ) -> Option<Told>
+    ) -> Option<TaggedLexeme>
         requires begun { IsBegun self.now.scanner (B.begun beginning.now) }
         requires full { length facts.now ≡ length self.now.scanner.rules }
         ensures passed { PassesOver (scanner_of self.now.scanner) self.now.passed place.old place.new }
         ensures left { length place.new.rest ≤ length place.old.rest }
         ensures told { (by_rule : List ℕ) → facts.now ≡ facts_by self.now.scanner by_rule
-            → IfSome result (IsTold (scanner_of self.now.scanner) by_rule place.new) }
+            → IfSome result (IsTaggedLexeme (scanner_of self.now.scanner) by_rule place.new) }
     {
         self.pass_over(place);
         if place.condition() != 0 {
@@ -164,14 +169,14 @@ impl Lexer {
 
     /// Determines the lexeme at a place in the initial condition, whose walk begins at `start`.
     #[inline(always)] // as `tell`
-    fn tell_behind(&self, start: RowStart, facts: &[u32], place: &Place<'_>) -> Option<Told>
+    fn tell_behind(&self, start: RowStart, facts: &[u32], place: &Place<'_>) -> Option<TaggedLexeme>
         requires full { length facts.now ≡ length self.now.scanner.rules }
         requires initial { place.now.condition ≡ 0 }
         requires stands { StandsIn self.now.scanner start }
         requires there { (text : List ℕ) → ahead_at self.now.scanner start text
             ≡ (scanner_of self.now.scanner).walk 0 place.now.line text }
         ensures { (by_rule : List ℕ) → facts.now ≡ facts_by self.now.scanner by_rule
-            → IfSome result (IsTold (scanner_of self.now.scanner) by_rule place.now) }
+            → IfSome result (IsTaggedLexeme (scanner_of self.now.scanner) by_rule place.now) }
     {
         let rest = place.rest();
         let (taken, at) = walk_on(&self.scanner, start, rest);
@@ -182,7 +187,7 @@ impl Lexer {
         if fact == 0 {
             return None;
         }
-        Some(Told { fact, taken })
+        Some(TaggedLexeme { fact, taken })
     }
 
     /// Returns the match at a place, which the bytes left don't decide. It has read all of them.

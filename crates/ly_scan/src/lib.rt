@@ -35,7 +35,7 @@ mod scanner_parts;
 mod starts;
 mod state_rows;
 mod steps;
-mod told;
+mod tagged_lexeme;
 
 pub use beginning::{Anywhere, Beginning, ByLine};
 pub use known_walks::KnownWalks;
@@ -48,4 +48,4 @@ pub use scanner_parts::ScannerParts;
 pub use starts::Starts;
 pub use state_rows::{RowStart, StateRows};
 pub use steps::Steps;
-pub use told::Told;
+pub use tagged_lexeme::TaggedLexeme;

@@ -1,5 +1,5 @@
 ghost use Rattle.std.specs.Prelude.{◌≡◌, ◌<◌, ◌+◌, ◌^◌, ℕ, List, [], ◌++◌, Bool, length, IfSome, MatchOption};
-ghost use Rattle.ly_scan.specs.Matcher.{IsDecided, IsUnderway};
+ghost use Rattle.ly_scan.specs.Matcher.{IsDecidedMatch, IsUnderway};
 
 use crate::matching::{Match, better, match_of};
 use crate::steps::Steps;
@@ -51,7 +51,7 @@ impl<P: Copy> Matcher<P> {
             → IsUnderway (S.walk steps.now condition line) (S.ahead steps.now) (S.stands steps.now) seen self.old
             → MatchOption result
             (IsUnderway (S.walk steps.now condition line) (S.ahead steps.now) (S.stands steps.now) (seen ++ bytes.now)
-            self.new) (IsDecided (S.walk steps.now condition line) (S.cut_of steps.now) (seen ++ bytes.now)) }
+            self.new) (IsDecidedMatch (S.walk steps.now condition line) (S.cut_of steps.now) (seen ++ bytes.now)) }
     {
         let Some(start) = self.at else {
             return if bytes.is_empty() {

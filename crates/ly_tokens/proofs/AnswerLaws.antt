@@ -20,7 +20,7 @@ use Rattle.ly_lexread.specs.declared.action.Returned.TheVariants.{Nothing, Token
 use Rattle.ly_lexread.proofs.FileLemmas.{lex_text_one, rules_cut}
 use Rattle.ly_lexread.proofs.LexingLaws.{lexing_one}
 use Rattle.ly_lexread.proofs.SameLemmas.{lexing_under}
-use Rattle.ly_tokens.specs.Answering.{IsAnswer, lines_in, names_by}
+use Rattle.ly_tokens.specs.Answering.{IsTokenOutput, lines_in, names_by}
 use Rattle.ly_tokens.specs.Laws.{AnswerIsOne}
 use Rattle.ly_tokens.specs.Printing.{condition_set, end_line, naming, printed, terminal_for}
 
@@ -75,13 +75,13 @@ lines_same Json xs ys h text ts e = ap (λ l. token_lines Json text l ++ listing
 pub answer_one : AnswerIsOne
 answer_one form limits others lex text e f answer other a b =
     let same = lex_text_one lex a.file b.file a.spelled b.spelled in
-    let here : IsAnswer form (defined b.file.names) a.file.rules.items a.file.actions.items text e answer =
-    subst (λ t. IsAnswer form (defined b.file.names) a.file.rules.items a.file.actions.items t e answer) a.is_text
-    (subst (λ names. IsAnswer form (defined names) a.file.rules.items a.file.actions.items a.text e answer) same.names
+    let here : IsTokenOutput form (defined b.file.names) a.file.rules.items a.file.actions.items text e answer =
+    subst (λ t. IsTokenOutput form (defined b.file.names) a.file.rules.items a.file.actions.items t e answer) a.is_text
+    (subst (λ names. IsTokenOutput form (defined names) a.file.rules.items a.file.actions.items a.text e answer) same.names
     a.is_answer)
     in
-    let there : IsAnswer form (defined b.file.names) b.file.rules.items b.file.actions.items text f other =
-    subst (λ t. IsAnswer form (defined b.file.names) b.file.rules.items b.file.actions.items t f other) b.is_text
+    let there : IsTokenOutput form (defined b.file.names) b.file.rules.items b.file.actions.items text f other =
+    subst (λ t. IsTokenOutput form (defined b.file.names) b.file.rules.items b.file.actions.items t f other) b.is_text
     b.is_answer in
     let under = lexing_under (defined b.file.names) a.file.rules.items b.file.rules.items same.rules
     (condition_set a.file.actions.items) (condition_set b.file.actions.items)

@@ -12,7 +12,7 @@ use Rattle.ly_scan.specs.Lexer.{Scanner, IsLexemeAt, ScanEndsAt}
 use Rattle.ly_tokens.specs.Agreement.{Agrees}
 use Rattle.ly_listing.specs.Listings.{IsListing, LeavesTokens}
 use Rattle.ly_print.specs.declared.answer_form.AnswerForm.TheVariants.{Json, Plain}
-use Rattle.ly_tokens.specs.Answering.{IsAnswer, lines_in, names_by}
+use Rattle.ly_tokens.specs.Answering.{IsTokenOutput, lines_in, names_by}
 use Rattle.ly_tokens.specs.Printing.{condition_set, end_line, naming, printed}
 use Rattle.ly_tokens.specs.Private.RunEnd.{EndsSo}
 use Rattle.ly_tokens.specs.Private.TokenLines.{AreLines}
@@ -21,7 +21,7 @@ use Rattle.ly_tokens.proofs.AgreementLemmas.{lexing_of}
 -- the lines that a scanner's run gives are the answer
 pub answer_of : (names : List Expression) (rules : List Rule) (actions given : List LexAction) (s : Scanner)
     (text : List ℕ) (e : End) (lines : List ℕ) → Agrees names rules s → given ≡ actions
-    → AreLines s given (start_of text) e lines → IsAnswer Plain names rules actions text e lines
+    → AreLines s given (start_of text) e lines → IsTokenOutput Plain names rules actions text e lines
 answer_of names rules actions given s text e lines agrees by h =
     let run : Lexed (IsLexemeAt s) (ScanEndsAt s) (condition_set actions) (start_of text) h.0 e =
     subst (λ (xs : List LexAction). Lexed (IsLexemeAt s) (ScanEndsAt s) (condition_set xs)
@@ -35,7 +35,7 @@ answer_of names rules actions given s text e lines agrees by h =
 pub listed_answer : (names : List Expression) (rules : List Rule) (actions given : List LexAction) (s : Scanner)
     (text : List ℕ) (e : End) (lines : List ℕ) → Agrees names rules s → given ≡ actions
     → IsListing Json s (names_by given) (condition_set given) text e lines
-    → IsAnswer Json names rules actions text e lines
+    → IsTokenOutput Json names rules actions text e lines
 listed_answer names rules actions given s text e lines agrees by h =
     let run : Lexed (IsLexemeAt s) (ScanEndsAt s) (condition_set actions) (start_of text) h.0 e =
     subst (λ (xs : List LexAction). Lexed (IsLexemeAt s) (ScanEndsAt s) (condition_set xs)

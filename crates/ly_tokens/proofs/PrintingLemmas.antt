@@ -18,7 +18,7 @@ use Rattle.ly_lexread.specs.declared.action.Returned.{Returned}
 use Rattle.ly_lexread.specs.declared.action.Returned.TheVariants.{Nothing, Token as TokenOf, Literal, FirstByte}
 use Rattle.ly_scan.specs.KnownWalks.{AreKnown}
 use Rattle.ly_scan.specs.Lexer.{ScanEndsAt, IsLexemeAt, Scanner}
-use Rattle.ly_scan.specs.Pieces.{PassesOver, StandsFast, and_one, none_yet}
+use Rattle.ly_scan.specs.Pieces.{PassesOver, IsDecided, and_one, none_yet}
 use Rattle.ly_scan.proofs.KnownWalkLemmas.{known_on}
 use Rattle.ly_scan.proofs.LexerLemmas.{known_passed}
 use Rattle.ly_scan.proofs.LexingLemmas.{lexes, tokens_on}
@@ -137,7 +137,7 @@ leads_nowhere actions s p = record {
 pub leads_told : (actions : List LexAction) (s : Scanner) (passed : List Bool) (p q r t : Place) (lexeme : Lexeme)
     (taken : ℕ) (token told more : List ℕ) → passed ≡ map is_passed actions
     → LeadsOn actions s p q told → PassesOver s passed q r → length r.rest ≤ length q.rest
-    → StandsFast false s r lexeme → lexeme.taken ≡ taken → condition_set actions lexeme.rule.0 ≡ None
+    → IsDecided false s r lexeme → lexeme.taken ≡ taken → condition_set actions lexeme.rule.0 ≡ None
     → t ≡ moved r taken None → token ≡ take taken r.rest
     → more ≡ told ++ line_if (naming actions lexeme.rule.0 token) token → LeadsOn actions s p t more
 leads_told actions s passed p q r t lexeme taken token told more same h over left fast is none at by line =

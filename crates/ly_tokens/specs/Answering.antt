@@ -26,7 +26,7 @@ lines_in Json actions text ts e =
 
 -- The lexing of the text under the rules and actions ends like this. The output is the lines of its tokens, including
 -- the last one.
-abbrev pub IsAnswer : AnswerForm → List Expression → List Rule → List LexAction → List ℕ → End → List ℕ → Type 0
-IsAnswer form names rules actions text e answer =
+abbrev pub IsTokenOutput : AnswerForm → List Expression → List Rule → List LexAction → List ℕ → End → List ℕ → Type 0
+IsTokenOutput form names rules actions text e answer =
     (ts : List Lexeme) × Lexing names rules (condition_set actions) (start_of text) ts e
     × (answer ≡ lines_in form actions text ts e)

@@ -8,7 +8,7 @@ use Rattle.ly_lexread.specs.declared.file.LexFile.{LexFile}
 use Rattle.ly_position.specs.TotalWeight.{total_weight}
 use Rattle.ly_print.specs.declared.answer_form.AnswerForm.{AnswerForm}
 use Rattle.ly_subset.specs.RuleSets.{HaveMoreSets}
-use Rattle.ly_tokens.specs.Answering.{IsAnswer}
+use Rattle.ly_tokens.specs.Answering.{IsTokenOutput}
 
 -- the bytes of a lex file whose patterns together exceed the weight limit
 abbrev pub AreTooHeavy : Sizes → List ℕ → Type 0
@@ -34,4 +34,4 @@ pub record Answers (form : AnswerForm) (limits : Sizes) (lex : List ℕ) (left :
   pub few : HaveMoreSets (defined file.names) file.rules.items file.conditions limits.scanner_states → ⊥
   pub text : List ℕ
   pub is_text : IfSome left (λ bytes. text ≡ bytes)
-  pub is_answer : IsAnswer form (defined file.names) file.rules.items file.actions.items text e answer
+  pub is_answer : IsTokenOutput form (defined file.names) file.rules.items file.actions.items text e answer

@@ -25,21 +25,21 @@ fault_of_read read.Read = Read
 fault_of_read read.OutOfMemory = OutOfMemory
 
 -- Nothing was written: any error but a failed write.
-abbrev pub IsBeforeWriting : TokensFault → Type 0
-IsBeforeWriting (Write written) = ⊥
-IsBeforeWriting _ = Unit {0}
+abbrev pub WroteNothing : TokensFault → Type 0
+WroteNothing (Write written) = ⊥
+WroteNothing _ = Unit {0}
 
 -- Nothing was read: the lex file is rejected, exceeds the weight limit, or its DFA has too many states.
-abbrev pub IsBeforeReading : TokensFault → Type 0
-IsBeforeReading (Lex fault) = Unit {0}
-IsBeforeReading (Positions fault) = Unit {0}
-IsBeforeReading (States fault) = Unit {0}
-IsBeforeReading _ = ⊥
+abbrev pub ReadNothing : TokensFault → Type 0
+ReadNothing (Lex fault) = Unit {0}
+ReadNothing (Positions fault) = Unit {0}
+ReadNothing (States fault) = Unit {0}
+ReadNothing _ = ⊥
 
 -- a write failed
-abbrev pub IsWrite : TokensFault → Type 0
-IsWrite (Write written) = Unit {0}
-IsWrite _ = ⊥
+abbrev pub IsFailedWrite : TokensFault → Type 0
+IsFailedWrite (Write written) = Unit {0}
+IsFailedWrite _ = ⊥
 
 -- what an error implies for a lex file that was read
 abbrev pub HasNoTokens : Sizes → LexFile → TokensFault → Type 0

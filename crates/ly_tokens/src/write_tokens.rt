@@ -17,10 +17,10 @@ ghost use Rattle.ly_subset.specs.declared.fault.SubsetFault.{SubsetFault};
 ghost use Rattle.ly_subset.specs.declared.fault.SubsetFault.TheVariants.{TooManyStates};
 ghost use Rattle.ly_scan.specs.Lexers.{scanner_of};
 ghost use Rattle.ly_tokens.specs.Agreement.{Agrees};
-ghost use Rattle.ly_tokens.specs.Answering.{IsAnswer};
+ghost use Rattle.ly_tokens.specs.Answering.{IsTokenOutput};
 ghost use Rattle.ly_tokens.specs.Answers.{Answers, AreTooHeavy, HaveTooManyStates};
 ghost use Rattle.ly_listing.specs.Listings.{end_of, LeavesTokens};
-ghost use Rattle.ly_tokens.specs.TokensFault.{HasNoTokens, IsBeforeReading, IsBeforeWriting, IsOfOutput, IsWrite};
+ghost use Rattle.ly_tokens.specs.TokensFault.{HasNoTokens, ReadNothing, WroteNothing, IsOfOutput, IsFailedWrite};
 ghost use Rattle.ly_tokens.specs.Private.FileAnswers.{FileAnswers};
 ghost use Rattle.ly_tokens.specs.Private.RunEnd.{AreSetBelow};
 ghost use Rattle.ly_tokens.specs.Private.TokenLines.{is_passed};
@@ -71,10 +71,10 @@ pub fn tokens<R: Source, W: Sink>(
     ensures ended { OnOk result (IsAtEnd (R.remaining reader.new)) }
     ensures read { IsErrOf result TokensFault.Read → R.failures reader.new ≡ next_count (R.failures reader.old) }
     ensures reader_held { (IsErrOf result TokensFault.Read → ⊥) → R.failures reader.new ≡ R.failures reader.old }
-    ensures write { IfErr result (λ e. IsWrite e → W.failures writer.new ≡ next_count (W.failures writer.old)) }
+    ensures write { IfErr result (λ e. IsFailedWrite e → W.failures writer.new ≡ next_count (W.failures writer.old)) }
     ensures writer_held { OnOk result (W.failures writer.new ≡ W.failures writer.old) }
-    ensures unread { IfErr result (λ e. IsBeforeReading e → reader.new ≡ reader.old) }
-    ensures untouched { IfErr result (λ e. IsBeforeWriting e → writer.new ≡ writer.old) }
+    ensures unread { IfErr result (λ e. ReadNothing e → reader.new ≡ reader.old) }
+    ensures untouched { IfErr result (λ e. WroteNothing e → writer.new ≡ writer.old) }
 {
     let limits = Limits::V2;
     let file = read_lex(alloc, lex, &limits)?;
@@ -101,10 +101,10 @@ fn write_answer<R: Source, W: Sink>(
     ensures ended { OnOk result (IsAtEnd (R.remaining reader.new)) }
     ensures read { IsErrOf result TokensFault.Read → R.failures reader.new ≡ next_count (R.failures reader.old) }
     ensures reader_held { (IsErrOf result TokensFault.Read → ⊥) → R.failures reader.new ≡ R.failures reader.old }
-    ensures write { IfErr result (λ e. IsWrite e → W.failures writer.new ≡ next_count (W.failures writer.old)) }
+    ensures write { IfErr result (λ e. IsFailedWrite e → W.failures writer.new ≡ next_count (W.failures writer.old)) }
     ensures writer_held { OnOk result (W.failures writer.new ≡ W.failures writer.old) }
-    ensures unread { IfErr result (λ e. IsBeforeReading e → reader.new ≡ reader.old) }
-    ensures untouched { IfErr result (λ e. IsBeforeWriting e → writer.new ≡ writer.old) }
+    ensures unread { IfErr result (λ e. ReadNothing e → reader.new ≡ reader.old) }
+    ensures untouched { IfErr result (λ e. WroteNothing e → writer.new ≡ writer.old) }
 {
     let lexer = lexer_of(alloc, file, limits)?;
     let text = read_whole(alloc, reader)?;
@@ -125,16 +125,16 @@ fn write_answer_by<W: Sink>(
     requires below { AreSetBelow file.now.actions.items file.now.conditions }
     requires some { 0 < file.now.conditions }
     ensures answered { IfOk result (λ end. (answer : List ℕ)
-        × IsAnswer form (defined file.now.names) file.now.rules.items file.now.actions.items text.now (end_of end)
+        × IsTokenOutput form (defined file.now.names) file.now.rules.items file.now.actions.items text.now (end_of end)
         answer
         × Appends (W.contents writer.old) (W.contents writer.new) answer) }
     ensures beginning { (written : ℕ) → result ≡ Err (TokensFault.Write written) → (e : End) × ((answer : List ℕ)
-        × IsAnswer form (defined file.now.names) file.now.rules.items file.now.actions.items text.now e answer
+        × IsTokenOutput form (defined file.now.names) file.now.rules.items file.now.actions.items text.now e answer
         × IsCutShort (W.contents writer.old) (W.contents writer.new) written answer) }
     ensures of_output { IfErr result IsOfOutput }
-    ensures write { IfErr result (λ e. IsWrite e → W.failures writer.new ≡ next_count (W.failures writer.old)) }
+    ensures write { IfErr result (λ e. IsFailedWrite e → W.failures writer.new ≡ next_count (W.failures writer.old)) }
     ensures writer_held { OnOk result (W.failures writer.new ≡ W.failures writer.old) }
-    ensures untouched { IfErr result (λ e. IsBeforeWriting e → writer.new ≡ writer.old) }
+    ensures untouched { IfErr result (λ e. WroteNothing e → writer.new ≡ writer.old) }
 {
     match form {
         AnswerForm::Plain => write_lines(alloc, file, lexer, text, writer),
@@ -155,16 +155,16 @@ fn write_lines<W: Sink>(
     requires below { AreSetBelow file.now.actions.items file.now.conditions }
     requires some { 0 < file.now.conditions }
     ensures answered { IfOk result (λ end. (answer : List ℕ)
-        × IsAnswer Plain (defined file.now.names) file.now.rules.items file.now.actions.items text.now (end_of end)
+        × IsTokenOutput Plain (defined file.now.names) file.now.rules.items file.now.actions.items text.now (end_of end)
         answer
         × Appends (W.contents writer.old) (W.contents writer.new) answer) }
     ensures beginning { (written : ℕ) → result ≡ Err (TokensFault.Write written) → (e : End) × ((answer : List ℕ)
-        × IsAnswer Plain (defined file.now.names) file.now.rules.items file.now.actions.items text.now e answer
+        × IsTokenOutput Plain (defined file.now.names) file.now.rules.items file.now.actions.items text.now e answer
         × IsCutShort (W.contents writer.old) (W.contents writer.new) written answer) }
     ensures of_output { IfErr result IsOfOutput }
-    ensures write { IfErr result (λ e. IsWrite e → W.failures writer.new ≡ next_count (W.failures writer.old)) }
+    ensures write { IfErr result (λ e. IsFailedWrite e → W.failures writer.new ≡ next_count (W.failures writer.old)) }
     ensures writer_held { OnOk result (W.failures writer.new ≡ W.failures writer.old) }
-    ensures untouched { IfErr result (λ e. IsBeforeWriting e → writer.new ≡ writer.old) }
+    ensures untouched { IfErr result (λ e. WroteNothing e → writer.new ≡ writer.old) }
 {
     if !are_countable(&file.actions, text.len()) {
         return Err(TokensFault::OutOfMemory);
@@ -191,16 +191,16 @@ fn write_listing<W: Sink>(
     requires below { AreSetBelow file.now.actions.items file.now.conditions }
     requires some { 0 < file.now.conditions }
     ensures answered { IfOk result (λ end. (answer : List ℕ)
-        × IsAnswer Json (defined file.now.names) file.now.rules.items file.now.actions.items text.now (end_of end)
+        × IsTokenOutput Json (defined file.now.names) file.now.rules.items file.now.actions.items text.now (end_of end)
         answer
         × Appends (W.contents writer.old) (W.contents writer.new) answer) }
     ensures beginning { (written : ℕ) → result ≡ Err (TokensFault.Write written) → (e : End) × ((answer : List ℕ)
-        × IsAnswer Json (defined file.now.names) file.now.rules.items file.now.actions.items text.now e answer
+        × IsTokenOutput Json (defined file.now.names) file.now.rules.items file.now.actions.items text.now e answer
         × IsCutShort (W.contents writer.old) (W.contents writer.new) written answer) }
     ensures of_output { IfErr result IsOfOutput }
-    ensures write { IfErr result (λ e. IsWrite e → W.failures writer.new ≡ next_count (W.failures writer.old)) }
+    ensures write { IfErr result (λ e. IsFailedWrite e → W.failures writer.new ≡ next_count (W.failures writer.old)) }
     ensures writer_held { OnOk result (W.failures writer.new ≡ W.failures writer.old) }
-    ensures untouched { IfErr result (λ e. IsBeforeWriting e → writer.new ≡ writer.old) }
+    ensures untouched { IfErr result (λ e. WroteNothing e → writer.new ≡ writer.old) }
 {
     let labels = RuleLabels::new(alloc, &file.actions)?;
     let Listing { lines, end } = list_tokens(alloc, lexer, &labels, AnswerForm::Json, text)?;

@@ -13,7 +13,7 @@ use Rattle.ly_tree.specs.Private.Grown.{child_term, grown, lists_from, terms_fro
 use Rattle.ly_tree.specs.Term.{Term, leaf, nothing}
 use Rattle.ly_tree.specs.declared.forest.TermRef.{TermRef}
 use Rattle.ly_tree.specs.declared.forest.TermRef.TheVariants.{LongNode, ShortLeaf}
-use Rattle.ly_tree.specs.declared.span.Span.{Span}
+use Rattle.ly_tree.specs.declared.node_span.NodeSpan.{NodeSpan}
 
 -- children come behind those so far
 terms_behind : (ls : Lists) (done : List Term) (rs : List TermRef)
@@ -94,8 +94,8 @@ short_seen f children n terminal start seen r h is same =
     )
 
 -- so is a long node
-pub long_node_seen : (texts : List ℕ) (long : List (Sym × List ℕ)) (spans : List Span) (rs : List TermRef) (f : Grown)
-    (children : List Term) (high low : ℕ) (s : Span) (r : TermRef) → grown (lists_from texts long spans) rs ≡ f
+pub long_node_seen : (texts : List ℕ) (long : List (Sym × List ℕ)) (spans : List NodeSpan) (rs : List TermRef) (f : Grown)
+    (children : List Term) (high low : ℕ) (s : NodeSpan) (r : TermRef) → grown (lists_from texts long spans) rs ≡ f
     → r ≡ LongNode high low → slice_get spans (number_of high low) ≡ Some s
     → term_of (record { lists = f.lists; children = children }) r ≡ node_over children s.count s.rule.0 s.start
 long_node_seen texts long spans rs f children high low s r view is there =

@@ -15,7 +15,7 @@ use Rattle.ly_tree.specs.Private.Grown.{child_term, grown, lists_from, long_leaf
 use Rattle.ly_tree.specs.Term.{Term, Terms, at_place, at_places, built, leaf, more, none, nothing}
 use Rattle.ly_tree.specs.declared.forest.TermRef.{TermRef}
 use Rattle.ly_tree.specs.declared.forest.TermRef.TheVariants.{LongLeaf, Node, ShortLeaf}
-use Rattle.ly_tree.specs.declared.span.Span.{Span}
+use Rattle.ly_tree.specs.declared.node_span.NodeSpan.{NodeSpan}
 
 bytes_in-joined : (ls ms : Lists) → bytes_in (joined ls ms) ≡ bytes_in ls + bytes_in ms
 bytes_in-joined ls ms =
@@ -53,7 +53,7 @@ lists_pay ls others ms bs f each byte h v e =
     omega (arith, before, after, more)
 
 -- a short leaf more
-pub short_pays : (texts ms text : List ℕ) (long : List (Sym × List ℕ)) (spans : List Span) (bs : List TermRef)
+pub short_pays : (texts ms text : List ℕ) (long : List (Sym × List ℕ)) (spans : List NodeSpan) (bs : List TermRef)
     (f : Grown) (each byte : ℕ) → AreKnown (lists_from texts long spans) [] bs
     → grown (lists_from texts long spans) bs ≡ f → ms ≡ texts ++ text
     → budget each byte (grown (lists_from ms long spans) bs) ≡ budget each byte f + byte * length text
@@ -63,7 +63,7 @@ short_pays texts ms text long spans bs f each byte h v e =
     ∙ omega arith
 
 -- another leaf more
-pub long_pays : (texts : List ℕ) (long ls : List (Sym × List ℕ)) (spans : List Span) (l : Sym × List ℕ)
+pub long_pays : (texts : List ℕ) (long ls : List (Sym × List ℕ)) (spans : List NodeSpan) (l : Sym × List ℕ)
     (bs : List TermRef) (f : Grown) (each byte : ℕ) → AreKnown (lists_from texts long spans) [] bs
     → grown (lists_from texts long spans) bs ≡ f → ls ≡ long ++ l ∷ []
     → budget each byte (grown (lists_from texts ls spans) bs) ≡ budget each byte f + byte * length l.1
@@ -89,8 +89,8 @@ node_pays ls rs cs qs f each byte v e =
     omega (arith, before, after, more)
 
 -- a long node more
-pub long_node_pays : (texts : List ℕ) (long : List (Sym × List ℕ)) (spans longer : List Span) (rs cs qs : List TermRef)
-    (f : Grown) (s : Span) (each byte : ℕ) → AreKnown (lists_from texts long spans) [] rs
+pub long_node_pays : (texts : List ℕ) (long : List (Sym × List ℕ)) (spans longer : List NodeSpan) (rs cs qs : List TermRef)
+    (f : Grown) (s : NodeSpan) (each byte : ℕ) → AreKnown (lists_from texts long spans) [] rs
     → grown (lists_from texts long spans) rs ≡ f → AllKnown f qs → cs ≡ rs ++ qs → longer ≡ spans ++ s ∷ []
     → budget each byte (grown (lists_from texts long longer) cs) ≡ budget each byte f + each * length qs
 long_node_pays texts long spans longer rs cs qs f s each byte h v k e last =

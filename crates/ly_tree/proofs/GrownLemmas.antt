@@ -16,7 +16,7 @@ use Rattle.ly_base.specs.declared.numbers.Sym.{Sym}
 use Rattle.ly_base.proofs.ListLemmas.{slice_get-behind}
 use Rattle.ly_tree.specs.declared.forest.TermRef.{TermRef}
 use Rattle.ly_tree.specs.declared.forest.TermRef.TheVariants.{LongLeaf, LongNode, Node, ShortLeaf}
-use Rattle.ly_tree.specs.declared.span.Span.{Span}
+use Rattle.ly_tree.specs.declared.node_span.NodeSpan.{NodeSpan}
 
 slice_get_inside : {A : Type 0} (xs : List A) (k : ℕ) → IsSome (slice_get xs k) → k < length xs
 slice_get_inside [] k h = absurd cc
@@ -181,14 +181,14 @@ short_is ls text bs f n t s e h is =
     ∙ ap (option_map (λ x. leaf t x)) (piece_is s n ls.texts (short_inside ls bs f n t s e h) ∙ ap Some (sym is))
 
 -- reading a leaf that isn't short
-pub long_inside : (texts : List ℕ) (long : List (Sym × List ℕ)) (spans : List Span) (bs : List TermRef) (f : Grown)
+pub long_inside : (texts : List ℕ) (long : List (Sym × List ℕ)) (spans : List NodeSpan) (bs : List TermRef) (f : Grown)
     (high low : ℕ) → grown (lists_from texts long spans) bs ≡ f → IsSome (term_of f (LongLeaf high low))
     → number_of high low < length long
 long_inside texts long spans bs f high low e h =
     let less = slice_get_inside f.lists.long_leaves (number_of high low) h in
     omega (arith, less, ap (λ g. length g.lists.long_leaves) e, length-map long long_leaf)
 
-pub long_is : (texts : List ℕ) (long : List (Sym × List ℕ)) (spans : List Span) (bs : List TermRef) (f : Grown)
+pub long_is : (texts : List ℕ) (long : List (Sym × List ℕ)) (spans : List NodeSpan) (bs : List TermRef) (f : Grown)
     (high low : ℕ) (l : Sym × List ℕ) → grown (lists_from texts long spans) bs ≡ f
     → slice_get long (number_of high low) ≡ Some l → StandsFor f (LongLeaf high low) (long_leaf l)
 long_is texts long spans bs f high low l e is =
@@ -196,14 +196,14 @@ long_is texts long spans bs f high low l e is =
     ∙ (slice_get-map long_leaf long (number_of high low) ∙ ap (option_map long_leaf) is)
 
 -- reading a long node
-span_there : (ts : List Term) (spans : List Span) (k : ℕ) → IsSome (node_by ts (slice_get spans k)) → k < length spans
+span_there : (ts : List Term) (spans : List NodeSpan) (k : ℕ) → IsSome (node_by ts (slice_get spans k)) → k < length spans
 span_there ts spans k h = slice_get_inside spans k (there (slice_get spans k) h)
   where
-    there : (o : Option Span) → IsSome (node_by ts o) → IsSome o
+    there : (o : Option NodeSpan) → IsSome (node_by ts o) → IsSome o
     there None h = h
     there (Some s) h = refl
 
-pub long_node_inside : (texts : List ℕ) (long : List (Sym × List ℕ)) (spans : List Span) (bs : List TermRef)
+pub long_node_inside : (texts : List ℕ) (long : List (Sym × List ℕ)) (spans : List NodeSpan) (bs : List TermRef)
     (f : Grown) (high low : ℕ) → grown (lists_from texts long spans) bs ≡ f
     → IsSome (term_of f (LongNode high low)) → number_of high low < length spans
 long_node_inside texts long spans bs f high low e h =
@@ -211,8 +211,8 @@ long_node_inside texts long spans bs f high low e h =
     omega (arith, less, ap (λ g. length g.lists.long_nodes) e)
 
 -- it is the node of its span
-pub long_node_is : (texts : List ℕ) (long : List (Sym × List ℕ)) (spans : List Span) (bs : List TermRef) (f : Grown)
-    (high low : ℕ) (s : Span) → grown (lists_from texts long spans) bs ≡ f
+pub long_node_is : (texts : List ℕ) (long : List (Sym × List ℕ)) (spans : List NodeSpan) (bs : List TermRef) (f : Grown)
+    (high low : ℕ) (s : NodeSpan) → grown (lists_from texts long spans) bs ≡ f
     → slice_get spans (number_of high low) ≡ Some s
     → term_of f (LongNode high low) ≡ term_of f (Node s.count s.rule.0 s.start)
 long_node_is texts long spans bs f high low s e is =
@@ -234,7 +234,7 @@ lists_keep ls others ms bs f h v e =
     (more_lists ls others (terms_from ls [] bs)))
 
 -- a short leaf more
-pub short_joined : (texts ms text : List ℕ) (long : List (Sym × List ℕ)) (spans : List Span) → ms ≡ texts ++ text
+pub short_joined : (texts ms text : List ℕ) (long : List (Sym × List ℕ)) (spans : List NodeSpan) → ms ≡ texts ++ text
     → lists_from ms long spans
     ≡ joined (lists_from texts long spans) (record { texts = text; long_leaves = []; long_nodes = [] })
 short_joined texts ms text long spans e = λ i. record {
@@ -243,7 +243,7 @@ short_joined texts ms text long spans e = λ i. record {
   long_nodes = sym (append-nil spans) i;
 }
 
-pub short_stands : (texts ms text : List ℕ) (long : List (Sym × List ℕ)) (spans : List Span) (bs : List TermRef)
+pub short_stands : (texts ms text : List ℕ) (long : List (Sym × List ℕ)) (spans : List NodeSpan) (bs : List TermRef)
     (n t s : ℕ) → ms ≡ texts ++ text → s ≡ length texts → n ≡ length text
     → StandsFor (grown (lists_from ms long spans) bs) (ShortLeaf n t s) (leaf t text)
 short_stands texts ms text long spans bs n t s e start count =
@@ -252,7 +252,7 @@ short_stands texts ms text long spans bs n t s e start count =
     ∙ (ap (λ k. piece (length texts) k (texts ++ text)) count ∙ piece_end texts text)))
 
 -- another leaf more
-pub long_joined : (texts : List ℕ) (long ls : List (Sym × List ℕ)) (spans : List Span) (l : Sym × List ℕ)
+pub long_joined : (texts : List ℕ) (long ls : List (Sym × List ℕ)) (spans : List NodeSpan) (l : Sym × List ℕ)
     → ls ≡ long ++ l ∷ [] → lists_from texts ls spans
     ≡ joined (lists_from texts long spans) (record { texts = []; long_leaves = long_leaf l ∷ []; long_nodes = [] })
 long_joined texts long ls spans l e =
@@ -260,7 +260,7 @@ long_joined texts long ls spans l e =
     = ap (map long_leaf) e ∙ map-append long_leaf long (l ∷ []) in
     λ i. record { texts = sym (append-nil texts) i; long_leaves = leaves i; long_nodes = sym (append-nil spans) i }
 
-pub long_stands : (texts : List ℕ) (long ls : List (Sym × List ℕ)) (spans : List Span) (bs : List TermRef)
+pub long_stands : (texts : List ℕ) (long ls : List (Sym × List ℕ)) (spans : List NodeSpan) (bs : List TermRef)
     (l : Sym × List ℕ) (high low : ℕ) → ls ≡ long ++ l ∷ [] → number_of high low ≡ length long
     → StandsFor (grown (lists_from texts ls spans) bs) (LongLeaf high low) (long_leaf l)
 long_stands texts long ls spans bs l high low e n =
@@ -310,8 +310,8 @@ node_stands ls rs cs qs f n p s ts known v e start count stand =
     ∙ ap (λ us. Some (built p us)) (all_of_map g qs ∙ stand_unwrapped g qs ts kept))
 
 -- a long node more: its children, and then its span
-module _ (texts : List ℕ) (long : List (Sym × List ℕ)) (spans longer : List Span) (rs cs qs : List TermRef) (f : Grown)
-    (s : Span) (known : AreKnown (lists_from texts long spans) [] rs)
+module _ (texts : List ℕ) (long : List (Sym × List ℕ)) (spans longer : List NodeSpan) (rs cs qs : List TermRef) (f : Grown)
+    (s : NodeSpan) (known : AreKnown (lists_from texts long spans) [] rs)
     (view : grown (lists_from texts long spans) rs ≡ f) (children : cs ≡ rs ++ qs)
     (last : longer ≡ spans ++ s ∷ []) where
   abbrev before : Lists

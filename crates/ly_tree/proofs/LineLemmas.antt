@@ -8,7 +8,7 @@ use Rattle.std.specs.Prelude.{codes, sum, IfSome, IsSome, Option}
 use Rattle.ly_base.specs.Bytes.{newline}
 use Rattle.ly_base.specs.declared.numbers.Sym.{Sym}
 use Rattle.ly_tree.proofs.CostLemmas.{length-terms_from}
-use Rattle.ly_tree.specs.Costs.{budget, bytes_in, cost, costs, IsPaid}
+use Rattle.ly_tree.specs.Costs.{budget, bytes_in, cost, costs, IsBoundedBySize}
 use Rattle.ly_tree.specs.Forest.{term_of, Grown, Lists}
 use Rattle.ly_tree.specs.Private.Grown.{grown, lists_from, long_leaf, terms_from, AllKnown}
 use Rattle.ly_tree.specs.Private.OfBytes.{AreOfBytes, IsOfBytes}
@@ -16,7 +16,7 @@ use Rattle.ly_tree.specs.Private.Printing.{left_of, term_at, term_text, IsOpen}
 use Rattle.ly_tree.specs.Term.{Term, Terms, built, leaf, more, none, nothing}
 use Rattle.ly_tree.specs.Written.{written, written_all, IsWithin, Notation}
 use Rattle.ly_tree.specs.declared.forest.TermRef.{TermRef}
-use Rattle.ly_tree.specs.declared.span.Span.{Span}
+use Rattle.ly_tree.specs.declared.node_span.NodeSpan.{NodeSpan}
 
 -- a child for each reference
 pub budget_is : (ls : Lists) (rs : List TermRef) (f : Grown) (each byte : ℕ) → grown ls rs ≡ f
@@ -27,7 +27,7 @@ budget_is ls rs f each byte is =
     omega (arith, ap (budget each byte) is, count)
 
 -- the bytes of leaves that aren't short
-pub long_bytes : (long : List (Sym × List ℕ)) (texts : List ℕ) (spans : List Span)
+pub long_bytes : (long : List (Sym × List ℕ)) (texts : List ℕ) (spans : List NodeSpan)
     → bytes_in (lists_from texts long spans) ≡ length texts + sum (map (λ l. length l.1) long)
 long_bytes [] texts spans = refl
 long_bytes (l ∷ ls) texts spans =
@@ -74,7 +74,7 @@ module _ (v : Notation) (each byte : ℕ) (within : IsWithin v each byte) where
 
 -- A printer may begin with a term that its forest pays for, where there is so much room.
 pub may_begin : (f : Grown) (r : TermRef) (beside : Bor (List TermRef)) (room : ℕ) → IsSome (term_of f r)
-    → IsPaid f (term_at f r) → beside.now ≡ [] → 1 + budget 1 0 f ≤ room → IsOpen f [] beside (Some r) room
+    → IsBoundedBySize f (term_at f r) → beside.now ≡ [] → 1 + budget 1 0 f ≤ room → IsOpen f [] beside (Some r) room
 may_begin f r beside room known paid alone fits = record {
   waiting_known = λ k d l. absurd (omega (arith, l));
   others_known = subst (AllKnown f) (sym alone) (λ k d l. absurd (omega (arith, l)));
@@ -85,7 +85,7 @@ may_begin f r beside room known paid alone fits = record {
 
 -- its line is no longer than it costs
 pub line_within : (v : Notation) (f : Grown) (r : TermRef) (each byte n : ℕ) → IsWithin v each byte
-    → IsOfBytes (term_at f r) → IsPaid f (term_at f r) → n ≡ each + budget each byte f
+    → IsOfBytes (term_at f r) → IsBoundedBySize f (term_at f r) → n ≡ each + budget each byte f
     → length (term_text v f r ++ newline ∷ []) ≤ n
 line_within v f r each byte n within bytes paid is =
     omega (

@@ -14,7 +14,7 @@ use Rattle.ly_tree.specs.Term.{Term, built, leaf, nothing}
 use Rattle.ly_tree.specs.declared.forest.TermRef.{TermRef}
 use Rattle.ly_tree.specs.declared.forest.TermRef.TheVariants.{LongLeaf, LongNode, Node, Nothing, ShortLeaf}
 use Rattle.ly_tree.specs.declared.headed.Heading.{Heading}
-use Rattle.ly_tree.specs.declared.span.Span.{Span}
+use Rattle.ly_tree.specs.declared.node_span.NodeSpan.{NodeSpan}
 
 abbrev IsByte : ℕ → Type 0
 IsByte b = b < 256
@@ -52,7 +52,7 @@ module _ (f : Grown) (texts : All IsByte f.lists.texts) (long : All IsOfBytes f.
   over_of_bytes n rule start t is = node_of_bytes rule (piece start n f.children) t
       (λ ts there. piece_all IsOfBytes start n f.children ts children there) is
 
-  span_of_bytes : (o : Option Span) (t : Term) → node_by f.children o ≡ Some t → IsOfBytes t
+  span_of_bytes : (o : Option NodeSpan) (t : Term) → node_by f.children o ≡ Some t → IsOfBytes t
   span_of_bytes None t is = absurd cc
   span_of_bytes (Some s) t is = over_of_bytes s.count s.rule.0 s.start t is
 
@@ -78,7 +78,7 @@ children_of_bytes ls done (r ∷ rs) texts long all =
     (All-push IsOfBytes done (child_term ls done r) all
     (or_nothing (term_of f r) (λ t is. stands_of_bytes f texts long all r t is)))
 
-pub forest_of_bytes : (f : Grown) (texts : List ℕ) (long : List (Sym × List ℕ)) (spans : List Span) (rs : List TermRef)
+pub forest_of_bytes : (f : Grown) (texts : List ℕ) (long : List (Sym × List ℕ)) (spans : List NodeSpan) (rs : List TermRef)
     → All IsByte texts → All (λ l. All IsByte l.1) long → grown (lists_from texts long spans) rs ≡ f
     → (r : TermRef) (t : Term) → term_of f r ≡ Some t → IsOfBytes t
 forest_of_bytes f texts long spans rs bytes all is =

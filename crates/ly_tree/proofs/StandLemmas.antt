@@ -9,7 +9,7 @@ use Rattle.ly_tree.specs.Private.Grown.{AllKnown}
 use Rattle.ly_tree.specs.Term.{Term, Terms, nothing, leaf, built, none, more}
 use Rattle.ly_tree.specs.declared.forest.TermRef.{TermRef}
 use Rattle.ly_tree.specs.declared.forest.TermRef.TheVariants.{Nothing, ShortLeaf, LongLeaf, Node, LongNode}
-use Rattle.ly_tree.specs.declared.span.Span.{Span}
+use Rattle.ly_tree.specs.declared.node_span.NodeSpan.{NodeSpan}
 
 -- what is made of a piece stays when more come behind
 made-append : {A : Type 0} (make : List A → Term) (o p : Option (List A)) (t : Term)
@@ -24,7 +24,7 @@ node_kept ts us n rule start t e =
     made-append (λ xs. built rule (all_of xs)) (piece start n ts) (piece start n (ts ++ us)) t
     (λ xs. piece-append start n ts us xs) e
 
-long_node_kept : (ts us : List Term) (o p : Option Span) (t : Term) → ((s : Span) → o ≡ Some s → p ≡ Some s)
+long_node_kept : (ts us : List Term) (o p : Option NodeSpan) (t : Term) → ((s : NodeSpan) → o ≡ Some s → p ≡ Some s)
     → node_by ts o ≡ Some t → node_by (ts ++ us) p ≡ Some t
 long_node_kept ts us None p t h e = cc
 long_node_kept ts us (Some s) p t h e =

@@ -24,5 +24,5 @@ abbrev pub budget : ℕ → ℕ → Grown → ℕ
 budget each byte f = each * length f.children + byte * bytes_in f.lists
 
 -- A forest has the budget for a term that is no child itself: none of its parts is used twice.
-abbrev pub IsPaid : Grown → Term → Type 0
-IsPaid f t = (each byte : ℕ) → cost each byte t ≤ each + budget each byte f
+abbrev pub IsBoundedBySize : Grown → Term → Type 0
+IsBoundedBySize f t = (each byte : ℕ) → cost each byte t ≤ each + budget each byte f

@@ -4,14 +4,14 @@ use Rattle.std.specs.Prelude.{unwrap_or}
 use Rattle.ly_tree.specs.Term.{Term, Terms, nothing, leaf, built, none, more}
 use Rattle.ly_tree.specs.declared.forest.TermRef.{TermRef}
 use Rattle.ly_tree.specs.declared.forest.TermRef.TheVariants.{Nothing, ShortLeaf, LongLeaf, Node, LongNode}
-use Rattle.ly_tree.specs.declared.span.Span.{Span}
+use Rattle.ly_tree.specs.declared.node_span.NodeSpan.{NodeSpan}
 
 -- The texts of short leaves, one after another; the other leaves; and for each long node its rule and the range of its
 -- children.
 pub record Lists : Type 0 where
   pub texts : List ℕ
   pub long_leaves : List Term
-  pub long_nodes : List Span
+  pub long_nodes : List NodeSpan
 
 -- The lists, and the terms of the children of nodes, one after another.
 pub record Grown : Type 0 where
@@ -52,7 +52,7 @@ abbrev pub node_over : List Term → ℕ → ℕ → ℕ → Option Term
 node_over children n rule start = option_map (λ ts. built rule (all_of ts)) (piece start n children)
 
 -- the node of a span, if there is one
-abbrev pub node_by : List Term → Option Span → Option Term
+abbrev pub node_by : List Term → Option NodeSpan → Option Term
 node_by children None = None
 node_by children (Some s) = node_over children s.count s.rule.0 s.start
 

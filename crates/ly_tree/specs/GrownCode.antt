@@ -7,7 +7,7 @@ use Rattle.std.proofs.Common.{append_assoc, append-nil}
 use Rattle.std.specs.Coded.{Coded, code_by, coded×, coded⊎, coded_ℕ, coded_list}
 use Rattle.ly_tree.specs.Forest.{Grown}
 use Rattle.ly_tree.specs.Term.{Term, Terms, nothing, leaf, built, none, more}
-use Rattle.ly_tree.specs.declared.span.Span.{Span}
+use Rattle.ly_tree.specs.declared.node_span.NodeSpan.{NodeSpan}
 
 -- a node begins; a leaf; nothing; a node ends
 abbrev pub PrefixItem : Type 0
@@ -98,12 +98,12 @@ term_code = code_by (List PrefixItem)
     (coded_list (coded⊎ coded_ℕ (coded⊎ (coded× coded_ℕ (coded_list coded_ℕ)) (coded⊎ coded_unit coded_unit)))) to_items
     from_items from_to
 
-abbrev span_code : Coded Span
+abbrev span_code : Coded NodeSpan
 span_code = code_by ((ℕ × ℕ) × ℕ) (coded× (coded× coded_ℕ coded_ℕ) coded_ℕ) (λ s. ((s.rule.0, s.start), s.count))
     (λ p. record { rule = record { 0 = p.0.0 }; start = p.0.1; count = p.1 }) (λ _. refl)
 
 abbrev pub grown_code : Coded Grown
-grown_code = code_by (((List ℕ × List Term) × List Span) × List Term)
+grown_code = code_by (((List ℕ × List Term) × List NodeSpan) × List Term)
     (coded× (coded× (coded× (coded_list coded_ℕ) (coded_list term_code)) (coded_list span_code)) (coded_list term_code))
     (λ f. (((f.lists.texts, f.lists.long_leaves), f.lists.long_nodes), f.children))
     (λ p. record {

@@ -7,10 +7,10 @@ ghost use Rattle.ly_tree.specs.Term.{at_places, built, leaf, nothing, Term};
 
 use crate::headed::{Headed, lists_are_bytes};
 use crate::look::Look;
+use crate::node_span::NodeSpan;
 use crate::notation::MostBytes;
 use crate::numbers::{number_of, parts_of};
 use crate::refers::Refers;
-use crate::span::Span;
 use ly_base::{OutOfMemory, RuleNo, Sym};
 use ly_print::{Front, Texts};
 use std::alloc::Global;
@@ -65,7 +65,7 @@ pub struct Forest {
     /// The long leaves: the text of each, with its terminal.
     long_leaves: Headed<Sym, u8>,
     /// The long nodes: for each its rule, and the range of its children.
-    long_nodes: Vec<Span>,
+    long_nodes: Vec<NodeSpan>,
     /// The children of nodes, node by node. Those of a child precede it.
     children: Vec<TermRef>,
 }
@@ -255,7 +255,7 @@ impl Forest {
         let start = self.children.len();
         self.long_nodes.reserve(1)?;
         pick(&mut self.children, body, places)?;
-        self.long_nodes.push_reserved(Span {
+        self.long_nodes.push_reserved(NodeSpan {
             rule,
             start,
             count: places.len(),
@@ -277,7 +277,7 @@ impl Forest {
                 children,
                 rule,
                 start,
-            } => Look::Node(Span {
+            } => Look::Node(NodeSpan {
                 rule: RuleNo(u32::from(rule)),
                 start: start as usize,
                 count: usize::from(children),
@@ -360,7 +360,7 @@ impl Forest {
             (built result.0.0 (terms_of self.now result.1.now)) }
         ensures known { AllKnown self.now result.1.now }
     {
-        let Span { rule, start, count } = self.long_nodes[number_of(high, low)];
+        let NodeSpan { rule, start, count } = self.long_nodes[number_of(high, low)];
         (rule, self.children_of(count, rule, start))
     }
 }

@@ -1,4 +1,4 @@
-use crate::span::Span;
+use crate::node_span::NodeSpan;
 use ly_base::Sym;
 
 /// What a look at a term shows: everything but the text of a leaf.
@@ -9,5 +9,5 @@ pub enum Look {
     /// A leaf of this terminal.
     Leaf(Sym),
     /// A node.
-    Node(Span),
+    Node(NodeSpan),
 }

@@ -3,7 +3,7 @@ ghost use Rattle.std.specs.Io.KnownBytes.{Appends};
 ghost use Rattle.ly_base.specs.Bytes.{newline};
 ghost use Rattle.ly_print.specs.Device.{next_count};
 ghost use Rattle.ly_print.specs.TextWriter.{IsCutShort};
-ghost use Rattle.ly_tree.specs.Costs.{IsPaid};
+ghost use Rattle.ly_tree.specs.Costs.{IsBoundedBySize};
 ghost use Rattle.ly_tree.specs.Forest.{term_of, StandsFor};
 ghost use Rattle.ly_tree.specs.Shown.{shown};
 ghost use Rattle.ly_tree.specs.Term.{Term};
@@ -57,7 +57,7 @@ impl Forest {
         root: TermRef,
     ) -> Result<TermLine<'f, N>, OutOfMemory>
         requires known { IsSome (term_of self.now root) }
-        requires paid { (t : Term) → StandsFor self.now root t → IsPaid self.now t }
+        requires paid { (t : Term) → StandsFor self.now root t → IsBoundedBySize self.now t }
         ensures { IfOk result (λ l. (t : Term) → StandsFor self.now root t
             → l ≡ written (N.form notation.now) t ++ newline ∷ []) }
     {
@@ -85,7 +85,7 @@ impl Forest {
         root: TermRef,
     ) -> Result<Vec<u8>, OutOfMemory>
         requires known { IsSome (term_of self.now root) }
-        requires paid { (t : Term) → StandsFor self.now root t → IsPaid self.now t }
+        requires paid { (t : Term) → StandsFor self.now root t → IsBoundedBySize self.now t }
         ensures { IfOk result (λ bytes. (t : Term) → StandsFor self.now root t → bytes.items ≡ shown
             (record { terminal = W.terminals words.now; constructor = W.constructors words.now }) t) }
     {

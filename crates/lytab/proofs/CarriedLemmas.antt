@@ -11,15 +11,15 @@ use Rattle.ly_base.specs.declared.version.Version.{Version}
 use Rattle.ly_explain.specs.Explained.{IsExplained}
 use Rattle.ly_generate.specs.Parser.{IsReportIf}
 use Rattle.ly_print.specs.declared.answer_form.AnswerForm.{AnswerForm}
-use Rattle.ly_words.specs.Request.{Request, build, check, explain, lines, run, run_placed, table_tokens}
-use Rattle.ly_words.specs.Request.{tokens, try, try_placed}
-use Rattle.ly_words.specs.declared.command.Answering.{Answering}
-use Rattle.ly_words.specs.declared.command.Strictness.{Strictness}
+use Rattle.ly_cli.specs.Request.{Request, build, check, explain, lines, run, run_placed, table_tokens}
+use Rattle.ly_cli.specs.Request.{tokens, try, try_placed}
+use Rattle.ly_cli.specs.declared.command.Answering.{Answering}
+use Rattle.ly_cli.specs.declared.command.Strictness.{Strictness}
 use Rattle.lytab.specs.Answering.{AreTokensBegun, AreTokensPrinted, IsAnsweredByFiles, IsAnsweredByTables}
 use Rattle.lytab.specs.Answering.{IsBegunByFiles, IsBegunByTables, text_from}
-use Rattle.lytab.specs.CarriedOut.{Ends, HasBegunAtMost, IsBuildTold, IsCarriedOut, IsExplanationTold, IsInputTold}
+use Rattle.lytab.specs.CarriedOut.{Ends, WroteNothingOrPrefix, HasBuilt, IsCarriedOut, HasExplained, IsInputTaken}
 use Rattle.lytab.specs.CarriedOut.{lex_text, wanted_for}
-use Rattle.lytab.specs.Devices.{AreAnswersTold, AreWritesTold, IsLeftOrFailed, IsOutputTold, IsToldOrStopped, IsToldOf}
+use Rattle.lytab.specs.Devices.{LineFailuresReported, WriteFailuresReported, UnchangedOrWriteFailed, OutputFailuresReported, DoneOrUnchanged, IsOutputAfter}
 use Rattle.lytab.specs.Failure.{IsOfDevice, IsOfWriter, failure_of_file}
 use Rattle.lytab.specs.Files.{IsWrittenIf}
 use Rattle.lytab.specs.Lines.{AreLinesAnsweredBy, AreLinesFailed, AreLinesRead}
@@ -84,7 +84,7 @@ fails_device OutOfMemory = tt
 
 untouched : {A R : Type 0} (text : Option A) (r : Result Completion Failure) (e : Ends R) (read : Type 0)
     → e.input_after ≡ e.input_before → IfErr r (λ f. IsOfRules f → e.input_after ≡ e.input_before) → read
-    → IsInputTold text r e read
+    → IsInputTaken text r e read
 untouched None r e read same unread done = (unread, done)
 untouched (Some path) r e read same unread done = same
 
@@ -165,7 +165,7 @@ text_mapped f (Some path) given = refl
 input_mapped : {A B R : Type 0} (f : A → B) (text : Option A) (r : Result Completion Failure) (e : Ends R)
     (read : Type 0) → (IsSome text → e.input_after ≡ e.input_before)
     → (text ≡ None → IfErr r (λ g. IsOfRules g → e.input_after ≡ e.input_before)) → (text ≡ None → read)
-    → IsInputTold (option_map f text) r e read
+    → IsInputTaken (option_map f text) r e read
 input_mapped f None r e read elsewhere refused needed = (refused refl, needed refl)
 input_mapped f (Some path) r e read elsewhere refused needed = elsewhere refl
 
@@ -188,7 +188,7 @@ begun_at_most known (Err failure.OutOfMemory) old new begun begins stays = inl (
 pub carried_tokens : {A R D : Type 0} (contents : D → Option (List ℕ)) (f : A → List ℕ) (path lex : List ℕ)
     (text : Option A) (by : Answering) (r : Result Completion Failure) (e : Ends R)
     → IfOk r (AreTokensPrinted by.form lex (text_from text e.given) e.before e.after) → IfErr r (IsRefusalOfLex lex)
-    → HasBegunAtMost r e (AreTokensBegun by.form lex (text_from text e.given) e.before e.after)
+    → WroteNothingOrPrefix r e (AreTokensBegun by.form lex (text_from text e.given) e.before e.after)
     → (IsSome text → e.input_after ≡ e.input_before)
     → (text ≡ None → IfErr r (λ g. IsOfRules g → e.input_after ≡ e.input_before))
     → (text ≡ None → OnOk r (IsAtEnd e.left))
@@ -198,7 +198,7 @@ carried_tokens contents f path lex text by r e answered refused begins elsewhere
   subst (λ given. IfOk r (AreTokensPrinted by.form lex given e.before e.after)) (sym (text_mapped f text e.given))
       answered,
   refused,
-  subst (λ given. HasBegunAtMost r e (AreTokensBegun by.form lex given e.before e.after))
+  subst (λ given. WroteNothingOrPrefix r e (AreTokensBegun by.form lex given e.before e.after))
       (sym (text_mapped f text e.given)) begins,
   input_mapped f text r e (OnOk r (IsAtEnd e.left)) elsewhere unread needed,
 )
@@ -207,7 +207,7 @@ pub carried_table_tokens : {A R D : Type 0} (contents : D → Option (List ℕ))
     (text : Option A) (by : Answering) (r : Result Completion Failure) (e : Ends R)
     → IfOk r (AreTableTokens by.form bytes (text_from text e.given) e.before e.after)
     → IfErr r (IsRefusalOfScanner bytes (text_from text e.given))
-    → HasBegunAtMost r e (AreTableTokensBegun by.form bytes (text_from text e.given) e.before e.after)
+    → WroteNothingOrPrefix r e (AreTableTokensBegun by.form bytes (text_from text e.given) e.before e.after)
     → (IsSome text → e.input_after ≡ e.input_before)
     → (text ≡ None → IfErr r (λ g. IsOfRules g → e.input_after ≡ e.input_before))
     → (text ≡ None → OnOk r (IsAtEnd e.left))
@@ -217,7 +217,7 @@ carried_table_tokens contents f path bytes text by r e answered refused begins e
   subst (λ given. IfOk r (AreTableTokens by.form bytes given e.before e.after)) (sym (text_mapped f text e.given))
       answered,
   subst (λ given. IfErr r (IsRefusalOfScanner bytes given)) (sym (text_mapped f text e.given)) refused,
-  subst (λ given. HasBegunAtMost r e (AreTableTokensBegun by.form bytes given e.before e.after))
+  subst (λ given. WroteNothingOrPrefix r e (AreTableTokensBegun by.form bytes given e.before e.after))
       (sym (text_mapped f text e.given)) begins,
   input_mapped f text r e (OnOk r (IsAtEnd e.left)) elsewhere unread needed,
 )
@@ -226,7 +226,7 @@ pub carried_run : {A R D : Type 0} (contents : D → Option (List ℕ)) (f : A �
     (text : Option A) (by : Answering) (r : Result Completion Failure) (e : Ends R)
     → IfOk r (IsAnsweredByTables by.form bytes (text_from text e.given) e.before e.after)
     → IfErr r (IsRefusalOfTables bytes (text_from text e.given))
-    → HasBegunAtMost r e (IsBegunByTables by.form bytes (text_from text e.given) e.before e.after)
+    → WroteNothingOrPrefix r e (IsBegunByTables by.form bytes (text_from text e.given) e.before e.after)
     → (IsSome text → e.input_after ≡ e.input_before)
     → (text ≡ None → IfErr r (λ g. IsOfRules g → e.input_after ≡ e.input_before))
     → (text ≡ None → IsReadByTables bytes r e.given e.left)
@@ -236,7 +236,7 @@ carried_run contents f path bytes text by r e answered refused begins elsewhere 
   subst (λ given. IfOk r (IsAnsweredByTables by.form bytes given e.before e.after)) (sym (text_mapped f text e.given))
       answered,
   subst (λ given. IfErr r (IsRefusalOfTables bytes given)) (sym (text_mapped f text e.given)) refused,
-  subst (λ given. HasBegunAtMost r e (IsBegunByTables by.form bytes given e.before e.after))
+  subst (λ given. WroteNothingOrPrefix r e (IsBegunByTables by.form bytes given e.before e.after))
       (sym (text_mapped f text e.given)) begins,
   input_mapped f text r e _ elsewhere unread (λ no. inr (needed no)),
 )
@@ -262,7 +262,7 @@ pub carried_run_placed : {A R D : Type 0} (contents : D → Option (List ℕ)) (
     (text : Option A) (points : Bool) (r : Result Completion Failure) (e : Ends R)
     → IfOk r (IsPlacedByTables bytes (text_from text e.given) e.before e.after)
     → IfErr r (IsRefusalOfTables bytes (text_from text e.given))
-    → HasBegunAtMost r e (IsPlacingBegunByTables bytes (text_from text e.given) e.before e.after)
+    → WroteNothingOrPrefix r e (IsPlacingBegunByTables bytes (text_from text e.given) e.before e.after)
     → (IsSome text → e.input_after ≡ e.input_before)
     → (text ≡ None → IfErr r (λ g. IsOfRules g → e.input_after ≡ e.input_before))
     → (text ≡ None → OnOk r (IsAtEnd e.left))
@@ -271,7 +271,7 @@ carried_run_placed contents f path bytes text points r e answered refused begins
   bytes,
   subst (λ given. IfOk r (IsPlacedByTables bytes given e.before e.after)) (sym (text_mapped f text e.given)) answered,
   subst (λ given. IfErr r (IsRefusalOfTables bytes given)) (sym (text_mapped f text e.given)) refused,
-  subst (λ given. HasBegunAtMost r e (IsPlacingBegunByTables bytes given e.before e.after))
+  subst (λ given. WroteNothingOrPrefix r e (IsPlacingBegunByTables bytes given e.before e.after))
       (sym (text_mapped f text e.given)) begins,
   input_mapped f text r e (OnOk r (IsAtEnd e.left)) elsewhere unread needed,
 )
@@ -280,7 +280,7 @@ pub carried_try_placed : {A R D : Type 0} (contents : D → Option (List ℕ)) (
     (path other lex yacc : List ℕ) (text : Option A) (points : Bool) (r : Result Completion Failure) (e : Ends R)
     → IfOk r (IsPlacedByFiles lex yacc (text_from text e.given) e.before e.after)
     → IfErr r (IsRefusalOfFiles lex yacc (text_from text e.given))
-    → HasBegunAtMost r e (IsPlacingBegunByFiles lex yacc (text_from text e.given) e.before e.after)
+    → WroteNothingOrPrefix r e (IsPlacingBegunByFiles lex yacc (text_from text e.given) e.before e.after)
     → (IsSome text → e.input_after ≡ e.input_before)
     → (text ≡ None → IfErr r (λ g. IsOfRules g → e.input_after ≡ e.input_before))
     → (text ≡ None → OnOk r (IsAtEnd e.left))
@@ -290,7 +290,7 @@ carried_try_placed contents f path other lex yacc text points r e answered refus
   yacc,
   subst (λ given. IfOk r (IsPlacedByFiles lex yacc given e.before e.after)) (sym (text_mapped f text e.given)) answered,
   subst (λ given. IfErr r (IsRefusalOfFiles lex yacc given)) (sym (text_mapped f text e.given)) refused,
-  subst (λ given. HasBegunAtMost r e (IsPlacingBegunByFiles lex yacc given e.before e.after))
+  subst (λ given. WroteNothingOrPrefix r e (IsPlacingBegunByFiles lex yacc given e.before e.after))
       (sym (text_mapped f text e.given)) begins,
   input_mapped f text r e (OnOk r (IsAtEnd e.left)) elsewhere unread needed,
 )
@@ -299,7 +299,7 @@ pub carried_try : {A R D : Type 0} (contents : D → Option (List ℕ)) (f : A �
     (text : Option A) (by : Answering) (r : Result Completion Failure) (e : Ends R)
     → IfOk r (IsAnsweredByFiles by.form lex yacc (text_from text e.given) e.before e.after)
     → IfErr r (IsRefusalOfFiles lex yacc (text_from text e.given))
-    → HasBegunAtMost r e (IsBegunByFiles by.form lex yacc (text_from text e.given) e.before e.after)
+    → WroteNothingOrPrefix r e (IsBegunByFiles by.form lex yacc (text_from text e.given) e.before e.after)
     → (IsSome text → e.input_after ≡ e.input_before)
     → (text ≡ None → IfErr r (λ g. IsOfRules g → e.input_after ≡ e.input_before))
     → (text ≡ None → IsReadByFiles lex yacc r e.input_before e.input_after e.given e.left)
@@ -310,7 +310,7 @@ carried_try contents f path other lex yacc text by r e answered refused begins e
   subst (λ given. IfOk r (IsAnsweredByFiles by.form lex yacc given e.before e.after)) (sym (text_mapped f text e.given))
       answered,
   subst (λ given. IfErr r (IsRefusalOfFiles lex yacc given)) (sym (text_mapped f text e.given)) refused,
-  subst (λ given. HasBegunAtMost r e (IsBegunByFiles by.form lex yacc given e.before e.after))
+  subst (λ given. WroteNothingOrPrefix r e (IsBegunByFiles by.form lex yacc given e.before e.after))
       (sym (text_mapped f text e.given)) begins,
   input_mapped f text r e _ elsewhere unread needed,
 )
@@ -327,8 +327,8 @@ wanted_mapped f (Some path) = refl
 
 build_told : {A B D : Type 0} (f : A → B) (contents : D → Option (List ℕ)) (limits : Sizes) (version : Version)
     (path : Option A) (expected : Option ℕ) (before after : Option (List ℕ)) (r : Result Completion Failure)
-    → IsBuildTold contents limits version path expected before after r
-    → IsBuildTold contents limits version (option_map f path) expected before after r
+    → HasBuilt contents limits version path expected before after r
+    → HasBuilt contents limits version (option_map f path) expected before after r
 build_told f contents limits version path expected before after r h = record {
   lex = h.lex;
   yacc = h.yacc;
@@ -338,7 +338,7 @@ build_told f contents limits version path expected before after r h = record {
   spelled = h.spelled;
   tables_written = h.tables_written;
   report = h.report;
-  is_report = subst (λ wish. IsReportIf wish h.generated.spec h.report) (sym (wanted_mapped f path)) h.is_report;
+  is_report = subst (λ options. IsReportIf options h.generated.spec h.report) (sym (wanted_mapped f path)) h.is_report;
   report_written = written_mapped f contents path h.report h.report_written;
   counts = h.counts;
   are_counts = h.are_counts;
@@ -355,8 +355,8 @@ text_named f (Some path) bytes = refl
 explanation_told : {A B D : Type 0} (f : A → B) (contents : D → Option (List ℕ)) (lex states graph : Option A)
     (strictness : Strictness) (form : AnswerForm) (before after : Option (List ℕ))
     (r : Result Completion Failure)
-    → IsExplanationTold contents lex states graph strictness form before after r
-    → IsExplanationTold contents (option_map f lex) (option_map f states) (option_map f graph) strictness form
+    → HasExplained contents lex states graph strictness form before after r
+    → HasExplained contents (option_map f lex) (option_map f states) (option_map f graph) strictness form
     before after r
 explanation_told f contents lex states graph strictness form before after r h = record {
   lex = h.lex;
@@ -373,21 +373,21 @@ explanation_told f contents lex states graph strictness form before after r h = 
 
 -- what is told of a command is told in other words
 told_by : {A B : Type 0} (r : Result Completion Failure) (before after : Option (List ℕ)) → (A → B)
-    → IsToldOrStopped r before after A → IsToldOrStopped r before after B
+    → DoneOrUnchanged r before after A → DoneOrUnchanged r before after B
 told_by (Ok c) before after to h = to h
 told_by (Err f) before after to (inl stays) = inl stays
 told_by (Err f) before after to (inr h) = inr (to h)
 
 -- it is told, however the command ends
 pub is_told : {A : Type 0} (r : Result Completion Failure) (before after : Option (List ℕ)) → A
-    → IsToldOrStopped r before after A
+    → DoneOrUnchanged r before after A
 is_told (Ok c) before after h = h
 is_told (Err f) before after h = inr h
 
 pub carried_build : {A R D : Type 0} (contents : D → Option (List ℕ)) (f : A → List ℕ) (lex yacc tables : List ℕ)
     (path : Option A) (version : Version) (expected : Option ℕ) (points : Bool) (r : Result Completion Failure)
     (e : Ends R)
-    → IsToldOrStopped r e.before e.after (IsBuildTold contents version_2 version path expected e.before e.after r)
+    → DoneOrUnchanged r e.before e.after (HasBuilt contents version_2 version path expected e.before e.after r)
     → IfErr r (IsRefusalOfBuild version expected) → e.input_after ≡ e.input_before
     → IsCarriedOut contents (build lex yacc tables (option_map f path) version expected points) r e
 carried_build contents f lex yacc tables path version expected points r e told refused same = (
@@ -399,8 +399,8 @@ carried_build contents f lex yacc tables path version expected points r e told r
 pub carried_explain : {A R D : Type 0} (contents : D → Option (List ℕ)) (f : A → List ℕ) (lex : Option A)
     (yacc : List ℕ) (states graph : Option A) (strictness : Strictness) (form : AnswerForm)
     (r : Result Completion Failure) (e : Ends R)
-    → IsToldOrStopped r e.before e.after
-    (IsExplanationTold contents lex states graph strictness form e.before e.after r)
+    → DoneOrUnchanged r e.before e.after
+    (HasExplained contents lex states graph strictness form e.before e.after r)
     → IfErr r IsOfDevice → e.input_after ≡ e.input_before
     → IsCarriedOut contents
     (explain (option_map f lex) yacc (option_map f states) (option_map f graph) strictness form) r e
@@ -413,19 +413,19 @@ carried_explain contents f lex yacc states graph strictness form r e told failed
 
 -- what is told of a device is told of what is known of it
 left_or_failed : {W : Type 0} (known : W → Option (List ℕ)) (old new : W) (before after : ℕ) (f : Failure)
-    → IsLeftOrFailed old new before after f → IsLeftOrFailed (known old) (known new) before after f
+    → UnchangedOrWriteFailed old new before after f → UnchangedOrWriteFailed (known old) (known new) before after f
 left_or_failed known old new before after f (inl left) = inl (left.0, ap known left.1)
 left_or_failed known old new before after f (inr failed) = inr failed
 
 known_told : {W : Type 0} (known : W → Option (List ℕ)) (r : Result Completion Failure) (old new : W)
-    (before after : ℕ) → IsOutputTold r old new before after → IsOutputTold r (known old) (known new) before after
+    (before after : ℕ) → OutputFailuresReported r old new before after → OutputFailuresReported r (known old) (known new) before after
 known_told known (Ok c) old new before after h = record { failed = tt; held = h.held }
 known_told known (Err f) old new before after h =
     record { failed = left_or_failed known old new before after f h.failed; held = h.held }
 
 pub told_of_known : {W : Type 0} (known : W → Option (List ℕ)) (request : Request) (r : Result Completion Failure)
-    (old new : W) (before after : ℕ) → IsToldOf request r old new before after
-    → IsToldOf request r (known old) (known new) before after
+    (old new : W) (before after : ℕ) → IsOutputAfter request r old new before after
+    → IsOutputAfter request r (known old) (known new) before after
 told_of_known known (tokens lex text by) r old new before after h = known_told known r old new before after h
 told_of_known known (table_tokens tables text by) r old new before after h =
     known_told known r old new before after h
@@ -444,7 +444,7 @@ told_of_known known (explain lex yacc states graph strictness form) r old new be
 
 -- a command that failed before it did anything
 pub kept_told : {W : Type 0} (request : Request) (f : Failure) (old : W) (count : ℕ)
-    → IsToldOf request (Err f) old old count count
+    → IsOutputAfter request (Err f) old old count count
 kept_told (tokens lex text by) f old count = record { failed = inl (refl, refl); held = tt }
 kept_told (table_tokens tables text by) f old count = record { failed = inl (refl, refl); held = tt }
 kept_told (build lex yacc tables report version expected points) f old count =
@@ -458,8 +458,8 @@ kept_told (check tables by) f old count = record { failed = inl (refl, refl); he
 kept_told (explain lex yacc states graph strictness form) f old count = record { failed = inl (refl, refl); held = tt }
 
 -- what is told of standard output where lines were answered
-pub lines_told : (r : Result Completion Failure) (before after : ℕ) → AreWritesTold r before after
-    → IfErr r (λ f. (IsOfWriter f → ⊥) → after ≡ before) → AreAnswersTold r before after
+pub lines_told : (r : Result Completion Failure) (before after : ℕ) → WriteFailuresReported r before after
+    → IfErr r (λ f. (IsOfWriter f → ⊥) → after ≡ before) → LineFailuresReported r before after
 lines_told (Ok c) before after told kept = record { failed = tt; held = told.held }
 lines_told (Err (failure.CannotWrite path)) before after told kept =
     record { failed = inr (told.failed tt, tt); held = tt }

@@ -17,7 +17,7 @@ use Rattle.ly_print.specs.declared.answer_form.AnswerForm.{AnswerForm}
 use Rattle.ly_generate.specs.Generated.{IsGenerated}
 use Rattle.ly_tables.specs.TableSet.{TableSet}
 use Rattle.ly_tokens.specs.Answers.{Answers}
-use Rattle.lytab.specs.Answering.{IsAnswered, IsAnswerBegun}
+use Rattle.lytab.specs.Answering.{IsParsedBy, IsAnswerBegun}
 use Rattle.lytab.proofs.CarriedLemmas.{fails_lines}
 use Rattle.lytab.specs.Failure.{IsOfWriter, failure_of_file}
 use Rattle.lytab.specs.Lines.{AreLinesFailed, AreLinesStoppedBy, IsFaultMet}
@@ -111,7 +111,7 @@ some_stopped (rules.BothPlaced lex yacc) given before after f h = h
 some_stopped (rules.Both lex yacc form) given before after f h = h
 
 some_answered : (r : Rules) (given before after : Option (List ℕ)) (c : Completion)
-    → IsAnswered r given before after c → IsAnswered r None before after c
+    → IsParsedBy r given before after c → IsParsedBy r None before after c
 some_answered (rules.Tokens lex form) given before after c h = (h.0, h.1, answers_of_some h.2, h.3, h.4)
 some_answered (rules.TableTokens tables form) given before after c h =
     (h.0, h.1, h.2, h.3, listed_of_some form h.1 given (end_of h.0) h.3 h.4, h.5, h.6)
@@ -142,7 +142,7 @@ some_begun (rules.Both lex yacc form) given before after h =
     (h.0, h.1, h.2, begun_of_some form h.1 given before after h.0 h.3)
 
 pub if_answered : (r : Rules) (given before after : Option (List ℕ)) (result : Result Completion Failure)
-    → IfOk result (IsAnswered r given before after) → IfOk result (IsAnswered r None before after)
+    → IfOk result (IsParsedBy r given before after) → IfOk result (IsParsedBy r None before after)
 if_answered r given before after result answered =
     ok_weaker result _ _ (some_answered r given before after) answered
 

@@ -60,16 +60,16 @@ IsBegunByFiles form lex yacc given before after = (written : ℕ) × (s : TableS
     × IsBegunBy form s given before after written
 
 -- The whole output that these rules give for the text was written, and the command has this result.
-abbrev pub IsAnswered : Rules → Option (List ℕ) → Option (List ℕ) → Option (List ℕ) → Completion → Type 0
-IsAnswered (rules.Tokens lex form) given before after c = AreTokensPrinted form lex.now given before after c
-IsAnswered (rules.TableTokens tables form) given before after c =
+abbrev pub IsParsedBy : Rules → Option (List ℕ) → Option (List ℕ) → Option (List ℕ) → Completion → Type 0
+IsParsedBy (rules.Tokens lex form) given before after c = AreTokensPrinted form lex.now given before after c
+IsParsedBy (rules.TableTokens tables form) given before after c =
     AreTableTokens form tables.now given before after c
-IsAnswered (rules.Tables tables form) given before after c = IsAnsweredByTables form tables.now given before after c
-IsAnswered (rules.Lines tables form) given before after c = AreLinesAnsweredBy form tables.now given before after c
-IsAnswered (rules.TablesPlaced tables) given before after c = IsPlacedByTables tables.now given before after c
-IsAnswered (rules.BothPlaced lex yacc) given before after c =
+IsParsedBy (rules.Tables tables form) given before after c = IsAnsweredByTables form tables.now given before after c
+IsParsedBy (rules.Lines tables form) given before after c = AreLinesAnsweredBy form tables.now given before after c
+IsParsedBy (rules.TablesPlaced tables) given before after c = IsPlacedByTables tables.now given before after c
+IsParsedBy (rules.BothPlaced lex yacc) given before after c =
     IsPlacedByFiles lex.now yacc.now given before after c
-IsAnswered (rules.Both lex yacc form) given before after c =
+IsParsedBy (rules.Both lex yacc form) given before after c =
     IsAnsweredByFiles form lex.now yacc.now given before after c
 
 -- the text is parsed as one text

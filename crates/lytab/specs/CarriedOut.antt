@@ -12,8 +12,8 @@ use Rattle.ly_base.specs.declared.version.Version.TheVariants.{V1, V2}
 use Rattle.ly_explain.specs.Explained.{IsExplained, no_rules}
 use Rattle.ly_generate.specs.Generated.{IsGenerated}
 use Rattle.ly_generate.specs.Parser.{IsReportIf}
-use Rattle.ly_generate.specs.declared.report.Report.{Report}
-use Rattle.ly_generate.specs.declared.report.Report.TheVariants.{Unwanted, Wanted}
+use Rattle.ly_generate.specs.declared.report_request.ReportRequest.{ReportRequest}
+use Rattle.ly_generate.specs.declared.report_request.ReportRequest.TheVariants.{Unwanted, Wanted}
 use Rattle.ly_print.specs.declared.answer_form.AnswerForm.{AnswerForm}
 use Rattle.ly_print.specs.declared.answer_form.AnswerForm.TheVariants.{Json, Plain}
 use Rattle.ly_report.specs.Counts.{AreCounts}
@@ -24,13 +24,13 @@ use Rattle.ly_accepted.specs.declared.surveying.Explanation.{Explanation}
 use Rattle.ly_tables.specs.TableSet.{TableSet}
 use Rattle.ly_tables.specs.TableText.{TableText}
 use Rattle.ly_tables.specs.declared.set_counts.SetCounts.{SetCounts}
-use Rattle.ly_words.specs.Request.{Request, build, check, explain, lines, run, run_placed, table_tokens}
-use Rattle.ly_words.specs.Request.{tokens, try, try_placed}
-use Rattle.ly_words.specs.declared.command.Strictness.{Strictness}
+use Rattle.ly_cli.specs.Request.{Request, build, check, explain, lines, run, run_placed, table_tokens}
+use Rattle.ly_cli.specs.Request.{tokens, try, try_placed}
+use Rattle.ly_cli.specs.declared.command.Strictness.{Strictness}
 use Rattle.lytab.specs.Answering.{IsAnsweredByFiles, IsAnsweredByTables, AreTokensBegun, AreTokensPrinted}
 use Rattle.lytab.specs.Answering.{IsBegunByFiles, IsBegunByTables, text_from}
 use Rattle.lytab.specs.Completion.{completion_of_findings, completion_status}
-use Rattle.lytab.specs.Devices.{IsSaid, IsToldOrStopped, IsToldOf}
+use Rattle.lytab.specs.Devices.{WroteAllOrPrefix, DoneOrUnchanged, IsOutputAfter}
 use Rattle.lytab.specs.Failure.{failure_status, IsOfDevice}
 use Rattle.lytab.specs.Files.{HasTaken, IsWrittenIf}
 use Rattle.lytab.specs.Lines.{AreLinesAnsweredBy, AreLinesFailed, AreLinesRead}
@@ -43,7 +43,7 @@ use Rattle.lytab.specs.declared.completion.Completion.TheVariants.{Done}
 use Rattle.lytab.specs.declared.failure.Failure.{Failure}
 
 -- a report is requested if a file is named for it
-abbrev pub wanted_for : {A : Type 0} → Option A → Report
+abbrev pub wanted_for : {A : Type 0} → Option A → ReportRequest
 wanted_for (Some path) = Wanted
 wanted_for None = Unwanted
 
@@ -55,7 +55,7 @@ AreAsExpected (Some n) counts = (counts.shift_reduce ≡ n) × (counts.reduce_re
 -- A table set was made from the specification that a lex file and a yacc file define within limits. Its table file was
 -- written, and the specification's report if a file is named for it. The line with the numbers of conflicts was
 -- written, and these are as expected.
-pub record IsBuildTold {D A : Type 0} (contents : D → Option (List ℕ)) (limits : Sizes) (version : Version)
+pub record HasBuilt {D A : Type 0} (contents : D → Option (List ℕ)) (limits : Sizes) (version : Version)
     (report_path : Option A) (expected : Option ℕ) (before after : Option (List ℕ))
     (result : Result Completion Failure) : Type 0 where
   pub lex : List ℕ
@@ -71,7 +71,7 @@ pub record IsBuildTold {D A : Type 0} (contents : D → Option (List ℕ)) (limi
   pub counts : ConflictCounts
   pub are_counts : AreCounts generated.spec counts
   pub as_expected : AreAsExpected expected counts
-  pub line : IsSaid result before after (counts_line counts.shift_reduce counts.reduce_reduce)
+  pub line : WroteAllOrPrefix result before after (counts_line counts.shift_reduce counts.reduce_reduce)
   pub done : IfOk result (λ c. c ≡ Done)
 
 -- the sizes of the table set that the bytes of a table file of a version encode
@@ -120,14 +120,14 @@ set_told Plain counts version = set_line counts version
 set_told Json counts version = set_json counts version
 
 -- that line was written
-pub record IsCheckTold (form : AnswerForm) (before after : Option (List ℕ)) (result : Result Completion Failure)
+pub record HasChecked (form : AnswerForm) (before after : Option (List ℕ)) (result : Result Completion Failure)
     : Type 0
   where
     pub bytes : List ℕ
     pub version : Version
     pub counts : SetCounts
     pub has : HasCounts bytes version counts
-    pub line : IsSaid result before after (set_told form counts version)
+    pub line : WroteAllOrPrefix result before after (set_told form counts version)
     pub done : IfOk result (λ c. c ≡ Done)
 
 -- the bytes of the lex file; if none is named, those of one without rules
@@ -142,7 +142,7 @@ is_json Json = true
 
 -- the report of a lex file and a yacc file was written in this form, with the right verdict; the states of their parser
 -- and a graph of them were written if files are named for them and they exist; and the result is whether the files pass
-pub record IsExplanationTold {D A : Type 0} (contents : D → Option (List ℕ))
+pub record HasExplained {D A : Type 0} (contents : D → Option (List ℕ))
     (lex_path states_path graph_path : Option A)
     (strictness : Strictness) (form : AnswerForm) (before after : Option (List ℕ))
     (result : Result Completion Failure) : Type 0 where
@@ -153,7 +153,7 @@ pub record IsExplanationTold {D A : Type 0} (contents : D → Option (List ℕ))
   pub in_form : IsInForm (is_json form) explanation.findings explanation.text.items
   pub states_written : IsWrittenIf contents states_path explanation.states
   pub picture_written : IsWrittenIf contents graph_path explanation.picture
-  pub text : IsSaid result before after explanation.text.items
+  pub text : WroteAllOrPrefix result before after explanation.text.items
   pub completed : IfOk result (λ c. c ≡ completion_of_findings strictness explanation.findings)
 
 -- A command's standard input and output before and after it: what standard input had and has left, and what was and is
@@ -168,9 +168,9 @@ pub record Ends (R : Type 0) : Type 0 where
 
 -- Standard input is unchanged if the text is a file. Otherwise it is unchanged if the files that the text is parsed
 -- with are rejected, and this holds of what was read.
-abbrev pub IsInputTold : {A R : Type 0} → Option A → Result Completion Failure → Ends R → Type 0 → Type 0
-IsInputTold (Some path) result e read = e.input_after ≡ e.input_before
-IsInputTold None result e read = IfErr result (λ f. IsOfRules f → e.input_after ≡ e.input_before) × read
+abbrev pub IsInputTaken : {A R : Type 0} → Option A → Result Completion Failure → Ends R → Type 0 → Type 0
+IsInputTaken (Some path) result e read = e.input_after ≡ e.input_before
+IsInputTaken None result e read = IfErr result (λ f. IsOfRules f → e.input_after ≡ e.input_before) × read
 
 -- The set of a table file parses the text, and no more is read than it needs; or nothing is read.
 abbrev pub IsReadForTables : {R : Type 0} → List ℕ → Result Completion Failure → Ends R → Type 0
@@ -180,8 +180,8 @@ abbrev pub IsReadForFiles : {R : Type 0} → List ℕ → List ℕ → Result Co
 IsReadForFiles lex yacc result e = IsReadByFiles lex yacc result e.input_before e.input_after e.given e.left
 
 -- if a command that parses a text failed, a prefix of its output was written to standard output, or nothing
-abbrev pub HasBegunAtMost : {R : Type 0} → Result Completion Failure → Ends R → Type 0 → Type 0
-HasBegunAtMost result e begun = OnErr result ((e.after ≡ e.before) ⊎ begun)
+abbrev pub WroteNothingOrPrefix : {R : Type 0} → Result Completion Failure → Ends R → Type 0 → Type 0
+WroteNothingOrPrefix result e begun = OnErr result ((e.after ≡ e.before) ⊎ begun)
 
 -- what a command did and how it ended, where `contents` is what is known of a written file
 abbrev pub IsCarriedOut : {R D : Type 0} → (D → Option (List ℕ)) → Request → Result Completion Failure → Ends R
@@ -189,50 +189,50 @@ abbrev pub IsCarriedOut : {R D : Type 0} → (D → Option (List ℕ)) → Reque
 IsCarriedOut contents (tokens lex text by) result e = (bytes : List ℕ)
     × IfOk result (AreTokensPrinted by.form bytes (text_from text e.given) e.before e.after)
     × IfErr result (IsRefusalOfLex bytes)
-    × HasBegunAtMost result e (AreTokensBegun by.form bytes (text_from text e.given) e.before e.after)
-    × IsInputTold text result e (OnOk result (IsAtEnd e.left))
+    × WroteNothingOrPrefix result e (AreTokensBegun by.form bytes (text_from text e.given) e.before e.after)
+    × IsInputTaken text result e (OnOk result (IsAtEnd e.left))
 IsCarriedOut contents (table_tokens table_file text by) result e = (bytes : List ℕ)
     × IfOk result (AreTableTokens by.form bytes (text_from text e.given) e.before e.after)
     × IfErr result (IsRefusalOfScanner bytes (text_from text e.given))
-    × HasBegunAtMost result e (AreTableTokensBegun by.form bytes (text_from text e.given) e.before e.after)
-    × IsInputTold text result e (OnOk result (IsAtEnd e.left))
+    × WroteNothingOrPrefix result e (AreTableTokensBegun by.form bytes (text_from text e.given) e.before e.after)
+    × IsInputTaken text result e (OnOk result (IsAtEnd e.left))
 IsCarriedOut contents (run table_file text by) result e = (bytes : List ℕ)
     × IfOk result (IsAnsweredByTables by.form bytes (text_from text e.given) e.before e.after)
     × IfErr result (IsRefusalOfTables bytes (text_from text e.given))
-    × HasBegunAtMost result e (IsBegunByTables by.form bytes (text_from text e.given) e.before e.after)
-    × IsInputTold text result e (IsReadForTables bytes result e)
+    × WroteNothingOrPrefix result e (IsBegunByTables by.form bytes (text_from text e.given) e.before e.after)
+    × IsInputTaken text result e (IsReadForTables bytes result e)
 IsCarriedOut contents (lines table_file text by) result e = (bytes : List ℕ)
     × IfOk result (AreLinesAnsweredBy by.form bytes (text_from text e.given) e.before e.after)
     × IfErr result (AreLinesFailed by.form bytes (text_from text e.given) e.before e.after)
-    × IsInputTold text result e ((e.input_after ≡ e.input_before)
+    × IsInputTaken text result e ((e.input_after ≡ e.input_before)
     ⊎ AreLinesRead by.form bytes result e.given e.left e.before e.after)
 IsCarriedOut contents (run_placed table_file text points) result e = (bytes : List ℕ)
     × IfOk result (IsPlacedByTables bytes (text_from text e.given) e.before e.after)
     × IfErr result (IsRefusalOfTables bytes (text_from text e.given))
-    × HasBegunAtMost result e (IsPlacingBegunByTables bytes (text_from text e.given) e.before e.after)
-    × IsInputTold text result e (OnOk result (IsAtEnd e.left))
+    × WroteNothingOrPrefix result e (IsPlacingBegunByTables bytes (text_from text e.given) e.before e.after)
+    × IsInputTaken text result e (OnOk result (IsAtEnd e.left))
 IsCarriedOut contents (try_placed lex yacc text points) result e = (lex_bytes yacc_bytes : List ℕ)
     × IfOk result (IsPlacedByFiles lex_bytes yacc_bytes (text_from text e.given) e.before e.after)
     × IfErr result (IsRefusalOfFiles lex_bytes yacc_bytes (text_from text e.given))
-    × HasBegunAtMost result e (IsPlacingBegunByFiles lex_bytes yacc_bytes (text_from text e.given) e.before e.after)
-    × IsInputTold text result e (OnOk result (IsAtEnd e.left))
+    × WroteNothingOrPrefix result e (IsPlacingBegunByFiles lex_bytes yacc_bytes (text_from text e.given) e.before e.after)
+    × IsInputTaken text result e (OnOk result (IsAtEnd e.left))
 IsCarriedOut contents (try lex yacc text by) result e = (lex_bytes yacc_bytes : List ℕ)
     × IfOk result (IsAnsweredByFiles by.form lex_bytes yacc_bytes (text_from text e.given) e.before e.after)
     × IfErr result (IsRefusalOfFiles lex_bytes yacc_bytes (text_from text e.given))
-    × HasBegunAtMost result e (IsBegunByFiles by.form lex_bytes yacc_bytes (text_from text e.given) e.before e.after)
-    × IsInputTold text result e (IsReadForFiles lex_bytes yacc_bytes result e)
+    × WroteNothingOrPrefix result e (IsBegunByFiles by.form lex_bytes yacc_bytes (text_from text e.given) e.before e.after)
+    × IsInputTaken text result e (IsReadForFiles lex_bytes yacc_bytes result e)
 IsCarriedOut contents (build lex yacc table_file report version expected points) result e =
-    IsToldOrStopped result e.before e.after
-    (IsBuildTold contents version_2 version report expected e.before e.after result)
+    DoneOrUnchanged result e.before e.after
+    (HasBuilt contents version_2 version report expected e.before e.after result)
     × IfErr result (IsRefusalOfBuild version expected)
     × (e.input_after ≡ e.input_before)
 IsCarriedOut contents (check table_file by) result e =
-    IsToldOrStopped result e.before e.after (IsCheckTold by.form e.before e.after result)
+    DoneOrUnchanged result e.before e.after (HasChecked by.form e.before e.after result)
     × IfErr result IsRefusalOfCheck
     × (e.input_after ≡ e.input_before)
 IsCarriedOut contents (explain lex yacc states graph strictness form) result e =
-    IsToldOrStopped result e.before e.after
-    (IsExplanationTold contents lex states graph strictness form e.before e.after result)
+    DoneOrUnchanged result e.before e.after
+    (HasExplained contents lex states graph strictness form e.before e.after result)
     × IfErr result IsOfDevice
     × (e.input_after ≡ e.input_before)
 
@@ -252,4 +252,4 @@ pub record HasPerformed {R D : Type 0} (contents : D → Option (List ℕ)) (req
   pub result : Result Completion Failure
   pub carried_out : IsCarriedOut contents request result e
   pub is_status : IsStatusOf status result
-  pub output : IsToldOf request result e.before e.after failures new_failures
+  pub output : IsOutputAfter request result e.before e.after failures new_failures

@@ -8,7 +8,7 @@ use Rattle.ly_feed.specs.declared.outcome.Outcome.TheVariants.{NoRule, Syntax, T
 use Rattle.ly_listing.specs.declared.token_end.TokenEnd.{TokenEnd}
 use Rattle.ly_listing.specs.declared.token_end.TokenEnd.TheVariants.{Clean, Stuck}
 use Rattle.ly_report.specs.declared.counts.ConflictCounts.{ConflictCounts}
-use Rattle.ly_words.specs.declared.command.Strictness.{Strictness}
+use Rattle.ly_cli.specs.declared.command.Strictness.{Strictness}
 use Rattle.lytab.specs.declared.completion.Completion.{Completion}
 use Rattle.lytab.specs.declared.completion.Completion.TheVariants.{NotPassed, Done, FilesRefused, TextRefused}
 
@@ -48,7 +48,7 @@ count_due strictness = count_where strictness.expected strictness.strict
 
 -- files with these findings pass: they have only warnings and conflicts that are allowed
 abbrev pub pass : Strictness → Findings → Bool
-pass strictness found = if strictness.strict && found.are_doubtful then false
+pass strictness found = if strictness.strict && found.has_warnings then false
     else are_expected (count_due strictness) found.conflicts
 
 -- done if the files are accepted and pass

@@ -2,7 +2,7 @@
 use Rattle.std.specs.Prelude.{◌≡◌, ℕ, List, ◌++◌, Option, OnSome, take}
 use Rattle.ly_base.specs.Location.{column_behind, line_behind}
 use Rattle.ly_base.specs.declared.location.Location.{Location}
-use Rattle.ly_page.specs.Page.{behind, location_in}
+use Rattle.ly_text_buffer.specs.TextBuffer.{behind, location_in}
 
 -- The location of a byte of a file is printed first, or that of the file's end if it has no such byte.
 abbrev pub SaysPlaceOf : List ℕ → List ℕ → ℕ → Option (List ℕ) → Option (List ℕ) → Type 0

@@ -3,7 +3,7 @@ use Rattle.std.specs.Prelude.{◌≡◌, ◌⊎◌, ℕ, IfErr, List, MatchResul
 use Rattle.std.specs.Io.KnownBytes.{IsAtEnd}
 use Rattle.ly_base.specs.Limits.{version_2}
 use Rattle.ly_base.specs.declared.version.Version.TheVariants.{V2}
-use Rattle.ly_drive.specs.Answering.{IsDriven, IsOpenBehind, IsReadAsNeeded}
+use Rattle.ly_drive.specs.Answering.{IsDriven, NeedsMoreInput, IsReadAsNeeded}
 use Rattle.ly_generate.specs.Generated.{IsGenerated}
 use Rattle.ly_tables.specs.TableSet.{TableSet}
 use Rattle.lytab.specs.Failure.{IsOfReader}
@@ -27,7 +27,7 @@ IsOfRules _ = ⊥
 -- beyond that. If a read failed, the result wasn't known yet, so that the read was needed.
 pub record IsReadFor (s : TableSet) (result : Result Completion Failure) (before after : Option (List ℕ)) : Type 0 where
   pub needed : (HasReadFailed result → ⊥) → IsReadAsNeeded 4096 s before after
-  pub asked : HasReadFailed result → IsOpenBehind s before after
+  pub asked : HasReadFailed result → NeedsMoreInput s before after
 
 -- the same if the set is that of a table file
 abbrev pub IsReadByTables : List ℕ → Result Completion Failure → Option (List ℕ) → Option (List ℕ) → Type 0

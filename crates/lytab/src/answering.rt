@@ -1,10 +1,10 @@
 //! The commands that parse a text.
 ghost use Rattle.std.specs.Prelude.{◌≡◌, IfErr, IfOk, IsSome, None, Ok, OnOk};
 ghost use Rattle.std.specs.Io.KnownBytes.{IsAtEnd};
-ghost use Rattle.lytab.specs.Answering.{AreTokensBegun, AreTokensPrinted, IsAnswerBegun, IsAnswered};
+ghost use Rattle.lytab.specs.Answering.{AreTokensBegun, AreTokensPrinted, IsAnswerBegun, IsParsedBy};
 ghost use Rattle.lytab.specs.Answering.{IsAnsweredByFiles, IsAnsweredByTables, IsBegunByFiles, IsBegunByTables};
 ghost use Rattle.lytab.specs.Answering.{IsOneText, text_from};
-ghost use Rattle.lytab.specs.Devices.{AreDevicesTold, AreWritesTold};
+ghost use Rattle.lytab.specs.Devices.{DeviceFailuresReported, WriteFailuresReported};
 ghost use Rattle.lytab.specs.Failure.{IsOfWriter};
 ghost use Rattle.lytab.specs.Lines.{AreLinesAnsweredBy, AreLinesFailed, AreLinesRead, AreLinesReadBy};
 ghost use Rattle.lytab.specs.Lines.{AreLinesStoppedBy};
@@ -87,13 +87,13 @@ pub fn answer_text<'a, F: Files, R: Source + Recall, W: Sink>(
     output: &mut W,
     notes: &mut Notes,
 ) -> Result<Completion, Failure<'a>>
-    ensures answered { IfOk result (IsAnswered rules.entry (text_from text.entry (R.remaining input.old))
+    ensures answered { IfOk result (IsParsedBy rules.entry (text_from text.entry (R.remaining input.old))
         (W.contents output.old) (W.contents output.new)) }
     ensures refused { IfErr result (IsRefusalOf rules.entry (text_from text.entry (R.remaining input.old))) }
-    ensures told { text.entry ≡ None → AreDevicesTold result (R.failures input.old) (R.failures input.new)
+    ensures told { text.entry ≡ None → DeviceFailuresReported result (R.failures input.old) (R.failures input.new)
         (W.failures output.old) (W.failures output.new) }
     ensures unread { IsSome text.entry → input.new ≡ input.old }
-    ensures written { AreWritesTold result (W.failures output.old) (W.failures output.new) }
+    ensures written { WriteFailuresReported result (W.failures output.old) (W.failures output.new) }
     ensures beginning { IfErr result (λ f. IsOfWriter f → IsAnswerBegun rules.entry
         (text_from text.entry (R.remaining input.old)) (W.contents output.old) (W.contents output.new)) }
     ensures stopped { IfErr result (AreLinesStoppedBy rules.entry (text_from text.entry (R.remaining input.old))
@@ -127,10 +127,10 @@ fn answer_by<'a, R: Source + Recall, W: Sink>(
     writer: &mut W,
     notes: &mut Notes,
 ) -> Result<Completion, Failure<'a>>
-    ensures answered { IfOk result (IsAnswered rules.entry (R.remaining reader.old) (W.contents writer.old)
+    ensures answered { IfOk result (IsParsedBy rules.entry (R.remaining reader.old) (W.contents writer.old)
         (W.contents writer.new)) }
     ensures refused { IfErr result (IsRefusalOf rules.entry (R.remaining reader.old)) }
-    ensures told { AreDevicesTold result (R.failures reader.old) (R.failures reader.new) (W.failures writer.old)
+    ensures told { DeviceFailuresReported result (R.failures reader.old) (R.failures reader.new) (W.failures writer.old)
         (W.failures writer.new) }
     ensures beginning { IfErr result (λ f. IsOfWriter f → IsAnswerBegun rules.entry (R.remaining reader.old)
         (W.contents writer.old) (W.contents writer.new)) }
@@ -178,7 +178,7 @@ fn print_tokens<'a, R: Source + Recall, W: Sink>(
     ensures answered { IfOk result (AreTokensPrinted form lex.now (R.remaining reader.old) (W.contents writer.old)
         (W.contents writer.new)) }
     ensures refused { IfErr result (IsRefusalOfLex lex.now) }
-    ensures told { AreDevicesTold result (R.failures reader.old) (R.failures reader.new) (W.failures writer.old)
+    ensures told { DeviceFailuresReported result (R.failures reader.old) (R.failures reader.new) (W.failures writer.old)
         (W.failures writer.new) }
     ensures beginning { IfErr result (λ f. IsOfWriter f → AreTokensBegun form lex.now (R.remaining reader.old)
         (W.contents writer.old) (W.contents writer.new)) }
@@ -216,7 +216,7 @@ fn print_table_tokens<'a, R: Source + Recall, W: Sink>(
     ensures answered { IfOk result (AreTableTokens form tables.now (R.remaining reader.old) (W.contents writer.old)
         (W.contents writer.new)) }
     ensures refused { IfErr result (IsRefusalOfScanner tables.now (R.remaining reader.old)) }
-    ensures told { AreDevicesTold result (R.failures reader.old) (R.failures reader.new) (W.failures writer.old)
+    ensures told { DeviceFailuresReported result (R.failures reader.old) (R.failures reader.new) (W.failures writer.old)
         (W.failures writer.new) }
     ensures beginning { IfErr result (λ f. IsOfWriter f → AreTableTokensBegun form tables.now (R.remaining reader.old)
         (W.contents writer.old) (W.contents writer.new)) }
@@ -246,7 +246,7 @@ fn answer_by_tables<'a, R: Source + Recall, W: Sink>(
     ensures answered { IfOk result (IsAnsweredByTables form tables.now (R.remaining reader.old) (W.contents writer.old)
         (W.contents writer.new)) }
     ensures refused { IfErr result (IsRefusalOfTables tables.now (R.remaining reader.old)) }
-    ensures told { AreDevicesTold result (R.failures reader.old) (R.failures reader.new) (W.failures writer.old)
+    ensures told { DeviceFailuresReported result (R.failures reader.old) (R.failures reader.new) (W.failures writer.old)
         (W.failures writer.new) }
     ensures beginning { IfErr result (λ f. IsOfWriter f → IsBegunByTables form tables.now (R.remaining reader.old)
         (W.contents writer.old) (W.contents writer.new)) }
@@ -280,7 +280,7 @@ fn answer_lines<'a, R: Source, W: Sink>(
 ) -> Result<Completion, Failure<'a>>
     ensures answered { IfOk result (AreLinesAnsweredBy form tables.now (R.remaining reader.old) (W.contents writer.old)
         (W.contents writer.new)) }
-    ensures told { AreDevicesTold result (R.failures reader.old) (R.failures reader.new) (W.failures writer.old)
+    ensures told { DeviceFailuresReported result (R.failures reader.old) (R.failures reader.new) (W.failures writer.old)
         (W.failures writer.new) }
     ensures stopped { IfErr result (AreLinesFailed form tables.now (R.remaining reader.old) (W.contents writer.old)
         (W.contents writer.new)) }
@@ -313,7 +313,7 @@ fn place_by_tables<'a, R: Source + Recall, W: Sink>(
     ensures answered { IfOk result (IsPlacedByTables tables.now (R.remaining reader.old) (W.contents writer.old)
         (W.contents writer.new)) }
     ensures refused { IfErr result (IsRefusalOfTables tables.now (R.remaining reader.old)) }
-    ensures told { AreDevicesTold result (R.failures reader.old) (R.failures reader.new) (W.failures writer.old)
+    ensures told { DeviceFailuresReported result (R.failures reader.old) (R.failures reader.new) (W.failures writer.old)
         (W.failures writer.new) }
     ensures beginning { IfErr result (λ f. IsOfWriter f → IsPlacingBegunByTables tables.now (R.remaining reader.old)
         (W.contents writer.old) (W.contents writer.new)) }
@@ -343,7 +343,7 @@ fn place_by_files<'a, R: Source + Recall, W: Sink>(
     ensures answered { IfOk result (IsPlacedByFiles lex.now yacc.now (R.remaining reader.old)
         (W.contents writer.old) (W.contents writer.new)) }
     ensures refused { IfErr result (IsRefusalOfFiles lex.now yacc.now (R.remaining reader.old)) }
-    ensures told { AreDevicesTold result (R.failures reader.old) (R.failures reader.new) (W.failures writer.old)
+    ensures told { DeviceFailuresReported result (R.failures reader.old) (R.failures reader.new) (W.failures writer.old)
         (W.failures writer.new) }
     ensures beginning { IfErr result (λ f. IsOfWriter f → IsPlacingBegunByFiles lex.now yacc.now
         (R.remaining reader.old) (W.contents writer.old) (W.contents writer.new)) }
@@ -375,7 +375,7 @@ fn answer_by_files<'a, R: Source + Recall, W: Sink>(
     ensures answered { IfOk result (IsAnsweredByFiles form lex.now yacc.now (R.remaining reader.old)
         (W.contents writer.old) (W.contents writer.new)) }
     ensures refused { IfErr result (IsRefusalOfFiles lex.now yacc.now (R.remaining reader.old)) }
-    ensures told { AreDevicesTold result (R.failures reader.old) (R.failures reader.new) (W.failures writer.old)
+    ensures told { DeviceFailuresReported result (R.failures reader.old) (R.failures reader.new) (W.failures writer.old)
         (W.failures writer.new) }
     ensures beginning { IfErr result (λ f. IsOfWriter f → IsBegunByFiles form lex.now yacc.now (R.remaining reader.old)
         (W.contents writer.old) (W.contents writer.new)) }

@@ -2,9 +2,9 @@
 ghost use Rattle.std.specs.Prelude.{◌≡◌, IfErr, IfOk, OnOk};
 ghost use Rattle.ly_base.specs.Limits.{version_2};
 ghost use Rattle.ly_report.specs.Report.{counts_line};
-ghost use Rattle.lytab.specs.CarriedOut.{wanted_for, IsBuildTold};
+ghost use Rattle.lytab.specs.CarriedOut.{wanted_for, HasBuilt};
 ghost use Rattle.lytab.specs.Completion.{missed_count};
-ghost use Rattle.lytab.specs.Devices.{IsOutputTold, IsToldOrStopped};
+ghost use Rattle.lytab.specs.Devices.{OutputFailuresReported, DoneOrUnchanged};
 ghost use Rattle.lytab.specs.Files.{HasTaken, IsWrittenIf};
 ghost use Rattle.lytab.specs.Refusal.{IsRefusalOfBuild};
 
@@ -13,11 +13,11 @@ use crate::failure::Failure;
 use crate::files::{FileFault, read_file, write_file, write_if_named};
 use crate::notes::Notes;
 use ly_base::{Limits, Version};
-use ly_engine::{Built, ConflictCounts, Report, build};
-use ly_page::Named;
+use ly_cli::Paths;
+use ly_engine::{Built, ConflictCounts, ReportRequest, build};
 use ly_print::{Counted, Sink};
 use ly_report::push_counts;
-use ly_words::Paths;
+use ly_text_buffer::NamedFile;
 use std::alloc::{AllocError, Global};
 use std::rt::Files;
 
@@ -33,11 +33,11 @@ pub fn build_tables<'a, F: Files, W: Sink>(
     output: &mut W,
     notes: &mut Notes,
 ) -> Result<Completion, Failure<'a>>
-    ensures built { IsToldOrStopped result (W.contents output.old) (W.contents output.new)
-        (IsBuildTold ⟦<Counted<F::File> as Sink>⟧.contents version_2 version paths.entry.report expected
+    ensures built { DoneOrUnchanged result (W.contents output.old) (W.contents output.new)
+        (HasBuilt ⟦<Counted<F::File> as Sink>⟧.contents version_2 version paths.entry.report expected
         (W.contents output.old) (W.contents output.new) result) }
     ensures refused { IfErr result (IsRefusalOfBuild version expected) }
-    ensures devices { IsOutputTold result output.old output.new (W.failures output.old) (W.failures output.new) }
+    ensures devices { OutputFailuresReported result output.old output.new (W.failures output.old) (W.failures output.new) }
 {
     let lex = read_file(files, alloc, paths.lex, notes)?;
     let yacc = read_file(files, alloc, paths.yacc, notes)?;
@@ -46,8 +46,8 @@ pub fn build_tables<'a, F: Files, W: Sink>(
         Ok(built) => built,
         Err(fault) => {
             let refused = Err(Failure::of_files(fault, &lex, &yacc));
-            let lex = Named::new(paths.lex, &lex);
-            let yacc = Named::new(paths.yacc, &yacc);
+            let lex = NamedFile::new(paths.lex, &lex);
+            let yacc = NamedFile::new(paths.yacc, &yacc);
             notes.explain(alloc, lex, yacc, &limits.within(version), &refused);
             return refused;
         }
@@ -71,12 +71,12 @@ fn missed_count(expected: Option<usize>, conflicts: &ConflictCounts) -> Option<u
 }
 
 /// Whether a report is requested: a file is named for it.
-fn wanted(path: Option<&str>) -> Report
+fn wanted(path: Option<&str>) -> ReportRequest
     ensures { result ≡ wanted_for path.entry }
 {
     match path {
-        Some(_) => Report::Wanted,
-        None => Report::Unwanted,
+        Some(_) => ReportRequest::Wanted,
+        None => ReportRequest::Unwanted,
     }
 }
 

@@ -1,9 +1,9 @@
 //! The command `check`.
 ghost use Rattle.std.specs.Prelude.{◌≡◌, ◌++◌, IfErr, IfOk, OnOk, string_bytes};
 ghost use Rattle.std.specs.Fmt.{decimal};
-ghost use Rattle.lytab.specs.CarriedOut.{counts_json, counts_text, HasCounts, IsCheckTold, set_json, set_line};
+ghost use Rattle.lytab.specs.CarriedOut.{counts_json, counts_text, HasCounts, HasChecked, set_json, set_line};
 ghost use Rattle.lytab.specs.CarriedOut.{set_told, version_number};
-ghost use Rattle.lytab.specs.Devices.{IsOutputTold, IsToldOrStopped};
+ghost use Rattle.lytab.specs.Devices.{OutputFailuresReported, DoneOrUnchanged};
 ghost use Rattle.lytab.specs.Refusal.{IsRefusalOfCheck};
 ghost use Rattle.ly_tables.specs.Refusal.{IsRefusedAs};
 
@@ -27,10 +27,10 @@ pub fn check_tables<'a, F: Files, W: Sink>(
     output: &mut W,
     notes: &mut Notes,
 ) -> Result<Completion, Failure<'a>>
-    ensures checked { IsToldOrStopped result (W.contents output.old) (W.contents output.new)
-        (IsCheckTold form (W.contents output.old) (W.contents output.new) result) }
+    ensures checked { DoneOrUnchanged result (W.contents output.old) (W.contents output.new)
+        (HasChecked form (W.contents output.old) (W.contents output.new) result) }
     ensures refused { IfErr result IsRefusalOfCheck }
-    ensures devices { IsOutputTold result output.old output.new (W.failures output.old) (W.failures output.new) }
+    ensures devices { OutputFailuresReported result output.old output.new (W.failures output.old) (W.failures output.new) }
 {
     let bytes = read_file(files, alloc, path, notes)?;
     let (counts, version) = counts_of(alloc, &bytes)?;

@@ -3,15 +3,15 @@ ghost use Rattle.std.specs.Prelude.{◌≡◌, IfErr, IfOk};
 ghost use Rattle.lytab.specs.Completion.{completion_of_findings, completion_of_lines, completion_of_outcome};
 ghost use Rattle.lytab.specs.Completion.{are_expected, completion_of_tokens, completion_status, count_due};
 ghost use Rattle.lytab.specs.Completion.{pass};
-ghost use Rattle.lytab.specs.Devices.{IsOutputTold, IsSaid};
+ghost use Rattle.lytab.specs.Devices.{OutputFailuresReported, WroteAllOrPrefix};
 ghost use Rattle.lytab.specs.Failure.{IsOfDevice};
 
 use crate::failure::Failure;
 use crate::files::{STANDARD, write_to};
+use ly_cli::Strictness;
 use ly_engine::{ConflictCounts, LinesOutcome, Outcome, TokenEnd};
 use ly_explain::Findings;
 use ly_print::Sink;
-use ly_words::Strictness;
 
 /// The result of a command without failures.
 #[derive(Clone, Copy)]
@@ -70,10 +70,10 @@ impl Completion {
 
     /// Writes the output of a command to standard output, and returns this result.
     pub fn said<'a, W: Sink>(self, output: &mut W, text: &[u8]) -> Result<Completion, Failure<'a>>
-        ensures said { IsSaid result (W.contents output.old) (W.contents output.new) text.now }
+        ensures said { WroteAllOrPrefix result (W.contents output.old) (W.contents output.new) text.now }
         ensures completed { IfOk result (λ c. c ≡ self) }
         ensures failed { IfErr result IsOfDevice }
-        ensures devices { IsOutputTold result output.old output.new (W.failures output.old) (W.failures output.new) }
+        ensures devices { OutputFailuresReported result output.old output.new (W.failures output.old) (W.failures output.new) }
     {
         match write_to(output, STANDARD, text) {
             Ok(()) => Ok(self),
@@ -97,7 +97,7 @@ impl Completion {
 fn pass(strictness: Strictness, findings: &Findings) -> bool
     ensures { result ≡ pass strictness findings.now }
 {
-    if strictness.strict && findings.are_doubtful {
+    if strictness.strict && findings.has_warnings {
         return false;
     }
     are_expected(count_due(strictness), &findings.conflicts)

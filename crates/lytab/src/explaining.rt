@@ -3,8 +3,8 @@ ghost use Rattle.std.specs.Prelude.{◌≡◌, IfErr, IfOk, OnOk};
 ghost use Rattle.ly_accepted.specs.Findings.{IsInForm};
 ghost use Rattle.ly_base.specs.Limits.{version_2};
 ghost use Rattle.ly_explain.specs.Explained.{IsExplained};
-ghost use Rattle.lytab.specs.CarriedOut.{IsExplanationTold, is_json, lex_text};
-ghost use Rattle.lytab.specs.Devices.{IsOutputTold, IsToldOrStopped};
+ghost use Rattle.lytab.specs.CarriedOut.{HasExplained, is_json, lex_text};
+ghost use Rattle.lytab.specs.Devices.{OutputFailuresReported, DoneOrUnchanged};
 ghost use Rattle.lytab.specs.Failure.{IsOfDevice};
 ghost use Rattle.lytab.specs.Files.{IsWrittenIf};
 
@@ -14,9 +14,9 @@ use crate::files::{FileFault, read_file, write_if_named};
 use crate::notes::{Notes, reason};
 use crate::shown_path::ShownPath;
 use ly_base::{Limits, OutOfMemory};
-use ly_explain::{Explanation, Named, Wish, explain, explain_grammar};
+use ly_cli::{ExplainPaths, Strictness};
+use ly_explain::{Explanation, NamedFile, Options, explain, explain_grammar};
 use ly_print::{AnswerForm, Counted, Sink};
-use ly_words::{ExplainPaths, Strictness};
 use std::alloc::Global;
 use std::rt::Files;
 
@@ -32,21 +32,21 @@ pub fn explain_files<'a, F: Files, W: Sink>(
     output: &mut W,
     notes: &mut Notes,
 ) -> Result<Completion, Failure<'a>>
-    ensures said { IsToldOrStopped result (W.contents output.old) (W.contents output.new)
-        (IsExplanationTold ⟦<Counted<F::File> as Sink>⟧.contents paths.entry.lex paths.entry.states
+    ensures said { DoneOrUnchanged result (W.contents output.old) (W.contents output.new)
+        (HasExplained ⟦<Counted<F::File> as Sink>⟧.contents paths.entry.lex paths.entry.states
         paths.entry.graph strictness form (W.contents output.old) (W.contents output.new) result) }
     ensures failed { IfErr result IsOfDevice }
-    ensures devices { IsOutputTold result output.old output.new (W.failures output.old) (W.failures output.new) }
+    ensures devices { OutputFailuresReported result output.old output.new (W.failures output.old) (W.failures output.new) }
 {
     let lex = read_if_named(files, alloc, paths.lex, notes)?;
     let yacc = read_or_say_why(files, alloc, paths.yacc, notes)?;
-    let wish = Wish {
+    let options = Options {
         states: paths.states.is_some(),
         picture: paths.graph.is_some(),
         grammar_alone: false,
         json: is_json(form),
     };
-    let explanation = explained(alloc, paths, &lex, &yacc, wish)?;
+    let explanation = explained(alloc, paths, &lex, &yacc, options)?;
     write_files(files, alloc, paths, &explanation, notes)?;
     Completion::of_findings(&explanation.findings, strictness).said(output, &explanation.text)
 }
@@ -67,19 +67,25 @@ fn explained(
     paths: ExplainPaths<'_>,
     lex: &[u8],
     yacc: &[u8],
-    wish: Wish,
+    options: Options,
 ) -> Result<Explanation, OutOfMemory>
     ensures explained { IfOk result (IsExplained version_2 (lex_text paths.entry.lex lex.now) yacc.now) }
-    ensures form { IfOk result (λ e. IsInForm wish.json e.findings e.text.items) }
+    ensures form { IfOk result (λ e. IsInForm options.json e.findings e.text.items) }
 {
     let yacc_name = ShownPath(paths.yacc).text(alloc)?;
-    let yacc = Named::new(&yacc_name, yacc);
+    let yacc = NamedFile::new(&yacc_name, yacc);
     match paths.lex {
         Some(path) => {
             let lex_name = ShownPath(path).text(alloc)?;
-            explain(alloc, Named::new(&lex_name, lex), yacc, &Limits::V2, wish)
+            explain(
+                alloc,
+                NamedFile::new(&lex_name, lex),
+                yacc,
+                &Limits::V2,
+                options,
+            )
         }
-        None => explain_grammar(alloc, yacc, &Limits::V2, wish),
+        None => explain_grammar(alloc, yacc, &Limits::V2, options),
     }
 }
 

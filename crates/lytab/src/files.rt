@@ -45,7 +45,7 @@ pub fn open<'a, F: Files>(
     match fs::open(files, path) {
         Ok(file) => Ok(file),
         Err(reason) => {
-            notes.say_reason(path, &reason);
+            notes.write_reason(path, &reason);
             Err(FileFault::CannotRead(path))
         }
     }
@@ -109,7 +109,7 @@ fn write_in_place<'a, F: Files>(
             Ok(())
         }
         Err(reason) => {
-            notes.say_reason(path, &reason);
+            notes.write_reason(path, &reason);
             Err(FileFault::CannotWrite(path))
         }
     }

@@ -6,10 +6,10 @@ use crate::failure::Failure;
 use crate::remembering::Recall;
 use crate::shown_path::ShownPath;
 use ly_base::{Limits, Location, OutOfMemory, locate};
+use ly_cli::Command;
+use ly_diagnostics::{write_faults, write_lex_faults};
 use ly_engine::{GenFault, Outcome, TextFault, TokenEnd};
-use ly_page::{Named, Page};
-use ly_refused::{say_faults, say_lex_faults};
-use ly_words::Command;
+use ly_text_buffer::{NamedFile, TextBuffer};
 use std::alloc::Global;
 use std::fmt::Display;
 use std::fs;
@@ -23,7 +23,7 @@ const LONGEST: usize = 60;
 #[derive(Drop)]
 pub struct Notes {
     /// The text so far.
-    page: Page,
+    buffer: TextBuffer,
     /// Whether it is requested.
     are_wanted: bool,
     /// The allocator for what is made for it.
@@ -46,7 +46,7 @@ impl Notes {
             Command::Explain { .. } => false,
         };
         Notes {
-            page: Page::new(alloc),
+            buffer: TextBuffer::new(alloc),
             are_wanted,
             alloc,
         }
@@ -59,7 +59,7 @@ impl Notes {
 
     /// Writes the text. Writes nothing if there was no memory for it.
     pub fn write<E: Write>(self, faults: &mut E) {
-        if let Ok(text) = self.page.finish() {
+        if let Ok(text) = self.buffer.finish() {
             let _ = faults.write_all(&text);
         }
     }
@@ -69,7 +69,7 @@ impl Notes {
         let (Some(bytes), Ok(name)) = (reader.recalled(), ShownPath(path).text(self.alloc)) else {
             return;
         };
-        let text = Named::new(&name, bytes);
+        let text = NamedFile::new(&name, bytes);
         match outcome {
             Outcome::Tree => {}
             Outcome::Syntax { byte, length, .. } => self.point_at_token(text, *byte, *length),
@@ -81,52 +81,52 @@ impl Notes {
     pub fn point_at_end<R: Recall>(&mut self, path: &str, reader: &R, end: TokenEnd) {
         if let (Some(bytes), TokenEnd::Stuck { byte }) = (reader.recalled(), end) {
             if let Ok(name) = ShownPath(path).text(self.alloc) {
-                self.point_at_byte(Named::new(&name, bytes), byte);
+                self.point_at_byte(NamedFile::new(&name, bytes), byte);
             }
         }
     }
 
     /// An unexpected token at a byte of a text, or its unexpected end, which has no bytes.
-    fn point_at_token(&mut self, text: Named<'_>, byte: u64, length: usize)
-        ensures { SaysPlaceOf text.entry.name.now text.entry.bytes.now byte self.old.page self.new.page }
+    fn point_at_token(&mut self, text: NamedFile<'_>, byte: u64, length: usize)
+        ensures { SaysPlaceOf text.entry.name.now text.entry.bytes.now byte self.old.buffer self.new.buffer }
     {
         let start = usize::try_from(byte).unwrap_or(usize::MAX);
         let token = text.bytes.get(start..).unwrap_or(b"");
         let token = token.get(..length).unwrap_or(token);
         let at = locate(text.bytes, start);
-        self.page.say_location_in(text, at);
-        let mut rest = self.page.beside();
+        self.buffer.push_location_in(text, at);
+        let mut rest = self.buffer.beside();
         if token.is_empty() {
-            rest.say(b"the text can't end here\n");
+            rest.push(b"the text can't end here\n");
         } else {
-            rest.say_quoted(token.get(..LONGEST).unwrap_or(token));
+            rest.push_quoted(token.get(..LONGEST).unwrap_or(token));
             let is_cut = token.len() > LONGEST;
-            rest.say(if is_cut { b".." } else { b"" });
-            rest.say(b" can't stand here\n");
+            rest.push(if is_cut { b".." } else { b"" });
+            rest.push(b" can't stand here\n");
         }
-        rest.say_excerpt(text, at);
-        self.page.say_page(rest);
+        rest.push_excerpt(text, at);
+        self.buffer.push_page(rest);
     }
 
     /// A byte of a text at which no rule matches.
-    fn point_at_byte(&mut self, text: Named<'_>, byte: u64)
-        ensures { SaysPlaceOf text.entry.name.now text.entry.bytes.now byte self.old.page self.new.page }
+    fn point_at_byte(&mut self, text: NamedFile<'_>, byte: u64)
+        ensures { SaysPlaceOf text.entry.name.now text.entry.bytes.now byte self.old.buffer self.new.buffer }
     {
         let start = usize::try_from(byte).unwrap_or(usize::MAX);
         let at = locate(text.bytes, start);
-        self.page.say_location_in(text, at);
+        self.buffer.push_location_in(text, at);
         let rest = self.unmatched(text, start, at);
-        self.page.say_page(rest);
+        self.buffer.push_page(rest);
     }
 
     /// That no rule matches at an offset of a text, and the line at its location.
-    fn unmatched(&self, text: Named<'_>, start: usize, at: Location) -> Page {
-        let mut page = self.page.beside();
-        page.say(b"no rule matches ");
-        page.say_byte(text.bytes.get(start).copied().unwrap_or(0));
-        page.say(b"\n");
-        page.say_excerpt(text, at);
-        page
+    fn unmatched(&self, text: NamedFile<'_>, start: usize, at: Location) -> TextBuffer {
+        let mut buffer = self.buffer.beside();
+        buffer.push(b"no rule matches ");
+        buffer.push_byte(text.bytes.get(start).copied().unwrap_or(0));
+        buffer.push(b"\n");
+        buffer.push_excerpt(text, at);
+        buffer
     }
 
     /// All errors of a lex file and a yacc file, if a command failed because they are rejected within limits, as
@@ -134,44 +134,44 @@ impl Notes {
     pub fn explain(
         &mut self,
         alloc: Global,
-        lex: Named<'_>,
-        yacc: Named<'_>,
+        lex: NamedFile<'_>,
+        yacc: NamedFile<'_>,
         limits: &Limits,
         ended: &Result<Completion, Failure<'_>>,
     ) {
         if let (true, Err(Failure::Refused(fault, _))) = (self.are_wanted, ended) {
             // what there is no memory for isn't reported
-            let _ = self.say_faults_of(alloc, lex, yacc, limits, fault);
+            let _ = self.write_faults_of(alloc, lex, yacc, limits, fault);
         }
     }
 
     /// All errors of both files, under the names that the user gave. Returns an error if memory runs out.
-    fn say_faults_of(
+    fn write_faults_of(
         &mut self,
         alloc: Global,
-        lex: Named<'_>,
-        yacc: Named<'_>,
+        lex: NamedFile<'_>,
+        yacc: NamedFile<'_>,
         limits: &Limits,
         fault: &GenFault,
     ) -> Result<(), OutOfMemory> {
         let lex_name = ShownPath(lex.name).text(alloc)?;
         let yacc_name = ShownPath(yacc.name).text(alloc)?;
-        let lex = Named::new(&lex_name, lex.bytes);
-        let yacc = Named::new(&yacc_name, yacc.bytes);
-        say_faults(alloc, &mut self.page, lex, yacc, limits, fault)
+        let lex = NamedFile::new(&lex_name, lex.bytes);
+        let yacc = NamedFile::new(&yacc_name, yacc.bytes);
+        write_faults(alloc, &mut self.buffer, lex, yacc, limits, fault)
     }
 
     /// All errors of a lex file, if a command failed because it is rejected, as `explain` reports them.
     pub fn explain_lex(
         &mut self,
         alloc: Global,
-        lex: Named<'_>,
+        lex: NamedFile<'_>,
         ended: &Result<Completion, Failure<'_>>,
     ) {
         if let (true, Err(Failure::Refused(fault, _))) = (self.are_wanted, ended) {
             if let Ok(name) = ShownPath(lex.name).text(alloc) {
-                let lex = Named::new(&name, lex.bytes);
-                let _ = say_lex_faults(alloc, &mut self.page, lex, &Limits::V2, fault);
+                let lex = NamedFile::new(&name, lex.bytes);
+                let _ = write_lex_faults(alloc, &mut self.buffer, lex, &Limits::V2, fault);
             }
         }
     }
@@ -179,7 +179,7 @@ impl Notes {
     /// Why a table file is rejected or fails on a text, if a command failed because of it.
     pub fn explain_tables(&mut self, path: &str, ended: &Result<Completion, Failure<'_>>) {
         match ended {
-            Err(Failure::Tables(fault)) => self.say_fault(
+            Err(Failure::Tables(fault)) => self.write_fault(
                 path,
                 fault.number(),
                 fault.name(),
@@ -187,32 +187,32 @@ impl Notes {
             ),
             Err(Failure::FaultyTables) => {
                 let fault = TextFault::FaultyTables;
-                self.say_fault(path, fault.number(), fault.name(), &fault);
+                self.write_fault(path, fault.number(), fault.name(), &fault);
             }
             _ => {}
         }
     }
 
     /// An error of a file: its number, its name and its message.
-    fn say_fault<T: Display>(&mut self, path: &str, number: Option<u8>, name: &str, fault: &T) {
+    fn write_fault<T: Display>(&mut self, path: &str, number: Option<u8>, name: &str, fault: &T) {
         let (true, Some(number)) = (self.are_wanted, number) else {
             return;
         };
-        self.say_file(path);
-        self.page.say_number(u64::from(number));
-        self.page.say(b" ");
-        self.page.say(name.as_bytes());
-        self.page.say(b": ");
-        self.page.say_words(fault);
-        self.page.say(b"\n");
+        self.write_file(path);
+        self.buffer.push_number(u64::from(number));
+        self.buffer.push(b" ");
+        self.buffer.push(name.as_bytes());
+        self.buffer.push(b": ");
+        self.buffer.push_words(fault);
+        self.buffer.push(b"\n");
     }
 
     /// Why a file can't be opened.
-    pub fn say_reason(&mut self, path: &str, reason: &io::Error) {
+    pub fn write_reason(&mut self, path: &str, reason: &io::Error) {
         if self.are_wanted {
-            self.say_file(path);
-            self.page.say_words(reason);
-            self.page.say(b"\n");
+            self.write_file(path);
+            self.buffer.push_words(reason);
+            self.buffer.push(b"\n");
         }
     }
 
@@ -232,15 +232,15 @@ impl Notes {
     pub fn look_again<F: Files>(&mut self, files: &F, path: &str) {
         if self.are_wanted {
             if let Some(reason) = reason(files, path) {
-                self.say_reason(path, &reason);
+                self.write_reason(path, &reason);
             }
         }
     }
 
     /// The name of a file and a colon, as editors read it.
-    fn say_file(&mut self, path: &str) {
-        self.page.say_words(&ShownPath(path));
-        self.page.say(b": ");
+    fn write_file(&mut self, path: &str) {
+        self.buffer.push_words(&ShownPath(path));
+        self.buffer.push(b": ");
     }
 }
 

@@ -1,10 +1,10 @@
 ghost use Rattle.std.specs.Prelude.{◌≡◌, ◌≤◌, IsSome, map, string_bytes, true};
-ghost use Rattle.ly_words.specs.CommandLine.{line_takes, request_of, Mean};
-ghost use Rattle.ly_words.specs.Command.{said};
-ghost use Rattle.ly_words.specs.Paths.{AskFor};
-ghost use Rattle.ly_words.specs.Request.{Request};
+ghost use Rattle.ly_cli.specs.CommandLine.{line_takes, request_of, Mean};
+ghost use Rattle.ly_cli.specs.Command.{said};
+ghost use Rattle.ly_cli.specs.Paths.{AskFor};
+ghost use Rattle.ly_cli.specs.Request.{Request};
 ghost use Rattle.lytab.specs.CarriedOut.{HasPerformed, IsCarriedOut, IsStatusOf};
-ghost use Rattle.lytab.specs.Devices.{IsToldOf};
+ghost use Rattle.lytab.specs.Devices.{IsOutputAfter};
 
 use crate::answering::{Rules, answer_text};
 use crate::building::build_tables;
@@ -16,9 +16,9 @@ use crate::files::read_file;
 use crate::notes::Notes;
 use crate::remembering::Recall;
 use ly_base::Limits;
-use ly_page::Named;
+use ly_cli::{Command, CommandFault, read_command};
 use ly_print::{Counted, Sink, Source};
-use ly_words::{Command, CommandFault, read_command};
+use ly_text_buffer::NamedFile;
 use std::alloc::Global;
 use std::io::Write;
 use std::rt::Files;
@@ -104,7 +104,7 @@ fn carry_out<'a, F: Files, R: Source + Recall, W: Sink>(
       before = W.contents output.old;
       after = W.contents output.new;
     }) }
-    ensures devices { IsToldOf (said command.entry) result output.old output.new (W.failures output.old)
+    ensures devices { IsOutputAfter (said command.entry) result output.old output.new (W.failures output.old)
         (W.failures output.new) }
 {
     match command {
@@ -115,7 +115,7 @@ fn carry_out<'a, F: Files, R: Source + Recall, W: Sink>(
                 form: by.form,
             };
             let ended = answer_text(files, alloc, rules, text, input, output, notes);
-            notes.explain_lex(alloc, Named::new(lex, &bytes), &ended);
+            notes.explain_lex(alloc, NamedFile::new(lex, &bytes), &ended);
             ended
         }
         Command::TableTokens { tables, text, by } => {
@@ -168,8 +168,8 @@ fn carry_out<'a, F: Files, R: Source + Recall, W: Sink>(
                 yacc: &yacc_bytes,
             };
             let ended = answer_text(files, alloc, rules, text, input, output, notes);
-            let lex = Named::new(lex, &lex_bytes);
-            let yacc = Named::new(yacc, &yacc_bytes);
+            let lex = NamedFile::new(lex, &lex_bytes);
+            let yacc = NamedFile::new(yacc, &yacc_bytes);
             notes.explain(alloc, lex, yacc, &Limits::V2, &ended);
             ended
         }
@@ -187,8 +187,8 @@ fn carry_out<'a, F: Files, R: Source + Recall, W: Sink>(
                 form: by.form,
             };
             let ended = answer_text(files, alloc, rules, text, input, output, notes);
-            let lex = Named::new(lex, &lex_bytes);
-            let yacc = Named::new(yacc, &yacc_bytes);
+            let lex = NamedFile::new(lex, &lex_bytes);
+            let yacc = NamedFile::new(yacc, &yacc_bytes);
             notes.explain(alloc, lex, yacc, &Limits::V2, &ended);
             ended
         }

@@ -74,7 +74,7 @@ impl<T: Write + OpenFile + Drop> Replacement<T> {
         match ended {
             Ok(()) => Ok(()),
             Err(reason) => {
-                notes.say_reason(path, &reason);
+                notes.write_reason(path, &reason);
                 let _ = fs::remove_file(files, &self.path);
                 Err(FileFault::CannotWrite(path))
             }

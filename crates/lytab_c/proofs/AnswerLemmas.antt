@@ -10,12 +10,12 @@ use Rattle.std.proofs.lemmas.List.{drop_all, length-map, take_all}
 use Rattle.ly_drive.specs.Answering.{IsDriven}
 use Rattle.ly_drive.specs.declared.fault.DriveFault.{DriveFault}
 use Rattle.ly_drive.specs.declared.fault.DriveFault.TheVariants.{Tables, Text}
-use Rattle.ly_feed.specs.Flaw.{verdict_of}
+use Rattle.ly_feed.specs.SyntaxError.{verdict_of}
 use Rattle.ly_feed.specs.TableAnswer.{IsVerdict}
-use Rattle.ly_feed.specs.declared.flaw.Flaw.{Flaw}
-use Rattle.ly_feed.specs.declared.flaw.Flaw.TheVariants as flaws
+use Rattle.ly_feed.specs.declared.syntax_error.SyntaxError.{SyntaxError}
+use Rattle.ly_feed.specs.declared.syntax_error.SyntaxError.TheVariants as syntax_errors
 use Rattle.ly_feed.specs.declared.text_fault.TextFault.TheVariants.{FaultyTables, OutOfMemory, Read, TooLong, Write}
-use Rattle.ly_places.proofs.PlacingLemmas.{plain_flaw}
+use Rattle.ly_places.proofs.PlacingLemmas.{plain_syntax_error}
 use Rattle.ly_places.specs.Parsing.{IsParsedAs}
 use Rattle.ly_places.specs.Parts.{parts_of}
 use Rattle.ly_places.specs.Placed.{Placed}
@@ -29,7 +29,7 @@ use Rattle.lytab_c.specs.Block.{IsFilled, IsPut}
 use Rattle.lytab_c.specs.Many.{all_expected, all_parts, text_reports, texts_from, total_report, AreAllParsed, AreEnds}
 use Rattle.lytab_c.specs.Many.{AreSaidAlone, IsSaidAlone, IsWrongEnd, ManyBlocks, TextAnswer}
 use Rattle.lytab_c.specs.Parsing.{expected_in, listed}
-use Rattle.lytab_c.specs.Private.Answers.{fault_answer, flaw_answer, tree_answer, AreAllAnswered, AreAllPut}
+use Rattle.lytab_c.specs.Private.Answers.{fault_answer, syntax_error_answer, tree_answer, AreAllAnswered, AreAllPut}
 use Rattle.lytab_c.specs.Private.Answers.{AreAnswersBy, AreHeld, IsAnswerBy, IsTablesFault}
 use Rattle.lytab_c.specs.Private.Putting.{IsFaultTold}
 use Rattle.lytab_c.specs.Reports.{needing}
@@ -148,23 +148,23 @@ said_alone tables text s x driven (inl (t, placed, same)) = subst (IsSaidAlone t
   parts = sym (length_listed 0 (parts_of t));
   expected = refl;
 })
-said_alone tables text s x driven (inr (inl (flaw, said, same))) = subst (IsSaidAlone tables text) (sym same) (record {
-  old = (flaw_answer flaw).blocks;
+said_alone tables text s x driven (inr (inl (syntax_error, said, same))) = subst (IsSaidAlone tables text) (sym same) (record {
+  old = (syntax_error_answer syntax_error).blocks;
   parts_room = refl;
   expected_room = refl;
-  parsed = (flaw, (s, driven, said), filled_of (expected_in flaw), refl, refl);
+  parsed = (syntax_error, (s, driven, said), filled_of (expected_in syntax_error), refl, refl);
   of_text = tt;
-  parts = needs_none flaw;
-  expected = as_many flaw;
+  parts = needs_none syntax_error;
+  expected = as_many syntax_error;
 })
   where
-    needs_none : (flaw : Flaw) → (flaw_answer flaw).report.needed ≡ 0
-    needs_none (flaws.Refused number token expected) = refl
-    needs_none (flaws.NoRule byte) = refl
+    needs_none : (syntax_error : SyntaxError) → (syntax_error_answer syntax_error).report.needed ≡ 0
+    needs_none (syntax_errors.Refused number token expected) = refl
+    needs_none (syntax_errors.NoRule byte) = refl
 
-    as_many : (flaw : Flaw) → (flaw_answer flaw).report.expected ≡ length (expected_in flaw)
-    as_many (flaws.Refused number token expected) = sym (length-map expected.items (λ t. t.0))
-    as_many (flaws.NoRule byte) = refl
+    as_many : (syntax_error : SyntaxError) → (syntax_error_answer syntax_error).report.expected ≡ length (expected_in syntax_error)
+    as_many (syntax_errors.Refused number token expected) = sym (length-map expected.items (λ t. t.0))
+    as_many (syntax_errors.NoRule byte) = refl
 said_alone tables text s x driven (inr (inr (said, same))) = subst (IsSaidAlone tables text) (sym same) (record {
   old = fault_answer.blocks;
   parts_room = refl;
@@ -197,10 +197,10 @@ pub found_parts : (s : TableSet) (text : List ℕ) (p : Parsed) (ps : Vec tree.P
 found_parts s text p ps same told =
     let is = subst (λ x. IsParsedAs text told.0 x) same told.2 in (is.0, is.2)
 
-pub found_flaw : (s : TableSet) (text : List ℕ) (p : Parsed) (flaw : Flaw) → p ≡ parsed.Refused flaw
-    → ((v : PlacedVerdict) × IsPlacedVerdict s text v × IsParsedAs text v p) → IsVerdict s text (verdict_of flaw)
-found_flaw s text p flaw same told =
-    plain_flaw s text told.0 flaw told.1 (subst (λ x. IsParsedAs text told.0 x) same told.2)
+pub found_syntax_error : (s : TableSet) (text : List ℕ) (p : Parsed) (syntax_error : SyntaxError) → p ≡ parsed.Refused syntax_error
+    → ((v : PlacedVerdict) × IsPlacedVerdict s text v × IsParsedAs text v p) → IsVerdict s text (verdict_of syntax_error)
+found_syntax_error s text p syntax_error same told =
+    plain_syntax_error s text told.0 syntax_error told.1 (subst (λ x. IsParsedAs text told.0 x) same told.2)
 
 -- The answers so far, of texts whose ends go on from an index.
 pub record AreAnsweredTo (s : TableSet) (texts ends : List ℕ) (start i : ℕ) (list : AnswerList) : Type 0 where

@@ -1,17 +1,17 @@
 -- Where a refused token ends fits 64 bits.
 use Rattle.std.proofs.Common.{◌<◌, ◌^◌, ℕ, List, arith, length, map}
-use Rattle.ly_feed.specs.Flaw.{token_of, verdict_of}
+use Rattle.ly_feed.specs.SyntaxError.{token_of, verdict_of}
 use Rattle.ly_feed.specs.TableAnswer.{IsVerdict}
 use Rattle.ly_feed.specs.Verdict.{Verdict, IsOutcome, accepted, faulty, refused, unmatched}
-use Rattle.ly_feed.specs.declared.flaw.Flaw.{Flaw}
-use Rattle.ly_feed.specs.declared.flaw.Flaw.TheVariants as flaws
+use Rattle.ly_feed.specs.declared.syntax_error.SyntaxError.{SyntaxError}
+use Rattle.ly_feed.specs.declared.syntax_error.SyntaxError.TheVariants as syntax_errors
 use Rattle.ly_feed.specs.declared.outcome.Outcome.{Outcome}
 use Rattle.ly_feed.specs.declared.outcome.Outcome.TheVariants.{NoRule, Syntax, Tree}
 use Rattle.ly_places.proofs.WithinLemmas.{refused_within}
 use Rattle.ly_print.specs.declared.answer_form.AnswerForm.{AnswerForm}
 use Rattle.ly_tables.specs.TableSet.{TableSet}
-use Rattle.lytab_c.specs.Answered.{IsAnswer}
-use Rattle.lytab_c.specs.Private.Putting.{FitsFlaw, FitsOutcome}
+use Rattle.lytab_c.specs.Answered.{IsOutput}
+use Rattle.lytab_c.specs.Private.Putting.{FitsSyntaxError, FitsOutcome}
 
 fits_by : (s : TableSet) (text : List ℕ) (v : Verdict) (o : Outcome) → length text < 2 ^ 64 → IsVerdict s text v
     → IsOutcome v o → FitsOutcome o
@@ -25,14 +25,14 @@ fits_by s text faulty (Syntax n byte count expected) fits is of = absurd of
 
 -- that of an answer
 pub outcome_fits : (form : AnswerForm) (tables text : List ℕ) (o : Outcome) (answer : List ℕ) → length text < 2 ^ 64
-    → IsAnswer form tables text o answer → FitsOutcome o
+    → IsOutput form tables text o answer → FitsOutcome o
 outcome_fits form tables text o answer fits h =
     let told = h.2 in fits_by h.0 text told.0 o fits told.1 told.2
 
 -- that of a flaw
-pub flaw_fits : (s : TableSet) (text : List ℕ) (flaw : Flaw) → length text < 2 ^ 64 → IsVerdict s text (verdict_of flaw)
-    → FitsFlaw flaw
-flaw_fits s text (flaws.Refused number token expected) fits is =
+pub syntax_error_fits : (s : TableSet) (text : List ℕ) (syntax_error : SyntaxError) → length text < 2 ^ 64 → IsVerdict s text (verdict_of syntax_error)
+    → FitsSyntaxError syntax_error
+syntax_error_fits s text (syntax_errors.Refused number token expected) fits is =
     let within = refused_within s text number (token_of token) (map (λ t. t.0) expected.items) is in
     omega (arith, within, fits)
-flaw_fits s text (flaws.NoRule byte) fits is = tt
+syntax_error_fits s text (syntax_errors.NoRule byte) fits is = tt

@@ -7,10 +7,10 @@ use Rattle.ly_drive.specs.Answering.{IsDriven}
 use Rattle.ly_drive.specs.DriveFault.{drive_number}
 use Rattle.ly_drive.specs.declared.fault.DriveFault.TheVariants.{Tables, Text}
 use Rattle.ly_base.specs.Lexed as lexed
-use Rattle.ly_feed.specs.Flaw.{token_of, verdict_of}
+use Rattle.ly_feed.specs.SyntaxError.{token_of, verdict_of}
 use Rattle.ly_feed.specs.TableAnswer.{end_of}
-use Rattle.ly_feed.specs.declared.flaw.Flaw.{Flaw}
-use Rattle.ly_feed.specs.declared.flaw.Flaw.TheVariants as flaws
+use Rattle.ly_feed.specs.declared.syntax_error.SyntaxError.{SyntaxError}
+use Rattle.ly_feed.specs.declared.syntax_error.SyntaxError.TheVariants as syntax_errors
 use Rattle.ly_feed.specs.declared.text_fault.TextFault.{TextFault}
 use Rattle.ly_feed.specs.declared.text_fault.TextFault.TheVariants.{FaultyTables, OutOfMemory, Read, TooLong, Write}
 use Rattle.ly_places.proofs.TokenLemmas.{same_extent}
@@ -26,7 +26,7 @@ use Rattle.ly_tables.specs.TableSet.{TableSet}
 use Rattle.ly_tables.specs.declared.fault.TableFault.{TableFault}
 use Rattle.ly_tables.specs.declared.fault.TableFault.TheVariants as file
 use Rattle.lytab_c.specs.Parsing.{ParseBlocks}
-use Rattle.lytab_c.specs.Private.Putting.{FitsFlaw, IsFaultTold}
+use Rattle.lytab_c.specs.Private.Putting.{FitsSyntaxError, IsFaultTold}
 use Rattle.lytab_c.specs.Private.TokenPutting.{AreTokensSaid, IsFaultOver, IsParsedOver}
 use Rattle.lytab_c.specs.Reports.{TellsFault}
 use Rattle.lytab_c.specs.Tokens.{given_over, placed_from, AreTokensParsed, IsFirstWrong, IsTokenFaultOf}
@@ -98,17 +98,17 @@ parsed_over s text tokens placed (Ok (parsed.Tree ps)) same (v, is, (t, accepted
       (subst (λ ts. IsPlacedTokenVerdict s text (map (token_over text) ts) v) same is),
   parts,
 )
-parsed_over s text tokens placed (Ok (parsed.Refused flaw)) same (v, is, plain) =
-    by_verdict v flaw (subst (λ ts. IsPlacedTokenVerdict s text (map (token_over text) ts) v) same is) plain
+parsed_over s text tokens placed (Ok (parsed.Refused syntax_error)) same (v, is, plain) =
+    by_verdict v syntax_error (subst (λ ts. IsPlacedTokenVerdict s text (map (token_over text) ts) v) same is) plain
   where
-    by_verdict : (v : PlacedVerdict) (flaw : Flaw) → IsPlacedTokenVerdict s text (given_over text tokens) v
-        → plain_of text v ≡ verdict_of flaw → IsTokenVerdict s text (given_over text tokens) (verdict_of flaw)
-    by_verdict (answer.accepted t) (flaws.Refused number token expected) is plain = absurd (let no : ⊥ = cc in no)
-    by_verdict (answer.accepted t) (flaws.NoRule byte) is plain = absurd (let no : ⊥ = cc in no)
-    by_verdict (answer.refused k t ts) flaw is plain = subst (IsTokenVerdict s text (given_over text tokens)) plain is
-    by_verdict (answer.unmatched byte) flaw is plain = absurd is
-    by_verdict answer.faulty (flaws.Refused number token expected) is plain = absurd (let no : ⊥ = cc in no)
-    by_verdict answer.faulty (flaws.NoRule byte) is plain = absurd (let no : ⊥ = cc in no)
+    by_verdict : (v : PlacedVerdict) (syntax_error : SyntaxError) → IsPlacedTokenVerdict s text (given_over text tokens) v
+        → plain_of text v ≡ verdict_of syntax_error → IsTokenVerdict s text (given_over text tokens) (verdict_of syntax_error)
+    by_verdict (answer.accepted t) (syntax_errors.Refused number token expected) is plain = absurd (let no : ⊥ = cc in no)
+    by_verdict (answer.accepted t) (syntax_errors.NoRule byte) is plain = absurd (let no : ⊥ = cc in no)
+    by_verdict (answer.refused k t ts) syntax_error is plain = subst (IsTokenVerdict s text (given_over text tokens)) plain is
+    by_verdict (answer.unmatched byte) syntax_error is plain = absurd is
+    by_verdict answer.faulty (syntax_errors.Refused number token expected) is plain = absurd (let no : ⊥ = cc in no)
+    by_verdict answer.faulty (syntax_errors.NoRule byte) is plain = absurd (let no : ⊥ = cc in no)
 
 -- The first wrong token, if there is one, stands among those from an index on.
 pub record IsWrongFrom (terminals count i : ℕ) (tokens : List Token) : Type 0 where
@@ -161,12 +161,12 @@ given_within terminals text (t ∷ ts) h =
     )
 
 -- so a refused one does
-pub token_flaw_fits : (s : TableSet) (text : List ℕ) (tokens : List Token) (flaw : Flaw) → length text < 2 ^ 64
+pub token_syntax_error_fits : (s : TableSet) (text : List ℕ) (tokens : List Token) (syntax_error : SyntaxError) → length text < 2 ^ 64
     → All (λ t. IsTokenOver (length s.terminals) (length text) (placed_from t)) tokens
-    → IsTokenVerdict s text (given_over text tokens) (verdict_of flaw) → FitsFlaw flaw
-token_flaw_fits s text tokens (flaws.Refused number token expected) fits right is =
+    → IsTokenVerdict s text (given_over text tokens) (verdict_of syntax_error) → FitsSyntaxError syntax_error
+token_syntax_error_fits s text tokens (syntax_errors.Refused number token expected) fits right is =
     let comes = is.1 in
     let within = one_within (length text) is.0 (token_of token) comes.behind
     (subst (AllEndWithin (length text)) comes.split (given_within (length s.terminals) text tokens right)) in
     omega (arith, within, fits)
-token_flaw_fits s text tokens (flaws.NoRule byte) fits right is = tt
+token_syntax_error_fits s text tokens (syntax_errors.NoRule byte) fits right is = tt

@@ -6,7 +6,7 @@ use Rattle.ly_generate.specs.Accepted.{IsRefusedFor}
 use Rattle.ly_generate.specs.declared.gen_fault.GenFault.{GenFault}
 use Rattle.ly_print.specs.declared.answer_form.AnswerForm.{AnswerForm}
 use Rattle.ly_report.specs.declared.counts.ConflictCounts.{ConflictCounts}
-use Rattle.lytab_c.specs.Answered.{IsAnswer, IsAnswered}
+use Rattle.lytab_c.specs.Answered.{IsOutput, IsOutputOrReport}
 use Rattle.lytab_c.specs.Building.{IsBuildOf, IsBuilt}
 use Rattle.lytab_c.specs.Private.Putting.{AreTablesPut, IsAnswerPut, IsBuildFaultTold}
 use Rattle.lytab_c.specs.declared.build_report.BuildReport.{BuildReport}
@@ -16,10 +16,10 @@ use Rattle.lytab_c.specs.declared.status.Status.TheVariants.{Done, Fault, Memory
 
 -- an answer
 pub answer_told : (form : AnswerForm) (tables text old new : List ℕ) (report : Report) (status : Status) (o : Outcome)
-    (answer : List ℕ) → IsAnswer form tables text o answer → IsAnswerPut o answer old new report status
-    → IsAnswered form tables text old new report status
+    (answer : List ℕ) → IsOutput form tables text o answer → IsAnswerPut o answer old new report status
+    → IsOutputOrReport form tables text old new report status
 answer_told form tables text old new report Done o answer is put =
-    (answer, subst (λ x. IsAnswer form tables text x answer) put.0 is, put.1, put.2)
+    (answer, subst (λ x. IsOutput form tables text x answer) put.0 is, put.1, put.2)
 answer_told form tables text old new report Refused o answer is put = (o, answer, put.0, is, put.1, put.2)
 answer_told form tables text old new report Fault o answer is put = absurd put
 answer_told form tables text old new report Memory o answer is put = absurd put

@@ -2,7 +2,7 @@
 use Rattle.std.proofs.Common.{◌≡◌, ◌∙◌, ◌<◌, ◌+◌, ◌++◌, ◌∷◌, [], ℕ, suc, List, Some, ap, append_assoc, arith}
 use Rattle.std.proofs.Common.{length, length-append, refl, subst, sym}
 use Rattle.std.specs.Prelude.{slice_get}
-use Rattle.ly_extents.specs.declared.extent.Extent.{Extent}
+use Rattle.ly_spans.specs.declared.span.Span.{Span}
 use Rattle.ly_places.specs.Parts.{all_parts, part, parts_of}
 use Rattle.ly_places.specs.Placed.{Placed, PlacedTerms, built, leaf, more, none, nothing}
 use Rattle.ly_places.specs.declared.part.Part as tree
@@ -82,7 +82,7 @@ children parts at end before behind (more t ts) size is ends =
     )
 
 -- so the children of a node are
-pub walks : (parts : List Part) (at p : ℕ) (e : Extent) (ts : PlacedTerms) → StandsAt parts at (built p e ts)
+pub walks : (parts : List Part) (at p : ℕ) (e : Span) (ts : PlacedTerms) → StandsAt parts at (built p e ts)
     → (own : Part) × (slice_get parts at ≡ Some own) × Meets parts own.next (suc at) (starts_from (suc at) ts)
     × AllStandAt parts (suc at) ts
 walks parts at p e ts h =

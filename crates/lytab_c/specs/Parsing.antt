@@ -2,10 +2,10 @@
 use Rattle.std.specs.Prelude.{◌≡◌, ◌<◌, ℕ, suc, ◌+◌, List, [], ◌∷◌, length, map}
 use Rattle.ly_drive.specs.Answering.{IsDriven}
 use Rattle.ly_drive.specs.declared.fault.DriveFault.{DriveFault}
-use Rattle.ly_feed.specs.Flaw.{verdict_of}
+use Rattle.ly_feed.specs.SyntaxError.{verdict_of}
 use Rattle.ly_feed.specs.TableAnswer.{IsVerdict}
-use Rattle.ly_feed.specs.declared.flaw.Flaw.{Flaw}
-use Rattle.ly_feed.specs.declared.flaw.Flaw.TheVariants as flaws
+use Rattle.ly_feed.specs.declared.syntax_error.SyntaxError.{SyntaxError}
+use Rattle.ly_feed.specs.declared.syntax_error.SyntaxError.TheVariants as syntax_errors
 use Rattle.ly_places.specs.Parts.{parts_of}
 use Rattle.ly_places.specs.Placed.{Placed}
 use Rattle.ly_places.specs.PlacedAnswer.{IsPlacedBy}
@@ -15,7 +15,7 @@ use Rattle.ly_places.specs.declared.part.PartKind.TheVariants.{Node, Nothing, To
 use Rattle.ly_tables.specs.TableSet.{TableSet}
 use Rattle.lytab_c.specs.Block.{IsFilled, IsPut}
 use Rattle.lytab_c.specs.Faults.{IsFaultOn}
-use Rattle.lytab_c.specs.Reports.{flaw_report, needing, nothing_told, TellsFault}
+use Rattle.lytab_c.specs.Reports.{syntax_error_report, needing, nothing_told, TellsFault}
 use Rattle.lytab_c.specs.declared.part.Part.{Part}
 use Rattle.lytab_c.specs.declared.report.Report.{Report}
 use Rattle.lytab_c.specs.declared.status.Status.{Status}
@@ -53,13 +53,13 @@ abbrev pub IsTreeOf : List ℕ → List ℕ → Placed → Type 0
 IsTreeOf tables text t = (s : TableSet) × IsDriven tables s × IsPlacedBy s text t
 
 -- Such a set gives for the text this syntax error.
-abbrev pub IsFlawOf : List ℕ → List ℕ → Flaw → Type 0
-IsFlawOf tables text flaw = (s : TableSet) × IsDriven tables s × IsVerdict s text (verdict_of flaw)
+abbrev pub IsSyntaxErrorOf : List ℕ → List ℕ → SyntaxError → Type 0
+IsSyntaxErrorOf tables text syntax_error = (s : TableSet) × IsDriven tables s × IsVerdict s text (verdict_of syntax_error)
 
 -- the numbers of the expected terminals of a syntax error
-abbrev pub expected_in : Flaw → List ℕ
-expected_in (flaws.Refused number token expected) = map (λ t. t.0) expected.items
-expected_in (flaws.NoRule byte) = []
+abbrev pub expected_in : SyntaxError → List ℕ
+expected_in (syntax_errors.Refused number token expected) = map (λ t. t.0) expected.items
+expected_in (syntax_errors.NoRule byte) = []
 
 -- What a call does to its two blocks and its report.
 pub record ParseBlocks : Type 0 where
@@ -70,20 +70,20 @@ pub record ParseBlocks : Type 0 where
 -- tables fail on it. It has a tree, whose parts are in the block of parts. Or it has a syntax error, and as many
 -- expected terminals are in the other block as it holds. Or the tables are rejected or fail. Or memory ran out. Or it
 -- has a tree, and the block is too short for its parts. Whatever isn't written is unchanged.
-abbrev pub IsSaid : (Placed → Type 0) → (Flaw → Type 0) → (DriveFault → Type 0) → ParseBlocks → ParseBlocks → Report
+abbrev pub IsReported : (Placed → Type 0) → (SyntaxError → Type 0) → (DriveFault → Type 0) → ParseBlocks → ParseBlocks → Report
     → Status → Type 0
-IsSaid IsTree IsFlaw IsFault old new report Done = (t : Placed) × IsTree t
+IsReported IsTree IsSyntaxError IsFault old new report Done = (t : Placed) × IsTree t
     × IsPut (listed 0 (parts_of t)) old.parts new.parts × (report ≡ needing (length (parts_of t)))
     × (new.expected ≡ old.expected)
-IsSaid IsTree IsFlaw IsFault old new report Refused = (flaw : Flaw) × IsFlaw flaw
-    × IsFilled (expected_in flaw) old.expected new.expected × (report ≡ flaw_report flaw) × (new.parts ≡ old.parts)
-IsSaid IsTree IsFlaw IsFault old new report Fault = (fault : DriveFault) × IsFault fault × TellsFault fault report
+IsReported IsTree IsSyntaxError IsFault old new report Refused = (syntax_error : SyntaxError) × IsSyntaxError syntax_error
+    × IsFilled (expected_in syntax_error) old.expected new.expected × (report ≡ syntax_error_report syntax_error) × (new.parts ≡ old.parts)
+IsReported IsTree IsSyntaxError IsFault old new report Fault = (fault : DriveFault) × IsFault fault × TellsFault fault report
     × (new ≡ old)
-IsSaid IsTree IsFlaw IsFault old new report Memory = (report ≡ nothing_told) × (new ≡ old)
-IsSaid IsTree IsFlaw IsFault old new report Misused = ⊥
-IsSaid IsTree IsFlaw IsFault old new report Short = (t : Placed) × IsTree t
+IsReported IsTree IsSyntaxError IsFault old new report Memory = (report ≡ nothing_told) × (new ≡ old)
+IsReported IsTree IsSyntaxError IsFault old new report Misused = ⊥
+IsReported IsTree IsSyntaxError IsFault old new report Short = (t : Placed) × IsTree t
     × (length old.parts < length (parts_of t)) × (report ≡ needing (length (parts_of t))) × (new ≡ old)
 
 -- the same for a text and a table file
 abbrev pub IsParsed : List ℕ → List ℕ → ParseBlocks → ParseBlocks → Report → Status → Type 0
-IsParsed tables text = IsSaid (IsTreeOf tables text) (IsFlawOf tables text) (IsFaultOn tables text)
+IsParsed tables text = IsReported (IsTreeOf tables text) (IsSyntaxErrorOf tables text) (IsFaultOn tables text)

@@ -2,8 +2,8 @@
 use Rattle.std.specs.Prelude.{◌≡◌, ℕ, ◌+◌, Some, length}
 use Rattle.ly_drive.specs.DriveFault.{drive_number}
 use Rattle.ly_drive.specs.declared.fault.DriveFault.{DriveFault}
-use Rattle.ly_feed.specs.declared.flaw.Flaw as flaw
-use Rattle.ly_feed.specs.declared.flaw.Flaw.TheVariants as flaws
+use Rattle.ly_feed.specs.declared.syntax_error.SyntaxError as syntax_error
+use Rattle.ly_feed.specs.declared.syntax_error.SyntaxError.TheVariants as syntax_errors
 use Rattle.ly_feed.specs.declared.outcome.Outcome.{Outcome}
 use Rattle.ly_feed.specs.declared.outcome.Outcome.TheVariants.{NoRule, Syntax, Tree}
 use Rattle.lytab_c.specs.Faults.{drive_section}
@@ -52,12 +52,12 @@ outcome_report (Syntax token byte count expected) needed = record (needing neede
 outcome_report (NoRule byte) needed = record (needing needed) { start = byte; end = byte }
 
 -- the report for a syntax error, without parts
-abbrev pub flaw_report : flaw.Flaw → Report
-flaw_report (flaws.Refused number token expected) = record nothing_told {
+abbrev pub syntax_error_report : syntax_error.SyntaxError → Report
+syntax_error_report (syntax_errors.Refused number token expected) = record nothing_told {
   terminal = token.terminal.0;
   number = number;
   start = token.at;
   end = token.at + length token.text;
   expected = length expected.items;
 }
-flaw_report (flaws.NoRule byte) = record nothing_told { start = byte; end = byte }
+syntax_error_report (syntax_errors.NoRule byte) = record nothing_told { start = byte; end = byte }

@@ -3,9 +3,9 @@ use Rattle.std.specs.Prelude.{◌≡◌, ◌≢◌, ◌⊎◌, ℕ, suc, List, [
 use Rattle.ly_drive.specs.Answering.{IsDriven}
 use Rattle.ly_drive.specs.declared.fault.DriveFault.{DriveFault}
 use Rattle.ly_drive.specs.declared.fault.DriveFault.TheVariants.{Tables, Text}
-use Rattle.ly_feed.specs.Flaw.{verdict_of}
+use Rattle.ly_feed.specs.SyntaxError.{verdict_of}
 use Rattle.ly_feed.specs.Verdict.{faulty}
-use Rattle.ly_feed.specs.declared.flaw.Flaw.{Flaw}
+use Rattle.ly_feed.specs.declared.syntax_error.SyntaxError.{SyntaxError}
 use Rattle.ly_feed.specs.declared.text_fault.TextFault.TheVariants.{FaultyTables}
 use Rattle.ly_base.specs.Lexed as lexed
 use Rattle.ly_places.specs.Placed.{Placed}
@@ -14,7 +14,7 @@ use Rattle.ly_places.specs.declared.placed_token.PlacedToken.{PlacedToken}
 use Rattle.ly_tables.specs.Refusal.{IsRefusedAs}
 use Rattle.ly_tables.specs.TableSet.{TableSet}
 use Rattle.ly_tables.specs.declared.fault.TableFault.TheVariants.{OutOfMemory}
-use Rattle.lytab_c.specs.Parsing.{IsSaid, ParseBlocks}
+use Rattle.lytab_c.specs.Parsing.{IsReported, ParseBlocks}
 use Rattle.lytab_c.specs.Reports.{numbering}
 use Rattle.lytab_c.specs.declared.report.Report.{Report}
 use Rattle.lytab_c.specs.declared.status.Status.{Status}
@@ -43,9 +43,9 @@ IsTokenTreeOf tables text tokens t = (s : TableSet) × IsDriven tables s
     × IsPlacedOver s text (given_over text tokens) t
 
 -- Such a set gives for them this syntax error.
-abbrev pub IsTokenFlawOf : List ℕ → List ℕ → List Token → Flaw → Type 0
-IsTokenFlawOf tables text tokens flaw = (s : TableSet) × IsDriven tables s
-    × IsTokenVerdict s text (given_over text tokens) (verdict_of flaw)
+abbrev pub IsTokenSyntaxErrorOf : List ℕ → List ℕ → List Token → SyntaxError → Type 0
+IsTokenSyntaxErrorOf tables text tokens syntax_error = (s : TableSet) × IsDriven tables s
+    × IsTokenVerdict s text (given_over text tokens) (verdict_of syntax_error)
 
 -- The table file is rejected with this error, or its set fails on the tokens.
 abbrev pub IsTokenFaultOf : List ℕ → List ℕ → List Token → DriveFault → Type 0
@@ -59,5 +59,5 @@ IsTokenFaultOf tables text tokens (Text _) = ⊥
 abbrev pub AreTokensParsed : List ℕ → List ℕ → List Token → ParseBlocks → ParseBlocks → Report → Status → Type 0
 AreTokensParsed tables text tokens old new report Misused = (s : TableSet) × IsDriven tables s × (number : ℕ)
     × IsFirstWrong (length s.terminals) (length text) tokens number × (report ≡ numbering number) × (new ≡ old)
-AreTokensParsed tables text tokens old new report status = IsSaid (IsTokenTreeOf tables text tokens)
-    (IsTokenFlawOf tables text tokens) (IsTokenFaultOf tables text tokens) old new report status
+AreTokensParsed tables text tokens old new report status = IsReported (IsTokenTreeOf tables text tokens)
+    (IsTokenSyntaxErrorOf tables text tokens) (IsTokenFaultOf tables text tokens) old new report status

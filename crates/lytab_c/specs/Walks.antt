@@ -1,6 +1,6 @@
 -- What a walk over the children of a part visits.
 use Rattle.std.specs.Prelude.{◌≡◌, ◌<◌, ℕ, suc, ◌+◌, List, [], ◌∷◌, ◌++◌, Some, length, slice_get}
-use Rattle.ly_extents.specs.declared.extent.Extent.{Extent}
+use Rattle.ly_spans.specs.declared.span.Span.{Span}
 use Rattle.ly_places.specs.Parts.{parts_of}
 use Rattle.ly_places.specs.Placed.{Placed, PlacedTerms, built, more, none}
 use Rattle.lytab_c.specs.Parsing.{listed}
@@ -29,6 +29,6 @@ Meets parts end at (k ∷ ks) = (k ≡ at) × (at < end) × (p : Part) × (slice
 
 -- If the parts of a node are in a list, the loop from the index after the node to its `next` visits its children.
 abbrev pub WalksMeetChildren : Type 0
-WalksMeetChildren = (parts : List Part) (at p : ℕ) (e : Extent) (ts : PlacedTerms) → StandsAt parts at (built p e ts)
+WalksMeetChildren = (parts : List Part) (at p : ℕ) (e : Span) (ts : PlacedTerms) → StandsAt parts at (built p e ts)
     → (own : Part) × (slice_get parts at ≡ Some own) × Meets parts own.next (suc at) (starts_from (suc at) ts)
     × AllStandAt parts (suc at) ts

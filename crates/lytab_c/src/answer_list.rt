@@ -1,8 +1,8 @@
 ghost use Rattle.std.specs.Prelude.{◌≡◌, List, [], ◌∷◌, ◌++◌, length, map, OnOk};
 ghost use Rattle.lytab_c.specs.Many.{TextAnswer};
 ghost use Rattle.lytab_c.specs.Parsing.{listed};
-ghost use Rattle.lytab_c.specs.Private.Answers.{fault_answer, flaw_answer, tree_answer, AreHeld};
-ghost use Rattle.lytab_c.specs.Private.Putting.{EndWithin, FitsFlaw};
+ghost use Rattle.lytab_c.specs.Private.Answers.{fault_answer, syntax_error_answer, tree_answer, AreHeld};
+ghost use Rattle.lytab_c.specs.Private.Putting.{EndWithin, FitsSyntaxError};
 ghost use Rattle.lytab_c.specs.Statuses.{status_number};
 
 use crate::part::Part;
@@ -10,7 +10,7 @@ use crate::report::Report;
 use crate::status::Status;
 use crate::text_report::TextReport;
 use ly_base::{OutOfMemory, Sym};
-use ly_feed::Flaw;
+use ly_feed::SyntaxError;
 use ly_places::Part as TreePart;
 use std::alloc::Global;
 
@@ -51,18 +51,21 @@ impl AnswerList {
     }
 
     /// Appends the result for the next text: this syntax error. Returns an error if memory runs out.
-    pub(crate) fn push_flaw(&mut self, flaw: &Flaw<'_>) -> Result<(), OutOfMemory>
-        requires { FitsFlaw flaw.now }
+    pub(crate) fn push_syntax_error(
+        &mut self,
+        syntax_error: &SyntaxError<'_>,
+    ) -> Result<(), OutOfMemory>
+        requires { FitsSyntaxError syntax_error.now }
         ensures { (xs : List TextAnswer) → AreHeld xs self.old
-            → OnOk result (AreHeld (xs ++ flaw_answer flaw.now ∷ []) self.new) }
+            → OnOk result (AreHeld (xs ++ syntax_error_answer syntax_error.now ∷ []) self.new) }
     {
-        let report = Report::of_flaw(flaw);
-        match flaw {
-            Flaw::Refused { expected, .. } => {
+        let report = Report::of_syntax_error(syntax_error);
+        match syntax_error {
+            SyntaxError::Refused { expected, .. } => {
                 push_terminals(&mut self.expected, expected)?;
                 self.push_report(Status::Refused, report)
             }
-            Flaw::NoRule { .. } => self.push_report(Status::Refused, report),
+            SyntaxError::NoRule { .. } => self.push_report(Status::Refused, report),
         }
     }
 

@@ -1,6 +1,6 @@
 ghost use Rattle.std.specs.Prelude.{◌≡◌, IfErr, IfOk, length};
 ghost use Rattle.ly_print.specs.declared.answer_form.AnswerForm.TheVariants.{Json, Plain};
-ghost use Rattle.lytab_c.specs.Answered.{IsAnswer, IsAnswered};
+ghost use Rattle.lytab_c.specs.Answered.{IsOutput, IsOutputOrReport};
 ghost use Rattle.lytab_c.specs.Faults.{IsFaultOn};
 ghost use Rattle.lytab_c.specs.Private.Putting.{FitsOutcome, IsAnswerPut};
 ghost use Rattle.lytab_c.specs.Statuses.{status_number};
@@ -25,7 +25,7 @@ pub extern "C" fn lytab_answer(
     report: &mut Report,
 ) -> u32
     ensures answered { (status : Code) × (result ≡ status_number status)
-        × IsAnswered Plain tables.now text.now answer.old answer.new report.new status }
+        × IsOutputOrReport Plain tables.now text.now answer.old answer.new report.new status }
     ensures length { length answer.new ≡ length answer.old }
 {
     answer_into(alloc, AnswerForm::Plain, tables, text, answer, report).number()
@@ -41,7 +41,7 @@ pub extern "C" fn lytab_json(
     report: &mut Report,
 ) -> u32
     ensures answered { (status : Code) × (result ≡ status_number status)
-        × IsAnswered Json tables.now text.now answer.old answer.new report.new status }
+        × IsOutputOrReport Json tables.now text.now answer.old answer.new report.new status }
     ensures length { length answer.new ≡ length answer.old }
 {
     answer_into(alloc, AnswerForm::Json, tables, text, answer, report).number()
@@ -56,7 +56,7 @@ fn answer_into(
     block: &mut [u8],
     report: &mut Report,
 ) -> Status
-    ensures { IsAnswered form tables.now text.now block.old block.new report.new result }
+    ensures { IsOutputOrReport form tables.now text.now block.old block.new report.new result }
 {
     match answer_to(alloc, form, tables, text) {
         Ok((outcome, answer)) => put_answer(&outcome, &answer, block, report),
@@ -71,7 +71,7 @@ fn answer_to(
     tables: &[u8],
     text: &[u8],
 ) -> Result<(Outcome, Vec<u8>), DriveFault>
-    ensures answered { IfOk result (λ told. IsAnswer form tables.now text.now told.0 told.1.items) }
+    ensures answered { IfOk result (λ told. IsOutput form tables.now text.now told.0 told.1.items) }
     ensures fault { IfErr result (IsFaultOn tables.now text.now) }
 {
     let mut source = TextSource::new(text);

@@ -9,7 +9,7 @@ use crate::build_report::BuildReport;
 use crate::status::Status;
 use ly_base::{Limits, Version};
 use ly_engine::build;
-use ly_generate::Report;
+use ly_generate::ReportRequest;
 use ly_report::ConflictCounts;
 use std::alloc::Global;
 
@@ -39,7 +39,14 @@ fn build_into(
 ) -> Status
     ensures { IsBuilt lex.now yacc.now block.old block.new built.new result }
 {
-    match build(alloc, lex, yacc, &Limits::V2, Version::V2, Report::Unwanted) {
+    match build(
+        alloc,
+        lex,
+        yacc,
+        &Limits::V2,
+        Version::V2,
+        ReportRequest::Unwanted,
+    ) {
         Ok(made) => put_tables(&made.tables, &made.conflicts, block, built),
         Err(fault) => built.tell_fault(&fault, lex, yacc),
     }

@@ -2,7 +2,7 @@
 //! that a call needs and owns each block that it writes. Nothing is kept between calls: there are no handles, nothing
 //! to free and no locks. Each call reads the table file anew.
 //!
-//! `lytab_answer`, `lytab_json` and `lytab_parse` parse a text with a table file (`IsAnswered`, `IsParsed`).
+//! `lytab_answer`, `lytab_json` and `lytab_parse` parse a text with a table file (`IsOutputOrReport`, `IsParsed`).
 //! `lytab_parse_all` parses many texts (`AreAllParsed`), and `lytab_parse_tokens` parses tokens that the caller found
 //! in a text (`AreTokensParsed`). `lytab_names` lists the names of a table file (`AreNamesTold`), `lytab_locate`
 //! returns lines and columns, and `lytab_build` makes a table file (`IsBuilt`). Each contract states the results for

@@ -4,7 +4,7 @@ ghost use Rattle.ly_places.specs.Placed.{Placed};
 ghost use Rattle.lytab_c.specs.Block.{IsFilled, IsPut};
 ghost use Rattle.lytab_c.specs.Faults.{IsFaultOn};
 ghost use Rattle.lytab_c.specs.Parsing.{listed, IsParsed};
-ghost use Rattle.lytab_c.specs.Private.Putting.{ArePartsPut, EndWithin, FitsFlaw, IsFlawPut, IsParsedBy};
+ghost use Rattle.lytab_c.specs.Private.Putting.{ArePartsPut, EndWithin, FitsSyntaxError, IsSyntaxErrorPut, IsParsedBy};
 ghost use Rattle.lytab_c.specs.Statuses.{status_number};
 ghost use Rattle.lytab_c.specs.declared.status.Status.{Status as Code};
 
@@ -13,7 +13,7 @@ use crate::report::Report;
 use crate::status::Status;
 use ly_base::Sym;
 use ly_drive::DriveFault;
-use ly_feed::Flaw;
+use ly_feed::SyntaxError;
 use ly_places::{Parsed, Part as TreePart, parse};
 use ly_tables::read_tables;
 use std::alloc::Global;
@@ -52,7 +52,7 @@ fn parse_into(
 {
     match parse_by(alloc, tables, text) {
         Ok(Parsed::Tree(list)) => put_parts(&list, parts, report),
-        Ok(Parsed::Refused(flaw)) => put_flaw(&flaw, expected, report),
+        Ok(Parsed::Refused(syntax_error)) => put_syntax_error(&syntax_error, expected, report),
         Err(fault) => report.tell_fault(&fault),
     }
 }
@@ -93,14 +93,18 @@ fn put_list(list: &[TreePart], block: &mut [Part])
 }
 
 /// Reports a syntax error, and writes the expected terminals to a block, as many as it holds.
-pub(crate) fn put_flaw(flaw: &Flaw<'_>, block: &mut [u32], report: &mut Report) -> Status
-    requires { FitsFlaw flaw.now }
-    ensures { IsFlawPut flaw.now block.old block.new report.new result }
+pub(crate) fn put_syntax_error(
+    syntax_error: &SyntaxError<'_>,
+    block: &mut [u32],
+    report: &mut Report,
+) -> Status
+    requires { FitsSyntaxError syntax_error.now }
+    ensures { IsSyntaxErrorPut syntax_error.now block.old block.new report.new result }
 {
-    *report = Report::of_flaw(flaw);
-    match flaw {
-        Flaw::Refused { expected, .. } => fill(expected, block),
-        Flaw::NoRule { .. } => {}
+    *report = Report::of_syntax_error(syntax_error);
+    match syntax_error {
+        SyntaxError::Refused { expected, .. } => fill(expected, block),
+        SyntaxError::NoRule { .. } => {}
     }
     Status::Refused
 }

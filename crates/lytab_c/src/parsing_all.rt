@@ -135,7 +135,7 @@ fn answer_next(
 {
     match parser.parse(text) {
         Ok(Parsed::Tree(parts)) => answers.push_tree(&parts),
-        Ok(Parsed::Refused(flaw)) => answers.push_flaw(&flaw),
+        Ok(Parsed::Refused(syntax_error)) => answers.push_syntax_error(&syntax_error),
         Err(TextFault::FaultyTables) => answers.push_fault(),
         Err(_) => Err(OutOfMemory),
     }

@@ -5,7 +5,7 @@ ghost use Rattle.lytab_c.specs.Statuses.{status_number};
 ghost use Rattle.lytab_c.specs.Tokens.{placed_from, AreTokensParsed, IsFirstWrong};
 ghost use Rattle.lytab_c.specs.declared.status.Status.{Status as Code};
 
-use crate::parsing::{put_flaw, put_parts};
+use crate::parsing::{put_parts, put_syntax_error};
 use crate::part::Part;
 use crate::report::Report;
 use crate::status::Status;
@@ -80,7 +80,7 @@ fn answer_tokens(
     }
     match parse_by(alloc, set, text, tokens) {
         Ok(Parsed::Tree(list)) => put_parts(&list, parts, report),
-        Ok(Parsed::Refused(flaw)) => put_flaw(&flaw, expected, report),
+        Ok(Parsed::Refused(syntax_error)) => put_syntax_error(&syntax_error, expected, report),
         Err(fault) => report.tell_fault(&DriveFault::Text(fault)),
     }
 }

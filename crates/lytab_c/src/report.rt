@@ -1,11 +1,11 @@
 ghost use Rattle.std.specs.Prelude.{◌≡◌};
 ghost use Rattle.lytab_c.specs.Faults.{drive_section, section_of};
-ghost use Rattle.lytab_c.specs.Private.Putting.{FitsFlaw, FitsOutcome, IsFaultTold};
-ghost use Rattle.lytab_c.specs.Reports.{flaw_report, needing, numbering, outcome_report};
+ghost use Rattle.lytab_c.specs.Private.Putting.{FitsSyntaxError, FitsOutcome, IsFaultTold};
+ghost use Rattle.lytab_c.specs.Reports.{syntax_error_report, needing, numbering, outcome_report};
 
 use crate::status::Status;
 use ly_drive::{DriveFault, Outcome};
-use ly_feed::Flaw;
+use ly_feed::SyntaxError;
 use ly_tables::TableFault;
 
 /// What a call reports about a text beside the status. Fields that don't belong to the status are 0.
@@ -88,12 +88,12 @@ impl Report {
     }
 
     /// The report for a syntax error.
-    pub(crate) fn of_flaw(flaw: &Flaw<'_>) -> Report
-        requires { FitsFlaw flaw.now }
-        ensures { result ≡ flaw_report flaw.now }
+    pub(crate) fn of_syntax_error(syntax_error: &SyntaxError<'_>) -> Report
+        requires { FitsSyntaxError syntax_error.now }
+        ensures { result ≡ syntax_error_report syntax_error.now }
     {
-        match flaw {
-            Flaw::Refused {
+        match syntax_error {
+            SyntaxError::Refused {
                 number,
                 token,
                 expected,
@@ -105,7 +105,7 @@ impl Report {
                 expected: expected.len() as u64,
                 ..Report::needing(0)
             },
-            Flaw::NoRule { byte } => Report {
+            SyntaxError::NoRule { byte } => Report {
                 start: *byte,
                 end: *byte,
                 ..Report::needing(0)

@@ -2,7 +2,7 @@ ghost use Rattle.std.specs.Prelude.{◌≡◌};
 ghost use Rattle.lytab_c.specs.Tokens.{placed_from};
 
 use ly_base::Sym;
-use ly_places::{Extent, PlacedToken};
+use ly_places::{PlacedToken, Span};
 
 /// A token that the caller found in a text.
 #[repr(C)]
@@ -25,7 +25,7 @@ impl Token {
     {
         PlacedToken {
             terminal: Sym(self.terminal),
-            extent: Extent {
+            extent: Span {
                 start: self.start as usize,
                 end: self.end as usize,
             },

@@ -4,8 +4,8 @@ use Rattle.std.specs.Prelude.{slice_get}
 use Rattle.ly_resolve.specs.Resolved.{Resolved}
 use Rattle.ly_resolve.specs.Values.{conflict_from, IsInside}
 use Rattle.ly_resolve.specs.declared.conflict.Conflict.{Conflict}
-use Rattle.ly_examples.specs.Examples.{IsAnswer}
-use Rattle.ly_examples.specs.declared.example.Example.{Example}
+use Rattle.ly_counterexamples.specs.Examples.{IsSearchResult}
+use Rattle.ly_counterexamples.specs.declared.example.Example.{Example}
 use Rattle.ly_accepted.specs.declared.common.Key.{Key}
 use Rattle.ly_accepted.specs.declared.groups.Group.{Group}
 use Rattle.ly_accepted.specs.declared.groups.Groups.{Groups}
@@ -19,7 +19,7 @@ pub record IsAt (r : Resolved) (i : ℕ) (x : Conflict) : Type 0 where
 
 -- what is known of the example of a conflict, if it was sought
 abbrev pub IsSought : Resolved → Conflict → Option Example → Type 0
-IsSought r x example = IfSome example (IsAnswer r.automaton (conflict_from r.automaton x) most_demands)
+IsSought r x example = IfSome example (IsSearchResult r.automaton (conflict_from r.automaton x) most_demands)
 
 -- The conflict of an index has a key, and what the key says was answered is so.
 pub record HasKey (r : Resolved) (k : Key) (i : ℕ) : Type 0 where

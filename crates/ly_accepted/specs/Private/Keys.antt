@@ -5,8 +5,8 @@ use Rattle.ly_resolve.specs.declared.action.Action.TheVariants.{Shift, Reduce, E
 use Rattle.ly_resolve.specs.declared.conflict.Conflict.{Conflict}
 use Rattle.ly_resolve.specs.declared.conflict.ConflictKind.{ConflictKind}
 use Rattle.ly_resolve.specs.declared.conflict.ConflictKind.TheVariants.{ShiftReduce, ReduceReduce}
-use Rattle.ly_examples.specs.declared.example.Example.{Example}
-use Rattle.ly_accepted.specs.declared.common.Answer.{Answer}
+use Rattle.ly_counterexamples.specs.declared.example.Example.{Example}
+use Rattle.ly_accepted.specs.declared.common.ExampleKind.{ExampleKind}
 use Rattle.ly_accepted.specs.declared.common.Choice.{Choice}
 use Rattle.ly_accepted.specs.declared.common.Choice.TheVariants as choice
 use Rattle.ly_accepted.specs.declared.common.Common.{Common}
@@ -31,7 +31,7 @@ common_from c = record {
 }
 
 -- of a shift nothing is asked
-abbrev pub asked_of : ConflictKind → Option Example → Option Answer
+abbrev pub asked_of : ConflictKind → Option Example → Option ExampleKind
 asked_of ShiftReduce example = None
 asked_of ReduceReduce example = answer_from example
 

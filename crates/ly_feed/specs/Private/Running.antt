@@ -3,7 +3,7 @@ use Rattle.std.specs.Prelude.{◌≡◌, ℕ, ◌+◌, Bool, List, [], false, tr
 use Rattle.ly_base.specs.Lexed.{Place, Token, place_after}
 use Rattle.ly_base.specs.declared.lexeme.Lexeme.{Lexeme}
 use Rattle.ly_feed.specs.Closed.{progress_of}
-use Rattle.ly_feed.specs.Flaw.{verdict_of}
+use Rattle.ly_feed.specs.SyntaxError.{verdict_of}
 use Rattle.ly_feed.specs.Onward.{Onward, IsSettled, IsTokenAt}
 use Rattle.ly_feed.specs.ScanPart.{ScanPart, condition_in, scanner_in}
 use Rattle.ly_feed.specs.TableAnswer.{Progress}
@@ -11,23 +11,23 @@ use Rattle.ly_feed.specs.Verdict.{faulty, refused}
 use Rattle.ly_feed.specs.Vocabularies.{constructor_in, name_in}
 use Rattle.ly_feed.specs.declared.text_fault.TextFault.{TextFault}
 use Rattle.ly_feed.specs.declared.text_fault.TextFault.TheVariants.{FaultyTables, OutOfMemory}
-use Rattle.ly_feed.specs.declared.flaw.Flaw.{Flaw}
+use Rattle.ly_feed.specs.declared.syntax_error.SyntaxError.{SyntaxError}
 use Rattle.ly_feed.specs.declared.names.Names.{Names}
 use Rattle.ly_feed.specs.declared.running.Halt.{Halt}
-use Rattle.ly_feed.specs.declared.running.Halt.TheVariants.{At, Flawed}
+use Rattle.ly_feed.specs.declared.running.Halt.TheVariants.{At, Stopped}
 use Rattle.ly_feed.specs.declared.running.Ended.{Ended}
 use Rattle.ly_feed.specs.declared.running.Ended.TheVariants.{Accepted, Refused}
 use Rattle.ly_pack.specs.Machine.{Machine}
 use Rattle.ly_pack.specs.Values.{rule_from}
-use Rattle.ly_parse.specs.declared.answer.Answer.{Answer}
-use Rattle.ly_parse.specs.declared.answer.Answer.TheVariants.{Accepts, Over, Reads, Refuses}
-use Rattle.ly_parse.specs.declared.answer.Answer.TheVariants as answers
+use Rattle.ly_parse.specs.declared.token_outcome.TokenOutcome.{TokenOutcome}
+use Rattle.ly_parse.specs.declared.token_outcome.TokenOutcome.TheVariants.{Accepts, Over, Reads, Refuses}
+use Rattle.ly_parse.specs.declared.token_outcome.TokenOutcome.TheVariants as answers
 use Rattle.ly_parse.specs.Expected.{AreExpected}
 use Rattle.ly_parse.specs.Feeding.{Feeds, done, states_on}
 use Rattle.ly_parse.specs.Feeding as fed
 use Rattle.ly_parse.specs.Parse.{IsTellable, Parse}
 use Rattle.ly_scan.specs.Pieces.{IsUndecided}
-use Rattle.ly_tree.specs.Costs.{IsPaid}
+use Rattle.ly_tree.specs.Costs.{IsBoundedBySize}
 use Rattle.ly_tree.specs.Forest.{Grown, StandsFor}
 use Rattle.ly_tree.specs.Shown.{Vocabulary}
 use Rattle.ly_tree.specs.Term.{Term}
@@ -45,7 +45,7 @@ HasToken p q t = (token : Token ℕ) × IsTokenAt p q t token
 
 -- What becomes of a lexeme: the run goes on behind it, whatever comes; or its token is refused, and a refusal can be
 -- told; or the tables are at fault, whatever comes. The end alone is accepted. Want of memory says nothing.
-abbrev pub IsTaken : Bool → ScanPart → Machine → Progress → Lexeme → Parse → Answer → Type 0
+abbrev pub IsTaken : Bool → ScanPart → Machine → Progress → Lexeme → Parse → TokenOutcome → Type 0
 IsTaken ended p m w t r Reads = Onward ended p m w (progress_of (place_after (condition_in p) w.place t) r)
     × (r.over ≡ false)
 IsTaken ended p m w t r Refuses = (token : Token ℕ) × IsTokenAt p w.place t token × Feeds m token w.stack fed.refused
@@ -57,9 +57,9 @@ IsTaken ended p m w t r Over = ⊥
 
 -- the flaw names the token of a lexeme, the number behind those that a parse has read, and what is expected in its
 -- place
-abbrev pub IsRefusalAt : ScanPart → Place → Lexeme → Parse → Flaw → Type 0
-IsRefusalAt p q t r flaw = (token : Token ℕ) × (ts : List ℕ) × IsTokenAt p q t token × AreExpected r.machine r.asked ts
-    × (verdict_of flaw ≡ refused (r.count + 1) token ts)
+abbrev pub IsRefusalAt : ScanPart → Place → Lexeme → Parse → SyntaxError → Type 0
+IsRefusalAt p q t r syntax_error = (token : Token ℕ) × (ts : List ℕ) × IsTokenAt p q t token × AreExpected r.machine r.asked ts
+    × (verdict_of syntax_error ≡ refused (r.count + 1) token ts)
 
 -- a run halts at a place where the next match isn't decided, or at the end of the text
 abbrev pub Halts : Bool → ScanPart → Place → Type 0
@@ -70,7 +70,7 @@ Halts false p q = IsUndecided (scanner_in p) q
 -- whatever comes. Want of memory says nothing.
 abbrev pub IsRunOn : Bool → ScanPart → Machine → Progress → Parse → Result Halt TextFault → Type 0
 IsRunOn ended p m w r (Ok (At q)) = Onward ended p m w (progress_of q r) × Halts ended p q × (r.over ≡ false)
-IsRunOn ended p m w r (Ok (Flawed flaw)) = IsSettled ended p m w (verdict_of flaw)
+IsRunOn ended p m w r (Ok (Stopped syntax_error)) = IsSettled ended p m w (verdict_of syntax_error)
 IsRunOn ended p m w r (Err FaultyTables) = IsSettled ended p m w faulty
 IsRunOn ended p m w r (Err OutOfMemory) = Unit {0}
 IsRunOn ended p m w r (Err _) = ⊥
@@ -83,9 +83,9 @@ end_token at = record { terminal = 0; at = at; bytes = [] }
 -- the forest pays for, or refuses it, or the tables are at fault. Want of memory says nothing.
 abbrev pub IsLast : Parse → ℕ → Grown → Result Ended TextFault → Type 0
 IsLast s at forest (Ok (Accepted root)) = (d : Term) × Feeds s.machine (end_token at) s.stack (done d)
-    × StandsFor forest root d × IsPaid forest d
-IsLast s at forest (Ok (Refused flaw)) = (ts : _) × Feeds s.machine (end_token at) s.stack fed.refused
-    × AreExpected s.machine (states_on s.stack) ts × (verdict_of flaw ≡ refused (s.count + 1) (end_token at) ts)
+    × StandsFor forest root d × IsBoundedBySize forest d
+IsLast s at forest (Ok (Refused syntax_error)) = (ts : _) × Feeds s.machine (end_token at) s.stack fed.refused
+    × AreExpected s.machine (states_on s.stack) ts × (verdict_of syntax_error ≡ refused (s.count + 1) (end_token at) ts)
 IsLast s at forest (Err FaultyTables) = Feeds s.machine (end_token at) s.stack fed.faulty
 IsLast s at forest (Err OutOfMemory) = Unit {0}
 IsLast s at forest (Err _) = ⊥

@@ -6,23 +6,23 @@ use Rattle.ly_base.specs.declared.lexeme.Lexeme.{Lexeme}
 use Rattle.ly_base.specs.declared.scan_action.Emitted.{Emitted}
 use Rattle.ly_base.specs.declared.scan_action.Emitted.TheVariants.{FirstByte, Nothing, Terminal}
 use Rattle.ly_feed.specs.Closed.{progress_of}
-use Rattle.ly_feed.specs.Flaw.{verdict_of}
+use Rattle.ly_feed.specs.SyntaxError.{verdict_of}
 use Rattle.ly_feed.specs.Onward.{IsSettled, Onward}
 use Rattle.ly_feed.specs.ScanPart.{ScanPart, condition_in, scanner_in, terminal_in}
 use Rattle.ly_feed.specs.TableAnswer.{Progress}
 use Rattle.ly_feed.specs.Verdict.{faulty}
 use Rattle.ly_feed.specs.declared.running.Halt.{Halt}
-use Rattle.ly_feed.specs.declared.running.Halt.TheVariants.{At, Flawed}
+use Rattle.ly_feed.specs.declared.running.Halt.TheVariants.{At, Stopped}
 use Rattle.ly_feed.specs.declared.text_fault.TextFault.{TextFault}
 use Rattle.ly_feed.specs.declared.text_fault.TextFault.TheVariants.{FaultyTables, OutOfMemory}
 use Rattle.ly_pack.specs.Machine.{Machine}
 use Rattle.ly_parse.specs.Parse.{Parse}
 use Rattle.ly_scan.specs.Facts.{facts_by}
 use Rattle.ly_scan.specs.KnownWalks.{AreKnown, Known}
-use Rattle.ly_scan.specs.Pieces.{StandsFast}
+use Rattle.ly_scan.specs.Pieces.{IsDecided}
 use Rattle.ly_scan.specs.StateTable.{StateTable}
 use Rattle.ly_scan.specs.Walk.{Walk}
-use Rattle.ly_scan.specs.declared.told.Told.{Told}
+use Rattle.ly_scan.specs.declared.tagged_lexeme.TaggedLexeme.{TaggedLexeme}
 use Rattle.ly_tables.specs.declared.scan_rule.ScanRule as scan
 
 -- The number of what a rule does: 0 says nothing, as where it sets a condition, 1 that it returns no terminal, 2 that
@@ -57,9 +57,9 @@ pub record AreFactsOf (p : ScanPart) (scanner : StateTable) (facts : List ℕ) :
   pub say : AreNumbersOf p numbers
 
 -- A lexeme stands at a place, whatever comes, and this is told of it.
-pub record IsToldAt (p : ScanPart) (q : Place) (told : Told) : Type 0 where
+pub record IsToldAt (p : ScanPart) (q : Place) (told : TaggedLexeme) : Type 0 where
   pub lexeme : Lexeme
-  pub stands : StandsFast false (scanner_in p) q lexeme
+  pub stands : IsDecided false (scanner_in p) q lexeme
   pub taken : lexeme.taken ≡ told.taken
   pub some : told.fact ≢ 0
   pub says : SaysOf p lexeme.rule.0 told.fact
@@ -72,14 +72,14 @@ pub record IsAhead (p q : Place) : Type 0 where
 
 abbrev pub HaltsAhead : Place → Result Halt TextFault → Type 0
 HaltsAhead p (Ok (At q)) = IsAhead p q
-HaltsAhead p (Ok (Flawed flaw)) = Unit {0}
+HaltsAhead p (Ok (Stopped syntax_error)) = Unit {0}
 HaltsAhead p (Err fault) = Unit {0}
 
 -- How far a run over lexemes that are told comes: to where the next one isn't, the parse not being over; or something
 -- is wrong, or the tables are at fault, whatever comes. Want of memory says nothing.
 abbrev pub IsRunOverTold : Bool → ScanPart → Machine → Progress → Parse → Result Halt TextFault → Type 0
 IsRunOverTold ended p m w r (Ok (At q)) = Onward ended p m w (progress_of q r) × (r.over ≡ false)
-IsRunOverTold ended p m w r (Ok (Flawed flaw)) = IsSettled ended p m w (verdict_of flaw)
+IsRunOverTold ended p m w r (Ok (Stopped syntax_error)) = IsSettled ended p m w (verdict_of syntax_error)
 IsRunOverTold ended p m w r (Err FaultyTables) = IsSettled ended p m w faulty
 IsRunOverTold ended p m w r (Err OutOfMemory) = Unit {0}
 IsRunOverTold ended p m w r (Err _) = ⊥

@@ -28,14 +28,14 @@ pub record AreAlike (m : Machine) (p q : ℕ) : Type 0 where
   pub size : rule.body_length ≡ other.body_length
 
 -- a rule of the row says the same
-abbrev pub IsSaid : Machine → List RuleNo → ℕ → Type 0
-IsSaid m row p = (r : RuleNo) × Contains row r × AreAlike m r.0 p
+abbrev pub IsCovered : Machine → List RuleNo → ℕ → Type 0
+IsCovered m row p = (r : RuleNo) × Contains row r × AreAlike m r.0 p
 
 -- The rules by which a state reduces, but for some by which a run ends at once, and some that say the same as others.
 pub record AreReductions (m : Machine) (state : ℕ) (row : List RuleNo) : Type 0 where
   pub rules : (r : RuleNo) → Contains row r → IsRuleNumber m r.0
   pub whole : (t p : ℕ) → action_of m state t ≡ reduce p
-      → IsSaid m row p ⊎ EndsAtOnce m state p
+      → IsCovered m row p ⊎ EndsAtOnce m state p
 
 -- what is looked up by left sides and sizes are rules of the row that have these
 abbrev pub AreFirsts : Machine → BTreeMap (ℕ × ℕ) RuleNo → List RuleNo → Type 0
@@ -45,7 +45,7 @@ AreFirsts m firsts row = (left size : ℕ) (r : RuleNo) → tree.get pair_cmp fi
 -- a rule is kept, or a run ends by it at once, or another that is kept says the same
 abbrev pub IsKeptOn : Machine → ℕ → RuleNo → List RuleNo → List RuleNo → Type 0
 IsKeptOn m state rule old new =
-    (new ≡ old ++ rule ∷ []) ⊎ ((new ≡ old) × (EndsAtOnce m state rule.0 ⊎ IsSaid m old rule.0))
+    (new ≡ old ++ rule ∷ []) ⊎ ((new ≡ old) × (EndsAtOnce m state rule.0 ⊎ IsCovered m old rule.0))
 
 -- For each state the rules by which it reduces, but for some of these.
 pub record AreAllReductions (m : Machine) (rows : List (Vec RuleNo)) : Type 0 where

@@ -7,7 +7,7 @@ use Rattle.ly_loop.specs.declared.summary.Ending.{Ending}
 use Rattle.ly_loop.specs.declared.summary.Ending.TheVariants.{Over, Leaves, Mixed}
 use Rattle.ly_loop.specs.declared.summary.Summary.{Summary}
 use Rattle.ly_loop.specs.declared.tokens.Tokens.{Tokens}
-use Rattle.ly_loop.specs.Private.Reductions.{AreAlike, IsSaid}
+use Rattle.ly_loop.specs.Private.Reductions.{AreAlike, IsCovered}
 use Rattle.ly_loop.specs.Private.Tokens.{IsOn}
 
 -- the run ends on this stack, whatever lies below it
@@ -70,7 +70,7 @@ pub record IsSummaryBy (m : Machine) (k : Tokens) (below top rule : ℕ) (o : Su
 -- The runs of an edge that begin with a reduction by one of some rules, or one that says the same, come to this.
 pub record IsSummaryByAll (m : Machine) (k : Tokens) (below top : ℕ) (rules : List RuleNo) (o : Summary) : Type 0 where
   pub allowed : IsAllowed m o
-  pub runs : (t p : ℕ) → IsOn m k t → IsSaid m rules p → action_of m top t ≡ reduce p
+  pub runs : (t p : ℕ) → IsOn m k t → IsCovered m rules p → action_of m top t ≡ reduce p
       → ComesTo m t (top ∷ below ∷ []) o
 
 -- The runs come to this from where a reduction takes away all that lies above a state, with others below it.

@@ -5,8 +5,8 @@ use Rattle.ly_parse.specs.Feeding.{Level, accept_with, done, faulty, settles, to
 use Rattle.ly_parse.specs.Parse.{Parse}
 use Rattle.ly_parse.specs.Private.Before.{before_on, IsNoteOf}
 use Rattle.ly_parse.specs.Private.Stack.{FeedAlike, FeedAs, IsAccepted, IsRefusedWith}
-use Rattle.ly_parse.specs.declared.answer.Answer.{Answer}
-use Rattle.ly_parse.specs.declared.answer.Answer.TheVariants.{Accepts, OutOfMemory, Over, Reads, Refuses, FaultyTables}
+use Rattle.ly_parse.specs.declared.token_outcome.TokenOutcome.{TokenOutcome}
+use Rattle.ly_parse.specs.declared.token_outcome.TokenOutcome.TheVariants.{Accepts, OutOfMemory, Over, Reads, Refuses, FaultyTables}
 use Rattle.ly_parse.specs.declared.before.Before.{Before}
 use Rattle.ly_parse.specs.declared.fault.ParseFault.{ParseFault}
 use Rattle.ly_parse.specs.declared.fault.ParseFault.TheVariants as fault
@@ -21,7 +21,7 @@ abbrev pub with_note : Parse → Before → Parse
 with_note p b = record p { asked = before_on p.stack b }
 
 -- what a call comes to where the tables accept
-abbrev pub IsAcceptance : List Level → Answer → Type 0
+abbrev pub IsAcceptance : List Level → TokenOutcome → Type 0
 IsAcceptance stack Accepts = (d : Term) × (accept_with stack ≡ settles (done d))
 IsAcceptance stack FaultyTables = accept_with stack ≡ settles faulty
 IsAcceptance stack _ = ⊥
@@ -31,7 +31,7 @@ abbrev pub IsRefusal : Parse → ℕ → Result Step ParseFault → Type 0
 IsRefusal q at r = IfOk r (IsRefusedWith q.machine q.asked (q.count + 1) at) × IfErr r (λ e. e ≡ fault.OutOfMemory)
 
 -- what is told of what a call comes to
-abbrev pub IsTold : Parse → ℕ → Answer → Result Step ParseFault → Type 0
+abbrev pub IsTold : Parse → ℕ → TokenOutcome → Result Step ParseFault → Type 0
 IsTold q at Reads r = r ≡ Ok step.More
 IsTold q at Accepts r = IsAccepted q.forest q.stack r
 IsTold q at Refuses r = IsRefusal q at r

@@ -2,8 +2,8 @@
 -- parts stand behind it; the innermost is the first.
 use Rattle.std.specs.Prelude.{ℕ, suc, ◌≤◌, ◌+◌, ◌-◌, ◌*◌, List, [], ◌∷◌, ◌++◌, Bool, codes, length}
 use Rattle.std.specs.Prelude.{if◌then◌else◌, nat_eq, nat_lt}
-use Rattle.ly_extents.specs.declared.extent.Extent.{Extent}
-use Rattle.ly_extents.specs.Extents.{bytes_at, json_extent, IsWithin}
+use Rattle.ly_spans.specs.declared.span.Span.{Span}
+use Rattle.ly_spans.specs.Spans.{bytes_at, json_span, IsWithin}
 use Rattle.ly_places.specs.declared.part.Part.{Part}
 use Rattle.ly_places.specs.declared.part.PartKind.{PartKind}
 use Rattle.ly_places.specs.declared.part.PartKind.TheVariants.{Node, Nothing, Token}
@@ -11,11 +11,11 @@ use Rattle.ly_print.specs.Json.{json_content, json_name}
 use Rattle.ly_tree.specs.Shown.{Vocabulary}
 
 -- what is printed of a part before its children: of one that is no node, all of it
-abbrev pub opening : Vocabulary → List ℕ → PartKind → Extent → List ℕ
+abbrev pub opening : Vocabulary → List ℕ → PartKind → Span → List ℕ
 opening v text Nothing e = codes "null"
-opening v text (Token t) e = codes "{\"token\":" ++ (json_name (v.terminal t.0) ++ (json_extent text e
+opening v text (Token t) e = codes "{\"token\":" ++ (json_name (v.terminal t.0) ++ (json_span text e
     ++ (codes "," ++ (json_content (bytes_at text e) ++ codes "}"))))
-opening v text (Node p) e = codes "{\"node\":" ++ (json_name (v.constructor p.0) ++ (json_extent text e
+opening v text (Node p) e = codes "{\"node\":" ++ (json_name (v.constructor p.0) ++ (json_span text e
     ++ codes ",\"children\":["))
 
 -- the nodes that aren't ended once a part of so many is begun, with so many parts behind its first one

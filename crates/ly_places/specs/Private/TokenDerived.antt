@@ -2,11 +2,11 @@
 use Rattle.std.specs.Prelude.{◌≡◌, ℕ, ◌+◌, List, [], ◌++◌, Result, Ok, Err, Option, None, Some, false, length, map}
 use Rattle.ly_base.specs.Lexed.{Token}
 use Rattle.ly_base.specs.Trees.{Tree, yield_of}
-use Rattle.ly_extents.specs.Extents.{extent_of}
-use Rattle.ly_feed.specs.Flaw.{verdict_of}
+use Rattle.ly_spans.specs.Spans.{span_of}
+use Rattle.ly_feed.specs.SyntaxError.{verdict_of}
 use Rattle.ly_feed.specs.TableAnswer.{end_of}
 use Rattle.ly_feed.specs.Verdict.{accepted, faulty, refused}
-use Rattle.ly_feed.specs.declared.flaw.Flaw.{Flaw}
+use Rattle.ly_feed.specs.declared.syntax_error.SyntaxError.{SyntaxError}
 use Rattle.ly_feed.specs.declared.running.Ended.{Ended}
 use Rattle.ly_feed.specs.declared.running.Ended.TheVariants as ended
 use Rattle.ly_feed.specs.declared.text_fault.TextFault.{TextFault}
@@ -28,11 +28,11 @@ use Rattle.ly_tree.specs.Term.{Term, build}
 
 -- How far tables come with tokens: they read all of them, and the parse isn't over; or one is refused, or the tables
 -- are at fault. Want of memory says nothing.
-abbrev pub AreReadOver : Machine → List (Token ℕ) → Parse → Result (Option Flaw) TextFault → Type 0
+abbrev pub AreReadOver : Machine → List (Token ℕ) → Parse → Result (Option SyntaxError) TextFault → Type 0
 AreReadOver m tokens q (Ok None) = ReadsTokens m [] tokens q.stack × (q.count ≡ length tokens) × (q.over ≡ false)
-AreReadOver m tokens q (Ok (Some flaw)) = (before : List (Token ℕ)) × (t : Token ℕ) × (ts : List ℕ)
+AreReadOver m tokens q (Ok (Some syntax_error)) = (before : List (Token ℕ)) × (t : Token ℕ) × (ts : List ℕ)
     × (c : ComesOf m tokens before t fed.refused) × AreExpected m (states_on c.last) ts
-    × (verdict_of flaw ≡ refused (length before + 1) t ts)
+    × (verdict_of syntax_error ≡ refused (length before + 1) t ts)
 AreReadOver m tokens q (Err FaultyTables) = (before : List (Token ℕ)) × (t : Token ℕ)
     × ComesOf m tokens before t fed.faulty
 AreReadOver m tokens q (Err OutOfMemory) = Unit {0}
@@ -43,9 +43,9 @@ AreReadOver m tokens q (Err _) = ⊥
 abbrev pub IsEndRead : Parse → List ℕ → Grown → Result Ended TextFault → Type 0
 IsEndRead p text forest (Ok (ended.Accepted root)) = (d : Term)
     × Feeds p.machine (end_of text) p.stack (fed.done d) × StandsFor forest root d
-IsEndRead p text forest (Ok (ended.Refused flaw)) = (ts : List ℕ)
+IsEndRead p text forest (Ok (ended.Refused syntax_error)) = (ts : List ℕ)
     × Feeds p.machine (end_of text) p.stack fed.refused × AreExpected p.machine (states_on p.stack) ts
-    × (verdict_of flaw ≡ refused (p.count + 1) (end_of text) ts)
+    × (verdict_of syntax_error ≡ refused (p.count + 1) (end_of text) ts)
 IsEndRead p text forest (Err FaultyTables) = Feeds p.machine (end_of text) p.stack fed.faulty
 IsEndRead p text forest (Err OutOfMemory) = Unit {0}
 IsEndRead p text forest (Err _) = ⊥
@@ -59,14 +59,14 @@ pub record IsDerivationOver (s : TableSet) (text : List ℕ) (tokens : List (Tok
   pub yields : tokens ≡ before ++ yield_of tree
   pub fits : Fits s.rules tree
   pub says : IsTokenVerdict s text tokens (accepted (build (shape_of_rule s.rules) tree))
-  pub extents : x.tokens.items ≡ map extent_of tokens
+  pub extents : x.tokens.items ≡ map span_of tokens
   pub root : StandsFor x.forest x.root (build (shape_of_rule (map keeping_rule s.rules)) tree)
 
 -- What is found of tokens over a text: a derivation, or what is wrong with them, or the tables are at fault. Want of
 -- memory says nothing.
 abbrev pub IsTokenDerived : TableSet → List ℕ → List (Token ℕ) → Result Derived TextFault → Type 0
 IsTokenDerived s text tokens (Ok (Accepted x)) = IsDerivationOver s text tokens x
-IsTokenDerived s text tokens (Ok (Refused flaw)) = IsTokenVerdict s text tokens (verdict_of flaw)
+IsTokenDerived s text tokens (Ok (Refused syntax_error)) = IsTokenVerdict s text tokens (verdict_of syntax_error)
 IsTokenDerived s text tokens (Err FaultyTables) = IsTokenVerdict s text tokens faulty
 IsTokenDerived s text tokens (Err OutOfMemory) = Unit {0}
 IsTokenDerived s text tokens (Err _) = ⊥

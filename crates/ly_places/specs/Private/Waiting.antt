@@ -8,7 +8,7 @@ use Rattle.ly_places.specs.Placed.{Placed}
 use Rattle.ly_places.specs.Private.Kept.{first_extent, placed_term, IsWhole}
 use Rattle.ly_places.specs.Private.Measured.{measure_of}
 use Rattle.ly_places.specs.Shapes.{shape_of_rule}
-use Rattle.ly_extents.specs.declared.extent.Extent.{Extent}
+use Rattle.ly_spans.specs.declared.span.Span.{Span}
 use Rattle.ly_places.specs.declared.measure.Measure.{Measure}
 use Rattle.ly_places.specs.declared.part.Part.{Part}
 use Rattle.ly_places.specs.declared.part.PartKind.{PartKind}
@@ -36,7 +36,7 @@ pub record IsMeasured (d : Flattening) : Type 0 where
   pub measures : d.measures.now ≡ map (measure_of (shapes_of d)) d.forest.now.children
 
 -- The terms of a body one after another: of each where its tokens begin, and where those before them end.
-abbrev pub body_from : List Extent → ℕ → ℕ → List TermRef → List Measure → List Waiting
+abbrev pub body_from : List Span → ℕ → ℕ → List TermRef → List Measure → List Waiting
 body_from tokens first last [] ms = []
 body_from tokens first last (r ∷ rs) [] = []
 body_from tokens first last (r ∷ rs) (m ∷ ms) = record { term = r; first = first; last = last }
@@ -47,16 +47,16 @@ abbrev pub waiting_at : List Waiting → ℕ → Waiting
 waiting_at ws i = slice_index_or ws (i - 1) (record { term = Nothing; first = 0; last = 0 })
 
 -- the placed term of one that waits
-abbrev pub placed_at : (ℕ → Shape) → List Extent → Grown → Waiting → Placed
+abbrev pub placed_at : (ℕ → Shape) → List Span → Grown → Waiting → Placed
 placed_at shape tokens f w = placed_term shape w.last (drop w.first tokens) (term_at f w.term)
 
 -- the parts of those that wait, the last one's first
-abbrev pub listed : (ℕ → Shape) → List Extent → Grown → List Waiting → List Part
+abbrev pub listed : (ℕ → Shape) → List Span → Grown → List Waiting → List Part
 listed shape tokens f [] = []
 listed shape tokens f (w ∷ ws) = listed shape tokens f ws ++ parts_of (placed_at shape tokens f w)
 
 -- one that waits is there, each of its nodes has its body, and its tokens are there
-pub record IsReady (shape : ℕ → Shape) (tokens : List Extent) (f : Grown) (w : Waiting) : Type 0 where
+pub record IsReady (shape : ℕ → Shape) (tokens : List Span) (f : Grown) (w : Waiting) : Type 0 where
   pub known : IsSome (term_of f w.term)
   pub whole : IsWhole shape (term_at f w.term)
   pub within : w.first + (measure_of shape (term_at f w.term)).tokens ≤ length tokens
@@ -112,7 +112,7 @@ IsOpened (node name is) p body old new = (new.parts.items ≡ old.parts.items ++
     × (new.waiting.items ≡ old.waiting.items ++ reverse (map (waiting_at body) is))
 
 -- A term was taken: its part is listed, and what it consists of waits, so that all parts are still the same.
-pub record IsListed (shape : ℕ → Shape) (tokens : List Extent) (f : Grown) (next : Waiting) (old new : Listing)
+pub record IsListed (shape : ℕ → Shape) (tokens : List Span) (f : Grown) (next : Waiting) (old new : Listing)
     : Type 0 where
   pub parts : new.parts.items ++ listed shape tokens f new.waiting.items
       ≡ old.parts.items ++ (parts_of (placed_at shape tokens f next) ++ listed shape tokens f old.waiting.items)
@@ -121,7 +121,7 @@ pub record IsListed (shape : ℕ → Shape) (tokens : List Extent) (f : Grown) (
       ≡ visits shape (term_at f next.term) + visits_left shape f old.waiting.items
 
 -- where the last of some tokens ends, or the start of the text
-abbrev pub last_end : List Extent → ℕ
+abbrev pub last_end : List Span → ℕ
 last_end [] = 0
 last_end (e ∷ []) = e.end
 last_end (e ∷ f ∷ es) = last_end (f ∷ es)

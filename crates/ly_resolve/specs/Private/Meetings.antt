@@ -3,7 +3,7 @@ use Rattle.std.specs.Prelude.{◌↔◌, ◌⊎◌, ℕ, ◌<◌, ◌≤◌, Lis
 use Rattle.std.specs.Prelude.{length, AllPairs, Contains, IsTrue}
 use Rattle.std.specs.List.{filter}
 use Rattle.ly_join.specs.Grammar.{Grammar, Symbol}
-use Rattle.ly_resolve.specs.Actions.{Action, Verdict, IsRaw, error, reduce, shift, to_reduce, unsettled}
+use Rattle.ly_resolve.specs.Actions.{Action, PrecedenceVerdict, IsRaw, error, reduce, shift, to_reduce, unsettled}
 use Rattle.ly_resolve.specs.Conflicts.{Conflict, Kind, reduce_reduce, shift_reduce}
 
 -- the action is asked for
@@ -23,12 +23,12 @@ pub record AreAsked (G : Grammar) (g : List Symbol) (t : ℕ) (s : Bool) (rs : L
   pub rising : AllPairs (λ p q. p < q) rs
 
 -- precedence says nothing
-abbrev pub is_unsettled : Verdict → Bool
+abbrev pub is_unsettled : PrecedenceVerdict → Bool
 is_unsettled unsettled = true
 is_unsettled _ = false
 
 -- precedence is for the reduction
-abbrev pub is_for_reduction : Verdict → Bool
+abbrev pub is_for_reduction : PrecedenceVerdict → Bool
 is_for_reduction to_reduce = true
 is_for_reduction _ = false
 
@@ -39,17 +39,17 @@ reduces_by _ p = false
 
 -- whether a rule is counted against what is done: precedence says nothing of it and the shift, or it stays and isn't
 -- what is chosen
-abbrev pub is_counted : Bool → (ℕ → Verdict) → Action → Kind → ℕ → Bool
+abbrev pub is_counted : Bool → (ℕ → PrecedenceVerdict) → Action → Kind → ℕ → Bool
 is_counted s verdict choice shift_reduce p = s && is_unsettled (verdict p)
 is_counted s verdict choice reduce_reduce p = not (reduces_by choice p) && (not s || is_for_reduction (verdict p))
 
 -- the conflicts of a kind
-abbrev pub told : List Symbol → ℕ → Bool → List ℕ → (ℕ → Verdict) → Action → Kind → List Conflict
+abbrev pub told : List Symbol → ℕ → Bool → List ℕ → (ℕ → PrecedenceVerdict) → Action → Kind → List Conflict
 told g t s rs verdict choice kind = map
     (λ p. record { prefix = g; terminal = t; kind = kind; rule = p; choice = choice })
     (filter (is_counted s verdict choice kind) rs)
 
 -- the conflicts, by kinds
-abbrev pub all_told : List Symbol → ℕ → Bool → List ℕ → (ℕ → Verdict) → Action → List Conflict
+abbrev pub all_told : List Symbol → ℕ → Bool → List ℕ → (ℕ → PrecedenceVerdict) → Action → List Conflict
 all_told g t s rs verdict choice = told g t s rs verdict choice shift_reduce
     ++ told g t s rs verdict choice reduce_reduce

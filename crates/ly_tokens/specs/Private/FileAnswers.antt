@@ -7,7 +7,7 @@ use Rattle.ly_lexread.specs.declared.file.LexFile.{LexFile}
 use Rattle.ly_position.specs.TotalWeight.{total_weight}
 use Rattle.ly_print.specs.declared.answer_form.AnswerForm.{AnswerForm}
 use Rattle.ly_subset.specs.RuleSets.{HaveMoreSets}
-use Rattle.ly_tokens.specs.Answering.{IsAnswer}
+use Rattle.ly_tokens.specs.Answering.{IsTokenOutput}
 
 -- The file is within the limits, and the answer is that to a text under it, in a form: to the bytes that the reader
 -- had left, where these are known.
@@ -17,4 +17,4 @@ pub record FileAnswers (form : AnswerForm) (limits : Sizes) (file : LexFile) (le
   pub few : HaveMoreSets (defined file.names) file.rules.items file.conditions limits.scanner_states → ⊥
   pub text : List ℕ
   pub is_text : IfSome left (λ bytes. text ≡ bytes)
-  pub is_answer : IsAnswer form (defined file.names) file.rules.items file.actions.items text e answer
+  pub is_answer : IsTokenOutput form (defined file.names) file.rules.items file.actions.items text e answer

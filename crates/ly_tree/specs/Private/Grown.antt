@@ -4,14 +4,14 @@ use Rattle.ly_base.specs.declared.numbers.Sym.{Sym}
 use Rattle.ly_tree.specs.Forest.{term_of, Grown, Lists}
 use Rattle.ly_tree.specs.Term.{Term, leaf, nothing}
 use Rattle.ly_tree.specs.declared.forest.TermRef.{TermRef}
-use Rattle.ly_tree.specs.declared.span.Span.{Span}
+use Rattle.ly_tree.specs.declared.node_span.NodeSpan.{NodeSpan}
 
 -- the leaf of a terminal and a text
 abbrev pub long_leaf : Sym × List ℕ → Term
 long_leaf l = leaf l.0.0 l.1
 
 -- the lists of the texts of short leaves, of the terminals and texts of the others, and of long nodes
-abbrev pub lists_from : List ℕ → List (Sym × List ℕ) → List Span → Lists
+abbrev pub lists_from : List ℕ → List (Sym × List ℕ) → List NodeSpan → Lists
 lists_from texts long spans = record { texts = texts; long_leaves = map long_leaf long; long_nodes = spans }
 
 -- the term of a child, by the terms before it

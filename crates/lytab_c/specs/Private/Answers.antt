@@ -3,10 +3,10 @@ use Rattle.std.specs.Prelude.{◌≡◌, ◌≢◌, ◌<◌, ◌⊎◌, ℕ, Lis
 use Rattle.ly_drive.specs.Answering.{IsDriven}
 use Rattle.ly_drive.specs.declared.fault.DriveFault.{DriveFault}
 use Rattle.ly_drive.specs.declared.fault.DriveFault.TheVariants.{Tables, Text}
-use Rattle.ly_feed.specs.Flaw.{verdict_of}
+use Rattle.ly_feed.specs.SyntaxError.{verdict_of}
 use Rattle.ly_feed.specs.TableAnswer.{IsVerdict}
 use Rattle.ly_feed.specs.Verdict.{faulty}
-use Rattle.ly_feed.specs.declared.flaw.Flaw.{Flaw}
+use Rattle.ly_feed.specs.declared.syntax_error.SyntaxError.{SyntaxError}
 use Rattle.ly_feed.specs.declared.text_fault.TextFault.TheVariants.{OutOfMemory}
 use Rattle.ly_places.specs.Parts.{parts_of}
 use Rattle.ly_places.specs.Placed.{Placed}
@@ -18,7 +18,7 @@ use Rattle.ly_tables.specs.declared.fault.TableFault.TheVariants as file
 use Rattle.lytab_c.specs.Block.{IsFilled, IsPut}
 use Rattle.lytab_c.specs.Many.{all_expected, all_parts, text_reports, texts_from, total_report, ManyBlocks, TextAnswer}
 use Rattle.lytab_c.specs.Parsing.{expected_in, listed}
-use Rattle.lytab_c.specs.Reports.{at_fault, flaw_report, needing}
+use Rattle.lytab_c.specs.Reports.{at_fault, syntax_error_report, needing}
 use Rattle.lytab_c.specs.declared.answer_list.AnswerList.{AnswerList}
 use Rattle.lytab_c.specs.declared.report.Report.{Report}
 use Rattle.lytab_c.specs.declared.status.Status.{Status}
@@ -39,11 +39,11 @@ tree_answer ps = record {
 }
 
 -- a flaw
-abbrev pub flaw_answer : Flaw → TextAnswer
-flaw_answer flaw = record {
+abbrev pub syntax_error_answer : SyntaxError → TextAnswer
+syntax_error_answer syntax_error = record {
   status = Refused;
-  report = flaw_report flaw;
-  blocks = record { parts = []; expected = expected_in flaw };
+  report = syntax_error_report syntax_error;
+  blocks = record { parts = []; expected = expected_in syntax_error };
 }
 
 -- tables that are at fault
@@ -53,7 +53,7 @@ fault_answer = record { status = Fault; report = at_fault 90 0; blocks = record 
 -- a set says this of a text
 abbrev pub IsAnswerBy : TableSet → List ℕ → TextAnswer → Type 0
 IsAnswerBy s text x = ((t : Placed) × IsPlacedBy s text t × (x ≡ tree_answer (parts_of t)))
-    ⊎ (((flaw : Flaw) × IsVerdict s text (verdict_of flaw) × (x ≡ flaw_answer flaw))
+    ⊎ (((syntax_error : SyntaxError) × IsVerdict s text (verdict_of syntax_error) × (x ≡ syntax_error_answer syntax_error))
     ⊎ (IsVerdict s text faulty × (x ≡ fault_answer)))
 
 -- it says these of texts

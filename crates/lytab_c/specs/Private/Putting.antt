@@ -2,8 +2,8 @@
 use Rattle.std.specs.Prelude.{◌≡◌, ◌≢◌, ◌<◌, ◌≤◌, ◌⊎◌, ◌^◌, ℕ, suc, ◌+◌, List, [], ◌∷◌, None, Some, length}
 use Rattle.ly_drive.specs.DriveFault.{drive_number}
 use Rattle.ly_drive.specs.declared.fault.DriveFault.{DriveFault}
-use Rattle.ly_feed.specs.declared.flaw.Flaw.{Flaw}
-use Rattle.ly_feed.specs.declared.flaw.Flaw.TheVariants as flaws
+use Rattle.ly_feed.specs.declared.syntax_error.SyntaxError.{SyntaxError}
+use Rattle.ly_feed.specs.declared.syntax_error.SyntaxError.TheVariants as syntax_errors
 use Rattle.ly_feed.specs.declared.outcome.Outcome.{Outcome}
 use Rattle.ly_feed.specs.declared.outcome.Outcome.TheVariants.{NoRule, Syntax, Tree}
 use Rattle.ly_generate.specs.GenFault.{gen_number}
@@ -20,8 +20,8 @@ use Rattle.ly_tables.specs.declared.fault.TableFault.{TableFault}
 use Rattle.lytab_c.specs.Block.{IsFilled, IsPut}
 use Rattle.lytab_c.specs.Building.{built_of, fault_built, nothing_built}
 use Rattle.lytab_c.specs.Naming.{counts_of, ends_from, joined, names_of, nothing_counted, NameBlocks, TellsRefusal}
-use Rattle.lytab_c.specs.Parsing.{expected_in, listed, IsFlawOf, IsTreeOf}
-use Rattle.lytab_c.specs.Reports.{flaw_report, needing, nothing_told, outcome_report, TellsFault}
+use Rattle.lytab_c.specs.Parsing.{expected_in, listed, IsSyntaxErrorOf, IsTreeOf}
+use Rattle.lytab_c.specs.Reports.{syntax_error_report, needing, nothing_told, outcome_report, TellsFault}
 use Rattle.lytab_c.specs.declared.build_report.BuildReport.{BuildReport}
 use Rattle.lytab_c.specs.declared.name_counts.NameCounts.{NameCounts}
 use Rattle.lytab_c.specs.declared.part.Part.{Part}
@@ -35,9 +35,9 @@ FitsOutcome (Syntax token byte count expected) = byte + count < 2 ^ 64
 FitsOutcome _ = Unit {0}
 
 -- so is where a refused token ends
-abbrev pub FitsFlaw : Flaw → Type 0
-FitsFlaw (flaws.Refused number token expected) = token.at + length token.text < 2 ^ 64
-FitsFlaw (flaws.NoRule byte) = Unit {0}
+abbrev pub FitsSyntaxError : SyntaxError → Type 0
+FitsSyntaxError (syntax_errors.Refused number token expected) = token.at + length token.text < 2 ^ 64
+FitsSyntaxError (syntax_errors.NoRule byte) = Unit {0}
 
 -- a fault that has a number is told, and one that has none is want of memory
 abbrev pub IsFaultTold : DriveFault → Report → Status → Type 0
@@ -92,7 +92,7 @@ AreTablesPut bytes conflicts old new built _ = ⊥
 -- a set that the bytes of the table file spell says this of the text
 abbrev pub IsParsedBy : List ℕ → List ℕ → Parsed → Type 0
 IsParsedBy tables text (parsed.Tree parts) = (t : Placed) × IsTreeOf tables text t × (parts.items ≡ parts_of t)
-IsParsedBy tables text (parsed.Refused flaw) = IsFlawOf tables text flaw
+IsParsedBy tables text (parsed.Refused syntax_error) = IsSyntaxErrorOf tables text syntax_error
 
 -- the parts of a tree are put into a block where there is room
 abbrev pub ArePartsPut : List tree.Part → List Part → List Part → Report → Status → Type 0
@@ -101,9 +101,9 @@ ArePartsPut parts old new report Short = (length old < length parts) × (report 
 ArePartsPut parts old new report _ = ⊥
 
 -- what is wrong with a text is told, with the terminals that are expected
-abbrev pub IsFlawPut : Flaw → List ℕ → List ℕ → Report → Status → Type 0
-IsFlawPut flaw old new report Refused = IsFilled (expected_in flaw) old new × (report ≡ flaw_report flaw)
-IsFlawPut flaw old new report _ = ⊥
+abbrev pub IsSyntaxErrorPut : SyntaxError → List ℕ → List ℕ → Report → Status → Type 0
+IsSyntaxErrorPut syntax_error old new report Refused = IsFilled (expected_in syntax_error) old new × (report ≡ syntax_error_report syntax_error)
+IsSyntaxErrorPut syntax_error old new report _ = ⊥
 
 -- each part ends among so many, where the first of these has this index
 abbrev pub EndWithin : ℕ → ℕ → List tree.Part → Type 0

@@ -2,7 +2,7 @@
 use Rattle.std.specs.Prelude.{◌≡◌, ℕ, List, length}
 use Rattle.ly_drive.specs.declared.fault.DriveFault.{DriveFault}
 use Rattle.ly_drive.specs.declared.fault.DriveFault.TheVariants.{Tables, Text}
-use Rattle.ly_feed.specs.Flaw.{verdict_of}
+use Rattle.ly_feed.specs.SyntaxError.{verdict_of}
 use Rattle.ly_feed.specs.Verdict.{faulty}
 use Rattle.ly_feed.specs.declared.text_fault.TextFault.{TextFault}
 use Rattle.ly_feed.specs.declared.text_fault.TextFault.TheVariants.{FaultyTables, OutOfMemory}
@@ -12,7 +12,7 @@ use Rattle.ly_places.specs.TokenAnswer.{IsPlacedOver, IsTokenVerdict}
 use Rattle.ly_places.specs.declared.parsing.Parsed.{Parsed}
 use Rattle.ly_places.specs.declared.parsing.Parsed.TheVariants as parsed
 use Rattle.ly_tables.specs.TableSet.{TableSet}
-use Rattle.lytab_c.specs.Parsing.{IsSaid, ParseBlocks}
+use Rattle.lytab_c.specs.Parsing.{IsReported, ParseBlocks}
 use Rattle.lytab_c.specs.Reports.{numbering}
 use Rattle.lytab_c.specs.Tokens.{given_over, IsFirstWrong}
 use Rattle.lytab_c.specs.declared.report.Report.{Report}
@@ -24,7 +24,7 @@ use Rattle.lytab_c.specs.declared.token.Token.{Token}
 abbrev pub IsParsedOver : TableSet → List ℕ → List Token → Parsed → Type 0
 IsParsedOver s text tokens (parsed.Tree parts) = (t : Placed) × IsPlacedOver s text (given_over text tokens) t
     × (parts.items ≡ parts_of t)
-IsParsedOver s text tokens (parsed.Refused flaw) = IsTokenVerdict s text (given_over text tokens) (verdict_of flaw)
+IsParsedOver s text tokens (parsed.Refused syntax_error) = IsTokenVerdict s text (given_over text tokens) (verdict_of syntax_error)
 
 -- it is at fault on them; want of memory says nothing
 abbrev pub IsFaultOver : TableSet → List ℕ → List Token → TextFault → Type 0
@@ -41,6 +41,6 @@ IsDriveFaultOver s text tokens (Text fault) = IsFaultOver s text tokens fault
 abbrev pub AreTokensSaid : TableSet → List ℕ → List Token → ParseBlocks → ParseBlocks → Report → Status → Type 0
 AreTokensSaid s text tokens old new report Misused = (number : ℕ)
     × IsFirstWrong (length s.terminals) (length text) tokens number × (report ≡ numbering number) × (new ≡ old)
-AreTokensSaid s text tokens old new report status = IsSaid (IsPlacedOver s text (given_over text tokens))
-    (λ flaw. IsTokenVerdict s text (given_over text tokens) (verdict_of flaw)) (IsDriveFaultOver s text tokens) old new
+AreTokensSaid s text tokens old new report status = IsReported (IsPlacedOver s text (given_over text tokens))
+    (λ syntax_error. IsTokenVerdict s text (given_over text tokens) (verdict_of syntax_error)) (IsDriveFaultOver s text tokens) old new
     report status

@@ -1,7 +1,7 @@
 use Rattle.std.proofs.Common.{◌≡◌, Err, Ok, ap, subst}
 use Rattle.ly_drive.proofs.FaultLemmas.{other_text, same_text}
 use Rattle.ly_drive.proofs.SoFarLemmas.{nothing_needed}
-use Rattle.ly_drive.specs.Answering.{IsOpenBehind, IsReadAsNeeded}
+use Rattle.ly_drive.specs.Answering.{NeedsMoreInput, IsReadAsNeeded}
 use Rattle.ly_drive.proofs.driving.drive.Goals as goal
 use Rattle.ly_drive.specs.declared.fault.DriveFault.TheVariants.{Text}
 use Rattle.ly_feed.proofs.FaultLemmas.{same_fault}
@@ -39,7 +39,7 @@ returns-in_err-answered-clause-asked g c s driven is =
     driven.1).1 in
     let before = g.R.Source.remaining c.args.reader.now in
     let after = g.R.Source.remaining c.run-answered.new.reader in
-    subst (λ x. IsOpenBehind x before after) same
+    subst (λ x. NeedsMoreInput x before after) same
     (c.in_err-answered.ensures.asked
     (ap Err (same_text c.in_err-answered.field-0.0 Read
     (same_fault c.from_residual-in_err-answered.result (Text c.in_err-answered.field-0.0) (Text Read)

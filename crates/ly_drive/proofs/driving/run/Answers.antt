@@ -1,6 +1,6 @@
 use Rattle.std.proofs.Common.{◌≡◌, ap, arith, length, subst}
 use Rattle.ly_drive.proofs.SoFarLemmas.{nothing_needed}
-use Rattle.ly_drive.specs.Answering.{IsBegunBy, IsFaultyOn, IsOpenBehind, IsReadAsNeeded}
+use Rattle.ly_drive.specs.Answering.{IsBegunBy, IsFaultyOn, NeedsMoreInput, IsReadAsNeeded}
 use Rattle.ly_drive.proofs.driving.run.Goals as goal
 
 pub returns-clause-beginning : goal.returns-clause-beginning
@@ -33,6 +33,6 @@ returns-clause-needed g c not =
 
 pub returns-clause-asked : goal.returns-clause-asked
 returns-clause-asked g c is =
-    subst (λ s. IsOpenBehind s (g.R.Source.remaining c.args.reader.now)
+    subst (λ s. NeedsMoreInput s (g.R.Source.remaining c.args.reader.now)
     (g.R.Source.remaining c.feed_all-answered.new.reader)) (ap (λ f. f.set) c.in_ok-feed.ensures)
     (c.feed_all-answered.ensures.asked is)

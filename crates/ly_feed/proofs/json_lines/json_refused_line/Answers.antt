@@ -1,7 +1,7 @@
 use Rattle.std.proofs.Common.{◌≡◌, map, subst}
 use Rattle.std.specs.Prelude.{IfOk}
 use Rattle.ly_feed.specs.JsonLines.{json_refused_with}
-use Rattle.ly_feed.specs.Flaw.{token_of}
+use Rattle.ly_feed.specs.SyntaxError.{token_of}
 use Rattle.ly_feed.proofs.json_lines.json_refused_line.Goals as goal
 
 pub returns : goal.returns

@@ -1,6 +1,6 @@
 use Rattle.std.proofs.Common.{◌≡◌, ◌∙◌, None, Some, ap, map, sym, take}
 use Rattle.ly_feed.proofs.TakingLemmas.{no_terminal, terminal_is}
-use Rattle.ly_feed.specs.Flaw.{token_of}
+use Rattle.ly_feed.specs.SyntaxError.{token_of}
 use Rattle.ly_feed.specs.ScanPart.{scan_part_of, terminal_in}
 use Rattle.ly_feed.specs.Verdict.{refused}
 use Rattle.ly_feed.proofs.running.refusal.Goals as goal

@@ -5,16 +5,16 @@ use Rattle.ly_feed.proofs.RunLemmas.{cut, fast_there, halts_at_end, over, settle
 use Rattle.ly_feed.specs.Onward.{IsSettled, Onward, none_yet}
 use Rattle.ly_feed.proofs.TakingLemmas.{refused_there}
 use Rattle.ly_feed.proofs.ToldLemmas.{told_fault, told_here}
-use Rattle.ly_feed.specs.Flaw.{verdict_of}
+use Rattle.ly_feed.specs.SyntaxError.{verdict_of}
 use Rattle.ly_feed.specs.Closed.{CanRun, progress_of}
 use Rattle.ly_feed.specs.Private.Running.{IsTaken}
 use Rattle.ly_feed.specs.Private.Told.{HaltsAhead, IsRunOverTold}
 use Rattle.ly_feed.specs.ScanPart.{scan_part_of, scanner_in}
 use Rattle.ly_feed.specs.Verdict.{faulty}
 use Rattle.ly_feed.proofs.running.run_on.Goals as goal
-use Rattle.ly_parse.specs.declared.answer.Answer.TheVariants.{Reads, Refuses}
+use Rattle.ly_parse.specs.declared.token_outcome.TokenOutcome.TheVariants.{Reads, Refuses}
 use Rattle.ly_scan.specs.KnownWalks.{AreKnown}
-use Rattle.ly_scan.specs.Pieces.{EndsFast}
+use Rattle.ly_scan.specs.Pieces.{EndIsDecided}
 use Rattle.ly_scan.specs.StateTable.{ahead_in}
 
 pub loop-known-init : goal.loop-known-init
@@ -84,8 +84,8 @@ returns-in-Err-Clean-clause-runs c =
       over c.args.ended p c.args.parser.now.machine (progress_of c.args.place c.args.parser.now) c.args.lexer.now
           c.in-At.here q c.run_told_by.new.parser c.requires.lexer told.0
           c.next.ensures.passed,
-      halts_at_end c.args.ended p q (subst (λ e. EndsFast c.args.ended (scanner_in p) q e) c.in-Err-Clean.field-0-is
-          (subst (λ x. EndsFast c.args.ended x q c.in-Err-Clean.field-0) c.requires.lexer.scanner
+      halts_at_end c.args.ended p q (subst (λ e. EndIsDecided c.args.ended (scanner_in p) q e) c.in-Err-Clean.field-0-is
+          (subst (λ x. EndIsDecided c.args.ended x q c.in-Err-Clean.field-0) c.requires.lexer.scanner
           c.in-Err-Clean.ensures.end)),
       told.1,
     )
@@ -124,13 +124,13 @@ returns-in-Refuses-clause-runs c =
     let q = c.next.new.place in
     let s = c.run_told_by.new.parser in
     let t = c.in-Ok-Some.lexeme in
-    let flaw = c.in_ok-refusal-in-Refuses.field-0 in
+    let syntax_error = c.in_ok-refusal-in-Refuses.field-0 in
     let fast = fast_there c.args.ended p l q c.in-Ok-Some.field-0 t c.requires.lexer c.in-Ok-Some.ensures.found
     c.in-Ok-Some.field-0-is in
-    settled_there c.args.ended p m w q s (verdict_of flaw)
+    settled_there c.args.ended p m w q s (verdict_of syntax_error)
     (over c.args.ended p m w l c.in-At.here q s c.requires.lexer told.0
     c.next.ensures.passed)
-    (refused_there c.args.ended p m (progress_of q s) t c.take.new.parser flaw
+    (refused_there c.args.ended p m (progress_of q s) t c.take.new.parser syntax_error
     (c.take.ensures.machine ∙ c.run_told_by.ensures.machine ∙ c.loop-known.invariant.machine) fast
     (subst (λ k. IsTaken c.args.ended p k (progress_of q s) t c.take.new.parser Refuses)
     (c.run_told_by.ensures.machine ∙ c.loop-known.invariant.machine)
@@ -204,15 +204,15 @@ returns-in_err-here-clause-runs c =
     c.in_err-here.field-0.0 c.from_residual.result c.loop-known.invariant.machine c.loop-known.invariant.onward
     (c.in_err-here.ensures.runs c.args.ended) c.from_residual.ensures.1
 
-pub returns-in-Flawed-clause-runs : goal.returns-in-Flawed-clause-runs
-returns-in-Flawed-clause-runs c =
+pub returns-in-Stopped-clause-runs : goal.returns-in-Stopped-clause-runs
+returns-in-Stopped-clause-runs c =
     let p = scan_part_of c.args.set.now in
     let m = c.args.parser.now.machine in
-    let flaw = c.in-Flawed.flaw in
+    let syntax_error = c.in-Stopped.syntax_error in
     settled_there c.args.ended p m (progress_of c.args.place c.args.parser.now) c.loop-known.place c.loop-known.parser
-    (verdict_of flaw) c.loop-known.invariant.onward
+    (verdict_of syntax_error) c.loop-known.invariant.onward
     (subst (λ h. IsRunOverTold c.args.ended p m (progress_of c.loop-known.place c.loop-known.parser)
-    c.run_told_by.new.parser (Ok h)) c.in-Flawed.is
+    c.run_told_by.new.parser (Ok h)) c.in-Stopped.is
     (subst (λ k. IsRunOverTold c.args.ended p k (progress_of c.loop-known.place c.loop-known.parser)
     c.run_told_by.new.parser (Ok c.in_ok-here.field-0)) c.loop-known.invariant.machine
     (c.in_ok-here.ensures.runs c.args.ended)))

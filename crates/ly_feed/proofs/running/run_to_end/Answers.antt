@@ -12,10 +12,10 @@ returns-in_err-place-clause-closed c = closed_fault (scan_part_of c.args.set.now
     c.run_on.new.parser.forest c.in_err-place.field-0.0 c.from_residual.result c.in_err-place.ensures.runs
     c.from_residual.ensures.1
 
-pub returns-in-Flawed-clause-closed : goal.returns-in-Flawed-clause-closed
-returns-in-Flawed-clause-closed c = closed_by (scan_part_of c.args.set.now) c.args.parser.now.machine
+pub returns-in-Stopped-clause-closed : goal.returns-in-Stopped-clause-closed
+returns-in-Stopped-clause-closed c = closed_by (scan_part_of c.args.set.now) c.args.parser.now.machine
     (progress_of c.args.place c.args.parser.now) c.run_on.new.parser
-    c.run_on.new.parser.forest c.in_ok-place.field-0 c.in-Flawed.flaw c.in_ok-place.ensures.runs c.in-Flawed.is
+    c.run_on.new.parser.forest c.in_ok-place.field-0 c.in-Stopped.syntax_error c.in_ok-place.ensures.runs c.in-Stopped.is
 
 pub returns-in-At-clause-closed : goal.returns-in-At-clause-closed
 returns-in-At-clause-closed c =

@@ -5,13 +5,13 @@ use Rattle.ly_feed.proofs.RunLemmas.{over, settled_there}
 use Rattle.ly_feed.proofs.TakingLemmas.{refused_there}
 use Rattle.ly_feed.proofs.ToldLemmas.{ahead_none, ahead_on, ahead_over, answered, has_terminal, told_after, told_at}
 use Rattle.ly_feed.specs.Closed.{progress_of}
-use Rattle.ly_feed.specs.Flaw.{verdict_of}
+use Rattle.ly_feed.specs.SyntaxError.{verdict_of}
 use Rattle.ly_feed.specs.Onward.{IsSettled, Onward, none_yet}
 use Rattle.ly_feed.specs.Private.Running.{IsTaken}
 use Rattle.ly_feed.specs.ScanPart.{scan_part_of, scanner_in}
 use Rattle.ly_feed.specs.Verdict.{faulty}
 use Rattle.ly_feed.proofs.running_told.run_told.Goals as goal
-use Rattle.ly_parse.specs.declared.answer.Answer.TheVariants.{Accepts, FaultyTables, Over, Reads, Refuses}
+use Rattle.ly_parse.specs.declared.token_outcome.TokenOutcome.TheVariants.{Accepts, FaultyTables, Over, Reads, Refuses}
 
 pub returns-then-condition-ne0-clause-runs : goal.returns-then-condition-ne0-clause-runs
 returns-then-condition-ne0-clause-runs g c ended = (none_yet, c.requires.goes_on)
@@ -131,16 +131,16 @@ returns-in-Refuses-clause-runs g c ended =
     let machine = c.loop-told.invariant.machine in
     let is = told_at p l c.args.facts.now q c.in-Some.told c.requires.lexer c.requires.facts
     (c.in-Some.ensures.told c.requires.facts.numbers c.requires.facts.are) in
-    let flaw = c.in_ok-flaw-in-Refuses.flaw in
-    settled_there ended p m w q s (verdict_of flaw)
+    let syntax_error = c.in_ok-syntax_error-in-Refuses.syntax_error in
+    settled_there ended p m w q s (verdict_of syntax_error)
     (over ended p m w l c.loop-told.place q s c.requires.lexer (c.loop-told.invariant.onward ended)
     c.tell_from.ensures.passed)
-    (refused_there ended p m (progress_of q s) is.lexeme c.take_told-answer.new.parser flaw
+    (refused_there ended p m (progress_of q s) is.lexeme c.take_told-answer.new.parser syntax_error
     (c.take_told-answer.ensures.machine ∙ machine) (fast_of ended (scanner_in p) q is.lexeme is.stands)
     (subst (λ k. IsTaken ended p k (progress_of q s) is.lexeme c.take_told-answer.new.parser Refuses) machine
     (answered ended (scan_part_of c.args.set.now) _ _ is.lexeme _ _ Refuses c.in-Refuses.is
     (c.take_told-answer.ensures.taken ended is)))
-    (c.in_ok-flaw-in-Refuses.ensures p is.lexeme is.taken (c.take_told-answer.ensures.terminal is)))
+    (c.in_ok-syntax_error-in-Refuses.ensures p is.lexeme is.taken (c.take_told-answer.ensures.terminal is)))
 
 pub returns-in-FaultyTables-clause-runs : goal.returns-in-FaultyTables-clause-runs
 returns-in-FaultyTables-clause-runs g c ended =

@@ -1,6 +1,6 @@
 use Rattle.std.proofs.Common.{◌∙◌, ap, map, sym, take}
 use Rattle.ly_feed.proofs.TakingLemmas.{terminal_is}
-use Rattle.ly_feed.specs.Flaw.{token_of}
+use Rattle.ly_feed.specs.SyntaxError.{token_of}
 use Rattle.ly_feed.specs.ScanPart.{terminal_in}
 use Rattle.ly_feed.specs.Verdict.{refused}
 use Rattle.ly_feed.proofs.running_told.told_refusal.Goals as goal

@@ -4,7 +4,7 @@ use Rattle.std.proofs.lemmas.Result.{err_from_is_err_and}
 use Rattle.ly_base.proofs.GapLemmas.{at_none}
 use Rattle.ly_lexread.specs.Action.{Effect, effect_of}
 use Rattle.ly_lexread.specs.Private.Statements.{statement_of}
-use Rattle.ly_lexread.specs.Statements.{Follows, done, more}
+use Rattle.ly_lexread.specs.Statements.{HasEffect, done, more}
 use Rattle.ly_lexread.proofs.StatementLemmas.{ends_first, no_statements, none_first, not_ends, statements_behind}
 use Rattle.ly_lexread.proofs.action.read_statements.Goals as goal
 
@@ -39,8 +39,8 @@ loop-action-preserved c =
     let s = statement_of c.in_ok-statement.statement in
     let left = c.loop-action.left.now in
     let behind = c.in_ok-statement.behind.now in
-    let follows : Follows d s f = subst (λ o. MatchOption o ((e : Effect) → Follows d s e → ⊥)
-    (λ a. Follows d s (effect_of a))) c.in-Some.is c.in_ok-longer.ensures in
+    let follows : HasEffect d s f = subst (λ o. MatchOption o ((e : Effect) → HasEffect d s e → ⊥)
+    (λ a. HasEffect d s (effect_of a))) c.in-Some.is c.in_ok-longer.ensures in
     record {
       sound = λ e rest h. c.loop-action.invariant.sound e rest
           (more d f e s left behind rest c.in_ok-statement.ensures.these follows h);

@@ -43,7 +43,7 @@ returns c =
     let forest = c.run_to_end.new.parser.forest in
     let closed = c.in_ok-root.ensures.closed in
     let v = closed.0 in
-    refused_with c.args.set.now c.args.text.now parser.ensures.machine forest c.in-Refused.flaw v
+    refused_with c.args.set.now c.args.text.now parser.ensures.machine forest c.in-Refused.syntax_error v
     (said_by c.args.set.now c.args.text.now parser.ensures.machine parser.result.machine
     (progress_of c.start.result parser.result) v machine start closed.1)
     (subst (λ ended. IsVerdictOf forest ended v) c.in-Refused.is closed.2)

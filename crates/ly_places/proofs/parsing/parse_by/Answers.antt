@@ -1,6 +1,6 @@
 use Rattle.std.proofs.Common.{refl, subst}
 use Rattle.std.specs.Prelude.{Ok}
-use Rattle.ly_places.proofs.PlacingLemmas.{is_derived, is_placed, placed_flaw, placed_of}
+use Rattle.ly_places.proofs.PlacingLemmas.{is_derived, is_placed, placed_syntax_error, placed_of}
 use Rattle.ly_places.specs.PlacedAnswer.{accepted}
 use Rattle.ly_places.specs.Private.Derived.{IsDerivationOf, IsDerived}
 use Rattle.ly_places.proofs.parsing.parse_by.Goals as goal
@@ -21,5 +21,5 @@ pub returns-in-Refused-clause-parsed : goal.returns-in-Refused-clause-parsed
 returns-in-Refused-clause-parsed c =
     let s = c.args.set.now in
     let text = c.args.text.now in
-    placed_flaw s text c.in-Refused.flaw
+    placed_syntax_error s text c.in-Refused.syntax_error
     (subst (λ d. IsDerived s text (Ok d)) c.in-Refused.is c.in_ok-derivation.ensures)

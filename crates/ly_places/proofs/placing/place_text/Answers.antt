@@ -11,7 +11,7 @@ pub returns-in_err-write_whole-in-Refused-clause-beginning :
 returns-in_err-write_whole-in-Refused-clause-beginning g c written is =
     let told = c.in_ok-line-in-Refused.ensures in
     let line = c.in_ok-line-in-Refused.line.items in
-    let outcome = some_outcome c.in-Refused.flaw in
+    let outcome = some_outcome c.in-Refused.syntax_error in
     let failed = c.in_err-write_whole-in-Refused in
     let count = failed.field-0.0.written in
     let same = same_count count written (same_fault c.from_residual-in_err-write_whole-in-Refused.result

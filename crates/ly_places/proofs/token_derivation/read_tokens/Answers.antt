@@ -1,7 +1,7 @@
 use Rattle.std.proofs.Common.{◌≡◌, ◌∙◌, [], ap, arith, get_or, subst, sym}
 use Rattle.std.specs.Prelude.{Err, Ok}
 use Rattle.ly_feed.proofs.FeedingLemmas.{accepts_end}
-use Rattle.ly_feed.specs.Flaw.{token_of}
+use Rattle.ly_feed.specs.SyntaxError.{token_of}
 use Rattle.ly_pack.specs.Machine.{IsMachine}
 use Rattle.ly_parse.specs.Parse.{IsCall}
 use Rattle.ly_parse.specs.Reading.{at_end, ReadsTokens}

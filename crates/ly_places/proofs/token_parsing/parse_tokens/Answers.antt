@@ -1,6 +1,6 @@
 use Rattle.std.proofs.Common.{map, refl, subst}
 use Rattle.std.specs.Prelude.{Ok}
-use Rattle.ly_places.proofs.PlacingLemmas.{derived_over, is_placed_over, placed_over, placed_token_flaw}
+use Rattle.ly_places.proofs.PlacingLemmas.{derived_over, is_placed_over, placed_over, placed_token_syntax_error}
 use Rattle.ly_places.specs.PlacedAnswer.{accepted}
 use Rattle.ly_places.specs.Private.TokenDerived.{IsDerivationOver, IsTokenDerived}
 use Rattle.ly_places.specs.TokenAnswer.{token_over}
@@ -28,5 +28,5 @@ returns-clause-parsed c =
     let s = c.args.set.now in
     let text = c.args.text.now in
     let tokens = map (token_over text) c.args.tokens.now in
-    placed_token_flaw s text tokens c.in-Refused.flaw
+    placed_token_syntax_error s text tokens c.in-Refused.syntax_error
     (subst (λ d. IsTokenDerived s text tokens (Ok d)) c.in-Refused.is c.in_ok-derivation.ensures)

@@ -8,7 +8,7 @@ use Rattle.ly_lexread.specs.declared.file.LexFile.{LexFile}
 use Rattle.ly_position.specs.TotalWeight.{total_weight}
 use Rattle.ly_print.specs.declared.answer_form.AnswerForm.{AnswerForm}
 use Rattle.ly_subset.specs.RuleSets.{HaveMoreSets}
-use Rattle.ly_tokens.specs.Answering.{IsAnswer}
+use Rattle.ly_tokens.specs.Answering.{IsTokenOutput}
 use Rattle.ly_listing.specs.Listings.{end_of}
 use Rattle.ly_tokens.specs.Private.FileAnswers.{FileAnswers}
 use Rattle.ly_lexread.proofs.BeginLemmas.{begins_below, has_condition}
@@ -27,14 +27,14 @@ file_answers : (form : AnswerForm) (limits : Sizes) (file : LexFile) (left : Opt
     (answer : List ℕ) → (total_weight (defined file.names) file.rules.items ≤ limits.total_weight)
     → (HaveMoreSets (defined file.names) file.rules.items file.conditions limits.scanner_states → ⊥)
     → IfSome left (λ bytes. text ≡ bytes) → given ≡ text
-    → IsAnswer form (defined file.names) file.rules.items file.actions.items given e answer
+    → IsTokenOutput form (defined file.names) file.rules.items file.actions.items given e answer
     → FileAnswers form limits file left e answer
 file_answers form limits file left text given e answer within few is_text same is = record {
   within = within;
   few = few;
   text = text;
   is_text = is_text;
-  is_answer = subst (λ t. IsAnswer form (defined file.names) file.rules.items file.actions.items t e answer) same is;
+  is_answer = subst (λ t. IsTokenOutput form (defined file.names) file.rules.items file.actions.items t e answer) same is;
 }
 
 pub returns-clause-answered : goal.returns-clause-answered

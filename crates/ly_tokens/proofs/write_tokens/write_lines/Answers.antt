@@ -4,7 +4,7 @@ use Rattle.ly_ere.specs.Names.{defined}
 use Rattle.ly_print.specs.TextWriter.{IsCutShort}
 use Rattle.ly_print.specs.declared.answer_form.AnswerForm.TheVariants.{Plain}
 use Rattle.ly_base.specs.declared.lexeme.End.{End}
-use Rattle.ly_tokens.specs.Answering.{IsAnswer}
+use Rattle.ly_tokens.specs.Answering.{IsTokenOutput}
 use Rattle.ly_tokens.specs.declared.fault.TokensFault.{TokensFault}
 use Rattle.ly_tokens.specs.declared.fault.TokensFault.TheVariants.{Write}
 use Rattle.ly_scan.specs.Facts.{facts_by}
@@ -76,7 +76,7 @@ returns-clause-answered g c =
     let file = c.args.file.now in
     let told = c.in_ok-write_token_lines.ensures.told in (
       told.0,
-      subst (λ (e : End). IsAnswer Plain (defined file.names) file.rules.items file.actions.items c.args.text.now e
+      subst (λ (e : End). IsTokenOutput Plain (defined file.names) file.rules.items file.actions.items c.args.text.now e
           told.0)
           (sym c.token_end.ensures) (answer_of (defined file.names) file.rules.items file.actions.items
           c.in_ok-labels.labels.actions.now (scanner_of c.args.lexer.now.scanner) c.args.text.now

@@ -6,7 +6,7 @@ use Rattle.ly_ere.specs.Names.{defined}
 use Rattle.ly_print.specs.TextWriter.{IsCutShort}
 use Rattle.ly_print.specs.declared.answer_form.AnswerForm.TheVariants.{Json}
 use Rattle.ly_scan.specs.Lexers.{scanner_of}
-use Rattle.ly_tokens.specs.Answering.{IsAnswer}
+use Rattle.ly_tokens.specs.Answering.{IsTokenOutput}
 use Rattle.ly_tokens.specs.declared.fault.TokensFault.{TokensFault}
 use Rattle.ly_tokens.specs.declared.fault.TokensFault.TheVariants.{Write}
 use Rattle.ly_tokens.proofs.AnswerLemmas.{listed_answer, listing_ends, run_leaves_tokens}
@@ -58,7 +58,7 @@ returns-clause-answered g c =
     let s = scanner_of c.args.lexer.now.scanner in
     let listed = c.in_ok-lines.field-0 in (
       listed.lines.items,
-      subst (λ (e : End). IsAnswer Json (defined file.names) file.rules.items file.actions.items c.args.text.now e
+      subst (λ (e : End). IsTokenOutput Json (defined file.names) file.rules.items file.actions.items c.args.text.now e
           listed.lines.items) (sym c.token_end.ensures)
           (listed_answer (defined file.names) file.rules.items file.actions.items c.in_ok-labels.labels.actions.now s
           c.args.text.now listed.end listed.lines.items c.requires.agrees

@@ -2,8 +2,8 @@ use Rattle.std.proofs.Common.{◌≡◌, ◌∙◌, IfErr, rules, subst, sym}
 use Rattle.ly_print.specs.declared.counted.Counted.{Counted}
 use Rattle.ly_generate.specs.Parser.{IsReportIf}
 use Rattle.ly_generate.proofs.GenFaultLemmas.{err_weaker}
-use Rattle.lytab.specs.CarriedOut.{IsBuildTold}
-use Rattle.lytab.specs.Devices.{IsSaid, IsToldOrStopped}
+use Rattle.lytab.specs.CarriedOut.{HasBuilt}
+use Rattle.lytab.specs.Devices.{WroteAllOrPrefix, DoneOrUnchanged}
 use Rattle.lytab.specs.Failure.{IsOfDevice}
 use Rattle.lytab.specs.Refusal.{HasOtherCounts}
 use Rattle.lytab.proofs.CarriedLemmas.{is_told}
@@ -15,8 +15,8 @@ returns-clause-built g c =
     let built = c.in-Ok.ensures.built in
     let before = g.W.Sink.contents c.args.output.now in
     let after = g.W.Sink.contents c.said.new.output in
-    let is_said : IsSaid c.said.result before after c.in_ok-line.line.items = search rules in
-    subst (λ limits. IsToldOrStopped c.said.result before after (IsBuildTold
+    let is_said : WroteAllOrPrefix c.said.result before after c.in_ok-line.line.items = search rules in
+    subst (λ limits. DoneOrUnchanged c.said.result before after (HasBuilt
     (λ (d : Counted g.row.F-File.Denot). g.F.File.Write.contents d.inner)
     limits c.args.version c.args.paths.report c.args.expected before after c.said.result))
     c.version_2-limits.ensures
@@ -29,12 +29,12 @@ returns-clause-built g c =
       spelled = built.2;
       tables_written = c.in_ok-write_files.ensures.tables;
       report = c.in-Ok.built.report;
-      is_report = subst (λ wish. IsReportIf wish built.1.spec c.in-Ok.built.report) c.wanted.ensures built.4;
+      is_report = subst (λ options. IsReportIf options built.1.spec c.in-Ok.built.report) c.wanted.ensures built.4;
       report_written = c.in_ok-write_files.ensures.report;
       counts = c.in-Ok.built.conflicts;
       are_counts = built.3;
       as_expected = counts_hold c.args.expected c.in-Ok.built.conflicts (sym c.missed_count.ensures ∙ c.in_default.is);
-      line = subst (IsSaid c.said.result before after) c.in_ok-line.ensures is_said;
+      line = subst (WroteAllOrPrefix c.said.result before after) c.in_ok-line.ensures is_said;
       done = c.said.ensures.completed;
     }))
 

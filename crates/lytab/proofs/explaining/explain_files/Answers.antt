@@ -1,7 +1,7 @@
 use Rattle.std.proofs.Common.{◌≡◌, ◌∙◌, rules, subst}
 use Rattle.ly_accepted.specs.Findings.{IsInForm}
 use Rattle.ly_generate.proofs.GenFaultLemmas.{ok_weaker}
-use Rattle.lytab.specs.Devices.{IsSaid}
+use Rattle.lytab.specs.Devices.{WroteAllOrPrefix}
 use Rattle.lytab.proofs.CarriedLemmas.{is_told}
 use Rattle.lytab.proofs.explaining.explain_files.Goals as goal
 
@@ -10,7 +10,7 @@ returns-clause-said g c =
     let explanation = c.in_ok-explanation.explanation in
     let before = g.W.Sink.contents c.args.output.now in
     let after = g.W.Sink.contents c.said.new.output in
-    let is_said : IsSaid c.said.result before after explanation.text.items = search rules in
+    let is_said : WroteAllOrPrefix c.said.result before after explanation.text.items = search rules in
     is_told c.said.result before after (record {
       lex = _;
       yacc = _;

@@ -1,10 +1,10 @@
 use Rattle.std.proofs.Common.{◌≡◌, Err, Ok, refl, subst}
 use Rattle.ly_print.specs.declared.counted.Counted.{Counted}
-use Rattle.ly_words.specs.Request.{Request}
-use Rattle.ly_words.specs.declared.command.CommandFault.TheVariants.{Bad, Help, OutOfMemory as NoMemory}
-use Rattle.ly_words.proofs.RequestLemmas.{asked}
+use Rattle.ly_cli.specs.Request.{Request}
+use Rattle.ly_cli.specs.declared.command.CommandFault.TheVariants.{Bad, Help, OutOfMemory as NoMemory}
+use Rattle.ly_cli.proofs.RequestLemmas.{asked}
 use Rattle.lytab.specs.CarriedOut.{IsCarriedOut}
-use Rattle.lytab.specs.Devices.{IsToldOf}
+use Rattle.lytab.specs.Devices.{IsOutputAfter}
 use Rattle.lytab.specs.declared.failure.Failure.TheVariants.{OutOfMemory}
 use Rattle.lytab.specs.declared.files.FileFault.TheVariants.{OutOfMemory as no_memory}
 use Rattle.lytab.proofs.CarriedLemmas.{failed_first, kept_told, told_of_known}
@@ -25,7 +25,7 @@ returns-in-Ok-clause-performed g c = λ request mean. record {
       }))
       (c.in-Ok.ensures.taken request mean) c.carry_out-ended.ensures.carried_out;
   is_status = c.concluded-status.ensures.status;
-  output = subst (λ (q : Request). IsToldOf q c.carry_out-ended.result (g.W.Sink.contents c.args.output.now)
+  output = subst (λ (q : Request). IsOutputAfter q c.carry_out-ended.result (g.W.Sink.contents c.args.output.now)
       (g.W.Sink.contents c.carry_out-ended.new.output) (g.W.Sink.failures c.args.output.now)
       (g.W.Sink.failures c.carry_out-ended.new.output)) (c.in-Ok.ensures.taken request mean)
       (told_of_known g.W.Sink.contents _ c.carry_out-ended.result _ _ _ _ c.carry_out-ended.ensures.devices);

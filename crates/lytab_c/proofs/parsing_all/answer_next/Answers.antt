@@ -1,8 +1,8 @@
 use Rattle.std.proofs.Common.{arith, inl, inr, length, refl, subst, sym}
-use Rattle.lytab_c.proofs.AnswerLemmas.{found_flaw, found_parts, with_answer}
-use Rattle.lytab_c.proofs.FitLemmas.{flaw_fits}
+use Rattle.lytab_c.proofs.AnswerLemmas.{found_syntax_error, found_parts, with_answer}
+use Rattle.lytab_c.proofs.FitLemmas.{syntax_error_fits}
 use Rattle.lytab_c.proofs.PartLemmas.{parts_end}
-use Rattle.lytab_c.specs.Private.Answers.{flaw_answer}
+use Rattle.lytab_c.specs.Private.Answers.{syntax_error_answer}
 use Rattle.lytab_c.specs.Private.Putting.{EndWithin}
 use Rattle.ly_places.specs.declared.part.Part.{Part}
 use Rattle.std.proofs.Common.{◌∙◌, List}
@@ -14,16 +14,16 @@ push_tree-requires c =
     c.in-Ok-Tree.field-0-is c.in-Ok-Tree.ensures.parsed in
     subst (λ (ps : List Part). EndWithin (length ps) 0 ps) (sym (c.deref.ensures.value ∙ told.1)) (parts_end told.0)
 
-pub push_flaw-requires : goal.push_flaw-requires
-push_flaw-requires c =
-    flaw_fits c.args.parser.now c.args.text.now c.in-Ok-Refused.flaw (omega arith)
-    (found_flaw c.args.parser.now c.args.text.now c.in-Ok-Refused.field-0 c.in-Ok-Refused.flaw
+pub push_syntax_error-requires : goal.push_syntax_error-requires
+push_syntax_error-requires c =
+    syntax_error_fits c.args.parser.now c.args.text.now c.in-Ok-Refused.syntax_error (omega arith)
+    (found_syntax_error c.args.parser.now c.args.text.now c.in-Ok-Refused.field-0 c.in-Ok-Refused.syntax_error
     c.in-Ok-Refused.field-0-is c.in-Ok-Refused.ensures.parsed)
 
 pub returns-in-Ok-Refused : goal.returns-in-Ok-Refused
 returns-in-Ok-Refused c xs held =
-    let flaw = c.in-Ok-Refused.flaw in
-    let is = found_flaw c.args.parser.now c.args.text.now c.in-Ok-Refused.field-0 flaw c.in-Ok-Refused.field-0-is
+    let syntax_error = c.in-Ok-Refused.syntax_error in
+    let is = found_syntax_error c.args.parser.now c.args.text.now c.in-Ok-Refused.field-0 syntax_error c.in-Ok-Refused.field-0-is
     c.in-Ok-Refused.ensures.parsed in
-    with_answer c.push_flaw.result c.args.parser.now c.args.text.now xs (flaw_answer flaw) c.push_flaw.new.self
-    (inr (inl (flaw, is, refl))) (c.push_flaw.ensures xs held)
+    with_answer c.push_syntax_error.result c.args.parser.now c.args.text.now xs (syntax_error_answer syntax_error) c.push_syntax_error.new.self
+    (inr (inl (syntax_error, is, refl))) (c.push_syntax_error.ensures xs held)

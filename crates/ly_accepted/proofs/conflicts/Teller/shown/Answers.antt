@@ -1,7 +1,7 @@
 use Rattle.std.proofs.Common.{subst}
 use Rattle.std.specs.Prelude.{IfOk}
 use Rattle.ly_resolve.specs.Values.{conflict_from}
-use Rattle.ly_accepted.specs.Told.{IsShown}
+use Rattle.ly_accepted.specs.GroupReport.{IsShown}
 use Rattle.ly_accepted.proofs.conflicts.Teller.shown.Goals as goal
 
 pub returns-in-Some-Merged-clause-shown : goal.returns-in-Some-Merged-clause-shown

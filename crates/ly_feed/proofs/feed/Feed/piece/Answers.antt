@@ -49,21 +49,21 @@ returns-in_err-place c =
     c.from_residual-in_err-place.ensures.1 (record { set = refl; form = refl; over = refl })
     c.in_ok-push.ensures.countable))
 
-pub returns-in-Flawed : goal.returns-in-Flawed
-returns-in-Flawed c =
+pub returns-in-Stopped : goal.returns-in-Stopped
+returns-in-Stopped c =
     let f = c.self.inside in
     let g = held_from f.set.now f.form c.push.new.self c.run_on.new.parser true in
     is_piece c.args.self.now g c.args.bytes.now _ (ap (λ x. x.over) (sym c.self.view_is) ∙ c.if-self.false)
     (subst (λ x. TakesPiece x c.args.bytes.now g
-    (Ok (Settled c.in_ok-outcome-in-Flawed.outcome c.in_ok-outcome-in-Flawed.lines))) c.self.view_is
-    (is_settled f.set.now f.form f.window f.parser f.over c.args.bytes.now g c.in-Flawed.flaw
-    c.in_ok-outcome-in-Flawed.outcome c.in_ok-outcome-in-Flawed.lines c.run_on.new.parser c.in_ok-place.field-0
+    (Ok (Settled c.in_ok-outcome-in-Stopped.outcome c.in_ok-outcome-in-Stopped.lines))) c.self.view_is
+    (is_settled f.set.now f.form f.window f.parser f.over c.args.bytes.now g c.in-Stopped.syntax_error
+    c.in_ok-outcome-in-Stopped.outcome c.in_ok-outcome-in-Stopped.lines c.run_on.new.parser c.in_ok-place.field-0
     (subst (λ q. IsRunOn false (scan_part_of f.set.now) (machine_of f.set.now) (progress_of q f.parser)
     c.run_on.new.parser (Ok c.in_ok-place.field-0))
     (c.place-start.ensures ∙ c.in_ok-push.ensures.ok)
     (run_of_set (scan_part_of f.set.now) (progress_of c.place-start.result f.parser) c.run_on.new.parser
     c.self.invariant.machine (Ok c.in_ok-place.field-0) c.in_ok-place.ensures.runs))
-    c.in-Flawed.is c.in_ok-outcome-in-Flawed.ensures.0 c.in_ok-outcome-in-Flawed.ensures.1
+    c.in-Stopped.is c.in_ok-outcome-in-Stopped.ensures.0 c.in_ok-outcome-in-Stopped.ensures.1
     (record { set = refl; form = refl; over = refl }) c.in_ok-push.ensures.countable))
 
 pub matcher_at-self-inside-requires : goal.matcher_at-self-inside-requires

@@ -5,7 +5,7 @@ use Rattle.ly_parse.specs.Feeding.{top_of}
 use Rattle.ly_parse.specs.Parse.{Comes}
 use Rattle.ly_parse.specs.Private.Answered.{with_note}
 use Rattle.ly_parse.specs.Private.Stack.{parse_from}
-use Rattle.ly_parse.specs.declared.answer.Answer.TheVariants as answers
+use Rattle.ly_parse.specs.declared.token_outcome.TokenOutcome.TheVariants as answers
 use Rattle.ly_parse.proofs.FeedingLemmas.{legal}
 use Rattle.ly_parse.proofs.TakeLemmas.{acceptance_ends, accepts_token, has_states, refuses_token, taken}
 use Rattle.ly_parse.proofs.running.Running.end.Goals as goal

@@ -1,6 +1,6 @@
 use Rattle.std.proofs.Common.{◌++◌, append_assoc, codes}
 use Rattle.ly_print.proofs.TextWriterLemmas.{appended_twice, failed_before, same_bytes}
-use Rattle.ly_extents.specs.Extents.{json_location}
+use Rattle.ly_spans.specs.Spans.{json_location}
 use Rattle.ly_places.proofs.part_notation.PartNotation.push_extent.Goals as goal
 
 pub returns-in_err-push_place-clause-text : goal.returns-in_err-push_place-clause-text

@@ -1,7 +1,7 @@
 use Rattle.std.proofs.Common.{◌∙◌, ◌++◌, Err, Ok, append_assoc, codes}
 use Rattle.ly_feed.specs.NameMembers.{vocabulary_in}
 use Rattle.ly_print.proofs.TextWriterLemmas.{appended_twice, failed_before, same_bytes}
-use Rattle.ly_extents.specs.Extents.{json_extent}
+use Rattle.ly_spans.specs.Spans.{json_span}
 use Rattle.ly_places.proofs.NotationLemmas.{node_opening}
 use Rattle.ly_places.proofs.part_notation.PartNotation.push_node.Goals as goal
 
@@ -9,14 +9,14 @@ pub returns-in_err-push_label-clause-text : goal.returns-in_err-push_label-claus
 returns-in_err-push_label-clause-text g c =
     let n = c.args.self.now in
     failed_before c.args.out.now c.push_label.new.self _ _ _ c.node.result.now
-    (json_extent n.lines c.args.extent ++ codes ",\"children\":[") _ _ c.in_err-push_label.field-0.0
+    (json_span n.lines c.args.extent ++ codes ",\"children\":[") _ _ c.in_err-push_label.field-0.0
     (node_opening (vocabulary_in n.names) n.lines c.args.rule c.args.extent c.node.result.now c.node.ensures)
     c.from_residual.ensures.1 c.in_err-push_label.ensures.text
 
 pub returns-in_err-push_extent-clause-text : goal.returns-in_err-push_extent-clause-text
 returns-in_err-push_extent-clause-text g c =
     let n = c.args.self.now in
-    let extent = json_extent n.lines c.args.extent in
+    let extent = json_span n.lines c.args.extent in
     let label = c.node.result.now in
     failed_before c.args.out.now c.push_extent.new.out _ _ _ (label ++ extent) (codes ",\"children\":[") _ _
     c.in_err-push_extent.field-0.0
@@ -29,7 +29,7 @@ returns-in_err-push_extent-clause-text g c =
 pub returns-clause-text : goal.returns-clause-text
 returns-clause-text g c =
     let n = c.args.self.now in
-    let extent = json_extent n.lines c.args.extent in
+    let extent = json_span n.lines c.args.extent in
     let label = c.node.result.now in
     let out = c.args.out.now in
     same_bytes out c.push_bytes.new.self _ _ _ _ c.push_bytes.result

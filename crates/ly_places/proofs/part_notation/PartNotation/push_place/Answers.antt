@@ -1,7 +1,7 @@
 use Rattle.std.proofs.Common.{ap₂, refl}
 use Rattle.ly_print.proofs.TextWriterLemmas.{appended_twice, failed_before, same_bytes}
 use Rattle.ly_print.specs.Json.{json_located}
-use Rattle.ly_extents.specs.Extents.{json_location}
+use Rattle.ly_spans.specs.Spans.{json_location}
 use Rattle.ly_places.proofs.part_notation.PartNotation.push_place.Goals as goal
 
 pub returns-in_err-push_bytes-clause-text : goal.returns-in_err-push_bytes-clause-text

@@ -3,7 +3,7 @@ use Rattle.std.proofs.Common.{sym, take, All}
 use Rattle.std.proofs.lemmas.List.{map-append}
 use Rattle.std.proofs.lemmas.List.Elements.{All-push}
 use Rattle.ly_lr0.specs.Automaton.{Lr0Automaton, prefix_of}
-use Rattle.ly_resolve.specs.Actions.{Verdict}
+use Rattle.ly_resolve.specs.Actions.{PrecedenceVerdict}
 use Rattle.ly_resolve.specs.Precedence.{judge_of}
 use Rattle.ly_resolve.specs.Private.Meetings.{told}
 use Rattle.ly_resolve.specs.declared.conflict.Conflict.{Conflict}
@@ -18,7 +18,7 @@ loop-rule-preserved c =
     let rs = m.reductions.now in
     let i = c.loop-rule.rule-index in
     let lt = c.loop-rule-test.true in
-    let v : ℕ → Verdict = λ p. judge_of m.spec.now p m.terminal.0 in
+    let v : ℕ → PrecedenceVerdict = λ p. judge_of m.spec.now p m.terminal.0 in
     let a = action_from c.args.choice in
     let k = kind_from c.args.kind in
     let g : Lr0Automaton → _ = λ M. prefix_of M c.args.state.0 in

@@ -2,7 +2,7 @@ use Rattle.std.proofs.Common.{Some, ◌+◌, ◌≡◌, ◌∙◌, ◌++◌, ◌
 use Rattle.std.specs.Prelude.{◌==◌, MatchOption, false, true}
 use Rattle.ly_scan.proofs.MatcherLemmas.{decided_at_once, decided_behind, goes_on_behind, goes_on_still, goes_on_whole}
 use Rattle.ly_scan.proofs.WalkLemmas.{some_or_none}
-use Rattle.ly_scan.specs.Matcher.{IsDecided, IsUnderway}
+use Rattle.ly_scan.specs.Matcher.{IsDecidedMatch, IsUnderway}
 use Rattle.ly_scan.specs.Walk.{Walk, better_of}
 use Rattle.ly_scan.proofs.matcher.Matcher.piece.Goals as goal
 use Rattle.ly_scan.proofs.matcher.Matcher.piece.Goals.{else-is_empty, then-is_empty}
@@ -15,7 +15,7 @@ returns-in_default g c condition line seen h =
     let cut = g.S.Steps.cut_of c.args.steps.now in
     let bytes = c.args.bytes.now in
     let still = IsUnderway walk ahead stands (seen ++ bytes) c.args.self.now in
-    let decided = IsDecided walk cut (seen ++ bytes) in
+    let decided = IsDecidedMatch walk cut (seen ++ bytes) in
     elim c.if-is_empty.branch [
       | then-is_empty w ↦ subst (λ o. MatchOption o still decided) (sym w.result-is)
           (goes_on_still walk ahead stands seen bytes c.args.self.now w.if-is_empty.ensures h)

@@ -8,12 +8,12 @@ use Rattle.ly_tree.specs.Costs.{budget}
 use Rattle.ly_tree.specs.Forest.{terms_of}
 use Rattle.ly_tree.specs.Private.Headed.{ref_at}
 use Rattle.ly_tree.specs.Term.{at_places}
-use Rattle.ly_tree.specs.declared.span.Span.{Span}
+use Rattle.ly_tree.specs.declared.node_span.NodeSpan.{NodeSpan}
 use Rattle.ly_tree.proofs.forest.Forest.long_node.Goals as goal
 
 pub invariant_of-self-2 : goal.invariant_of-self-2
 invariant_of-self-2 g c =
-    let span : Span
+    let span : NodeSpan
     = record { rule = c.args.rule; start = c.len-start.result; count = length c.args.places.now } in
     let picked = map (ref_at (map g.R.Refers.referred c.args.body.now)) c.args.places.now in
     long_node_known c.self.inside.texts c.self.inside.long_leaves c.self.inside.long_nodes.items
@@ -25,7 +25,7 @@ invariant_of-self-2 g c =
 
 pub returns-clause-stands : goal.returns-clause-stands
 returns-clause-stands g c =
-    let span : Span
+    let span : NodeSpan
     = record { rule = c.args.rule; start = c.len-start.result; count = length c.args.places.now } in
     let refs = map g.R.Refers.referred c.args.body.now in
     long_node_stands c.self.inside.texts c.self.inside.long_leaves c.self.inside.long_nodes.items
@@ -40,7 +40,7 @@ returns-clause-stands g c =
 
 pub returns-clause-keeps : goal.returns-clause-keeps
 returns-clause-keeps g c =
-    let span : Span
+    let span : NodeSpan
     = record { rule = c.args.rule; start = c.len-start.result; count = length c.args.places.now } in
     let picked = map (ref_at (map g.R.Refers.referred c.args.body.now)) c.args.places.now in
     long_node_keeps c.self.inside.texts c.self.inside.long_leaves c.self.inside.long_nodes.items
@@ -52,7 +52,7 @@ returns-clause-keeps g c =
 
 pub returns-clause-pays : goal.returns-clause-pays
 returns-clause-pays g c each byte =
-    let span : Span
+    let span : NodeSpan
     = record { rule = c.args.rule; start = c.len-start.result; count = length c.args.places.now } in
     let at = ref_at (map g.R.Refers.referred c.args.body.now) in
     let picked = map at c.args.places.now in

@@ -1,6 +1,0 @@
-use Rattle.ly_examples.specs.Private.Lists.{AreWaitingOf}
-use Rattle.ly_examples.proofs.ground.waiting_of.Given as goal
-
--- the items of the rules so far
-abbrev pub invariant-loop-rule : goal.invariant-loop-rule
-invariant-loop-rule l = AreWaitingOf l.lr0.grammar l.waiting l.rule

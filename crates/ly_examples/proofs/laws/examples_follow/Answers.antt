@@ -1,8 +1,0 @@
-use Rattle.ly_examples.proofs.ExampleLemmas.{conflicts_open, examples_follow}
-use Rattle.ly_examples.proofs.laws.examples_follow.Goals as goal
-
-pub returns-clause-follow : goal.returns-clause-follow
-returns-clause-follow c = examples_follow
-
-pub returns-clause-opens : goal.returns-clause-opens
-returns-clause-opens c = conflicts_open

@@ -1,5 +1,0 @@
-use Rattle.ly_examples.proofs.WinLemmas.{matched_win}
-use Rattle.ly_examples.proofs.laws.matched_rules_win.Goals as goal
-
-pub returns : goal.returns
-returns c = matched_win

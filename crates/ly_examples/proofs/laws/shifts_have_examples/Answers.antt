@@ -1,5 +1,0 @@
-use Rattle.ly_examples.proofs.ExampleLemmas.{shifts_have_examples}
-use Rattle.ly_examples.proofs.laws.shifts_have_examples.Goals as goal
-
-pub returns : goal.returns
-returns c = shifts_have_examples

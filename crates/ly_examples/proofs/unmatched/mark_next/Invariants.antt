@@ -1,7 +1,0 @@
-use Rattle.ly_examples.specs.Private.Marks.{AreAdded, ByStepBefore}
-use Rattle.ly_examples.specs.Private.Matched.{LeadsByClass}
-use Rattle.ly_examples.proofs.unmatched.mark_next.Given as goal
-
--- the rules to which the classes so far lead
-abbrev pub invariant-loop-class : goal.invariant-loop-class
-invariant-loop-class l = AreAdded (ByStepBefore (LeadsByClass l.dfa l.state) l.class) l.initial.matched l.matched

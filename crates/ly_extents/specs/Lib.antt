@@ -1,2 +1,0 @@
-pub mod Extents
-pub mod Private

@@ -1,8 +1,0 @@
-/// Whether to make the report of a specification.
-#[derive(Clone, Copy, Debug, PartialEq, Eq)]
-pub enum Report {
-    /// Make the report.
-    Wanted,
-    /// Make no report.
-    Unwanted,
-}

@@ -1,6 +1,0 @@
-use Rattle.ly_refused.specs.Lines.{ArePassed}
-use Rattle.ly_refused.proofs.lex_units.Units.behind_mark.Given as goal
-
--- these were passed
-abbrev pub invariant-loop : goal.invariant-loop
-invariant-loop l = ArePassed l.text l.units

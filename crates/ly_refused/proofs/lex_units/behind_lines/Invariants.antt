@@ -1,6 +1,0 @@
-use Rattle.ly_refused.specs.Lines.{LinesBefore}
-use Rattle.ly_refused.proofs.lex_units.behind_lines.Given as goal
-
--- so many lines were passed
-abbrev pub invariant-loop : goal.invariant-loop
-invariant-loop l = LinesBefore l.counter l.text l.rest

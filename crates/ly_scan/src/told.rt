@@ -1,8 +1,0 @@
-/// A lexeme, as far as the state where its walk ends determines it.
-#[derive(Clone, Copy, Debug, PartialEq, Eq)]
-pub struct Told {
-    /// The fact of its rule, a nonzero number.
-    pub fact: u32,
-    /// The number of bytes taken.
-    pub taken: usize,
-}

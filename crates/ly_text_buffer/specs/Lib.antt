@@ -1,0 +1,3 @@
+pub mod Json
+pub mod NamedFile
+pub mod TextBuffer

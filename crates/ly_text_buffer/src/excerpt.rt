@@ -1,0 +1,82 @@
+ghost use Rattle.ly_text_buffer.specs.TextBuffer.{SaysMore};
+
+use crate::buffer::TextBuffer;
+use crate::named_file::NamedFile;
+use ly_base::Location;
+
+/// Printed before each line of an excerpt and each indented line below a message.
+pub const MARGIN: &[u8] = b"    ";
+
+/// How many bytes of a line are printed at most.
+const WIDEST: usize = 160;
+
+impl TextBuffer {
+    /// Appends the line at a location of a file, and a caret under the location. Of a line of more than 160 bytes it
+    /// appends the part around the location. Appends nothing if the line is empty or doesn't exist.
+    pub fn push_excerpt(&mut self, file: NamedFile<'_>, at: Location)
+        ensures { SaysMore self.old self.new }
+    {
+        let mut lines = TextBuffer::new(self.allocator());
+        push_lines(&mut lines, file, at);
+        self.push_page(lines);
+    }
+}
+
+/// Appends the line at a location, or the part of it around the location if it is long, and a caret under the location.
+fn push_lines(buffer: &mut TextBuffer, file: NamedFile<'_>, at: Location) {
+    let Some(line) = file.line(at.line) else {
+        return;
+    };
+    let line = line.strip_suffix(b"\r").unwrap_or(line);
+    if line.is_empty() {
+        return;
+    }
+    let before = bytes_before(at);
+    let start = if line.len() > WIDEST {
+        before.saturating_sub(WIDEST / 2).min(line.len())
+    } else {
+        0
+    };
+    let (shown, cut) = shown_part(line, start);
+    buffer.push(MARGIN);
+    buffer.push(if start > 0 { b"..." } else { b"" });
+    for byte in shown {
+        buffer.push(&[if is_shown(*byte) { *byte } else { b'?' }]);
+    }
+    buffer.push(if cut { b"...\n" } else { b"\n" });
+    buffer.push(MARGIN);
+    buffer.push(if start > 0 { b"   " } else { b"" });
+    push_distance(buffer, shown, before.saturating_sub(start));
+    buffer.push(b"^\n");
+}
+
+/// How many bytes of its line precede a location.
+fn bytes_before(at: Location) -> usize {
+    usize::try_from(at.column.saturating_sub(1)).unwrap_or(usize::MAX)
+}
+
+/// The part of a line that is printed, and whether more of the line follows it.
+fn shown_part(line: &[u8], start: usize) -> (&[u8], bool) {
+    let behind = line.get(start..).unwrap_or(b"");
+    match behind.get(..WIDEST) {
+        Some(shown) => (shown, behind.len() > WIDEST),
+        None => (behind, false),
+    }
+}
+
+/// Whether a byte is printed as it is. Other bytes are printed as `?`.
+fn is_shown(byte: u8) -> bool {
+    byte == b'\t' || byte >= b' ' && byte != 127
+}
+
+/// Appends the blanks that are as wide as the first bytes of a line. Tabs stay tabs, and of the bytes of a UTF-8
+/// character only the first counts.
+fn push_distance(buffer: &mut TextBuffer, line: &[u8], bytes: usize) {
+    for byte in line.iter().take(bytes) {
+        match byte {
+            b'\t' => buffer.push(b"\t"),
+            0x80..=0xBF => {}
+            _ => buffer.push(b" "),
+        }
+    }
+}

@@ -1,6 +1,0 @@
-use Rattle.std.proofs.Common.{◌≡◌}
-use Rattle.ly_trials.proofs.parses.is_answered_so.Given as goal
-
--- a parser goes on with its tables
-abbrev pub invariant-loop-terminal : goal.invariant-loop-terminal
-invariant-loop-terminal g l = l.terminals ≡ l.parser.machine.terminals
