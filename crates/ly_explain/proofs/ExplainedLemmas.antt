@@ -6,9 +6,9 @@ use Rattle.ly_join.specs.Grammar.{Grammar}
 use Rattle.ly_join.specs.Joined.{Spec}
 use Rattle.ly_generate.specs.Accepted.{IsFit, Specifies}
 use Rattle.ly_report.specs.Counts.{AreCounts}
-use Rattle.ly_accepted.specs.Findings.{AreFoundIn}
-use Rattle.ly_accepted.specs.declared.surveying.Explanation.{Explanation}
-use Rattle.ly_accepted.specs.declared.surveying.Findings.{Findings}
+use Rattle.ly_explain.specs.Findings.{AreFoundIn}
+use Rattle.ly_explain.specs.declared.surveying.Explanation.{Explanation}
+use Rattle.ly_explain.specs.declared.surveying.Findings.{Findings}
 use Rattle.ly_explain.specs.Explained.{IsExplained, IsWellFormed}
 
 found_so : (limits : Sizes) (lex yacc : List ℕ) (s : Spec) → Specifies limits lex yacc s → (P : Type 0)

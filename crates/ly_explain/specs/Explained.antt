@@ -8,8 +8,8 @@ use Rattle.ly_generate.specs.declared.gen_fault.GenFault.{GenFault}
 use Rattle.ly_generate.specs.declared.gen_fault.GenFault.TheVariants.{OutOfMemory}
 use Rattle.ly_report.specs.Counts.{AreCounts}
 use Rattle.ly_report.specs.declared.counts.ConflictCounts.{ConflictCounts}
-use Rattle.ly_accepted.specs.Findings.{AreFoundIn}
-use Rattle.ly_accepted.specs.declared.surveying.Explanation.{Explanation}
+use Rattle.ly_explain.specs.Findings.{AreFoundIn}
+use Rattle.ly_explain.specs.declared.surveying.Explanation.{Explanation}
 
 -- The bytes of both files define a specification within the limits, whose tables can be made, with these numbers of
 -- conflicts.

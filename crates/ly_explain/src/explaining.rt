@@ -1,5 +1,5 @@
 ghost use Rattle.std.specs.Prelude.{◌≡◌, IfErr, IfOk};
-ghost use Rattle.ly_accepted.specs.Findings.{AreFoundIn, IsInForm};
+ghost use Rattle.ly_explain.specs.Findings.{AreFoundIn, IsInForm};
 ghost use Rattle.ly_base.specs.Limits.{least_of, sizes_in, Sizes};
 ghost use Rattle.ly_base.specs.declared.version.Version.TheVariants.{V2};
 ghost use Rattle.ly_emit.specs.Tables.{AreShapesWithin};
@@ -10,7 +10,10 @@ ghost use Rattle.ly_lr0.specs.Automaton as parser;
 ghost use Rattle.ly_subset.specs.Automaton.{IsBreadthFirst};
 ghost use Rattle.ly_explain.specs.Explained.{IsExplained, IsFitFor, no_rules};
 
-use ly_accepted::{Analysis, Explanation, Options, Tables, survey, text_in_form};
+use crate::form::text_in_form;
+use crate::states::Tables;
+use crate::surveying::{Explanation, survey};
+use ly_analysis::{Analysis, Options};
 use ly_base::{Limits, OutOfMemory, Version};
 use ly_diagnostics::{indented_lines, write_faults, write_json_faults};
 use ly_generate::{GenFault, Specification, parser_tables, read_specification};

@@ -9,7 +9,14 @@
 #![tactic(auto)]
 
 mod explaining;
+mod form;
+mod picture;
+mod rules;
+mod scanner;
+mod states;
+mod surveying;
 
 pub use explaining::{explain, explain_grammar};
-pub use ly_accepted::{Explanation, Findings, Options};
+pub use ly_analysis::Options;
 pub use ly_text_buffer::NamedFile;
+pub use surveying::{Explanation, Findings};

@@ -19,8 +19,8 @@ use Rattle.ly_print.specs.declared.answer_form.AnswerForm.TheVariants.{Json, Pla
 use Rattle.ly_report.specs.Counts.{AreCounts}
 use Rattle.ly_report.specs.Report.{counts_line}
 use Rattle.ly_report.specs.declared.counts.ConflictCounts.{ConflictCounts}
-use Rattle.ly_accepted.specs.Findings.{IsInForm}
-use Rattle.ly_accepted.specs.declared.surveying.Explanation.{Explanation}
+use Rattle.ly_explain.specs.Findings.{IsInForm}
+use Rattle.ly_explain.specs.declared.surveying.Explanation.{Explanation}
 use Rattle.ly_tables.specs.TableSet.{TableSet}
 use Rattle.ly_tables.specs.TableText.{TableText}
 use Rattle.ly_tables.specs.declared.set_counts.SetCounts.{SetCounts}

@@ -1,6 +1,6 @@
 -- The results of commands, and their exit statuses.
 use Rattle.std.specs.Prelude.{◌==◌, ◌&&◌, Bool, None, Option, Some, false, true, ℕ, if◌then◌else◌}
-use Rattle.ly_accepted.specs.declared.surveying.Findings.{Findings}
+use Rattle.ly_explain.specs.declared.surveying.Findings.{Findings}
 use Rattle.ly_drive.specs.declared.lines_outcome.LinesOutcome.{LinesOutcome}
 use Rattle.ly_drive.specs.declared.lines_outcome.LinesOutcome.TheVariants.{AllTrees, SomeRefused}
 use Rattle.ly_feed.specs.declared.outcome.Outcome.{Outcome}

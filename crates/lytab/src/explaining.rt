@@ -1,6 +1,6 @@
 //! The command `explain`.
 ghost use Rattle.std.specs.Prelude.{◌≡◌, IfErr, IfOk, OnOk};
-ghost use Rattle.ly_accepted.specs.Findings.{IsInForm};
+ghost use Rattle.ly_explain.specs.Findings.{IsInForm};
 ghost use Rattle.ly_base.specs.Limits.{version_2};
 ghost use Rattle.ly_explain.specs.Explained.{IsExplained};
 ghost use Rattle.lytab.specs.CarriedOut.{HasExplained, is_json, lex_text};

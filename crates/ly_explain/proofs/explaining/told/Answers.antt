@@ -1,6 +1,6 @@
 use Rattle.std.proofs.Common.{IfOk, subst}
 use Rattle.ly_join.specs.Joined.{Spec}
-use Rattle.ly_accepted.specs.Findings.{AreFoundIn}
+use Rattle.ly_explain.specs.Findings.{AreFoundIn}
 use Rattle.ly_explain.proofs.explaining.told.Goals as goal
 
 pub returns-clause-found : goal.returns-clause-found

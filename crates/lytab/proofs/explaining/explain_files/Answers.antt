@@ -1,5 +1,5 @@
 use Rattle.std.proofs.Common.{◌≡◌, ◌∙◌, rules, subst}
-use Rattle.ly_accepted.specs.Findings.{IsInForm}
+use Rattle.ly_explain.specs.Findings.{IsInForm}
 use Rattle.ly_generate.proofs.GenFaultLemmas.{ok_weaker}
 use Rattle.lytab.specs.Devices.{WroteAllOrPrefix}
 use Rattle.lytab.proofs.CarriedLemmas.{is_told}

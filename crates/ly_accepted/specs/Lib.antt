@@ -1,4 +1,0 @@
-pub mod Findings
-pub mod Groups
-pub mod Private
-pub mod GroupReport

@@ -1,0 +1,24 @@
+//! What is known of two files that are accepted: `Analysis`, with where each symbol and rule stands in them.
+//!
+//! `ly_conflicts`, `ly_lints` and `ly_explain` read it: the lines and columns of rules and symbols (`Places`, `RuleLines`),
+//! the items of the parser's states (`Cores`), which precedences decide something (`Decided`), and symbol strings that are
+//! too long to be printed whole.
+//!
+//! Left out: what is wrong with files that are rejected, which is in `ly_diagnostics`.
+#![tactic(auto)]
+
+mod analysis;
+mod bodies;
+mod cores;
+mod cut;
+mod decided;
+mod lines;
+mod places;
+
+pub use analysis::{Analysis, Options, first_of, write_numbered};
+pub use bodies::{behind_dot, body_of, rest_of};
+pub use cores::{Cores, END, Prefix, goto_of, symbol_to};
+pub use cut::{ends, write_large, write_left_out, write_prefix, write_symbols, write_terminals};
+pub use decided::{Decided, is_marked, last_terminal, place_of, precedence_of, rank_of};
+pub use lines::{Lines, RuleLines};
+pub use places::{DeclaredAgain, Places};

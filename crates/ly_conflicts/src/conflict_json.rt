@@ -1,0 +1,250 @@
+//! Groups of conflicts as JSON.
+use crate::ambiguity::Ambiguity;
+use crate::group_report::{GroupReport, Readings, Shown, Spot};
+use crate::headings::{has_reason, write_reason};
+use crate::trees::told_apart;
+use crate::ways::{Ways, drawn_ways};
+use ly_analysis::{Analysis, Places, ends};
+use ly_base::{OutOfMemory, RuleNo, Sym};
+use ly_join::{Spec, Symbol};
+use ly_resolve::{Action, ConflictKind};
+use ly_text_buffer::TextBuffer;
+use std::alloc::Global;
+
+/// Prints a group of conflicts as an object.
+pub(crate) fn write_conflict(
+    alloc: Global,
+    buffer: &mut TextBuffer,
+    files: &Analysis<'_>,
+    places: &Places,
+    told: &GroupReport<'_>,
+) -> Result<(), OutOfMemory> {
+    let (spec, conflict) = (files.spec, &told.conflict);
+    buffer.push(b"{\"state\":");
+    buffer.push_number(conflict.state.0 as u64);
+    buffer.push_json_key(b"after");
+    let prefix = &told.prefix;
+    write_row(buffer, spec, &prefix.front, prefix.left_out, &prefix.back);
+    buffer.push_json_key(b"before");
+    write_terminals(buffer, spec, &told.terminals);
+    buffer.push(match conflict.kind {
+        ConflictKind::ShiftReduce => b",\"kind\":\"shift/reduce\"".as_slice(),
+        ConflictKind::ReduceReduce => b",\"kind\":\"reduce/reduce\"",
+    });
+    buffer.push(match conflict.choice {
+        Action::Shift => b",\"taken\":\"shift\"".as_slice(),
+        Action::Reduce(_) => b",\"taken\":\"rule\"",
+        Action::Error => b",\"taken\":\"nothing\"",
+    });
+    write_rules(buffer, files, places, told);
+    buffer.push_json_key(b"reason");
+    if has_reason(conflict) {
+        let mut words = buffer.beside();
+        write_reason(&mut words, spec, conflict, told.terminals.len());
+        buffer.push_json_page(words);
+    } else {
+        buffer.push(b"null");
+    }
+    write_shown(alloc, buffer, spec, told)?;
+    buffer.push(b"}");
+    Ok(())
+}
+
+/// Prints the rules of a conflict: first the one that is chosen, or that is the alternative, if there is one.
+fn write_rules(
+    buffer: &mut TextBuffer,
+    files: &Analysis<'_>,
+    places: &Places,
+    told: &GroupReport<'_>,
+) {
+    buffer.push_json_key(b"rules");
+    buffer.push(b"[");
+    if let Action::Reduce(rule) = told.conflict.choice {
+        write_rule(buffer, files, places, rule);
+        buffer.push(b",");
+    }
+    write_rule(buffer, files, places, told.conflict.rule);
+    buffer.push(b"]");
+}
+
+/// Prints a rule with its number and location.
+fn write_rule(buffer: &mut TextBuffer, files: &Analysis<'_>, places: &Places, rule: RuleNo) {
+    let rule = rule.0 as usize;
+    let at = places.location_of_rule(rule);
+    buffer.push(b"{\"number\":");
+    buffer.push_number(rule as u64);
+    buffer.push_json_key(b"file");
+    buffer.push_json(files.yacc.name.as_bytes());
+    buffer.push_json_number(b"line", at.line);
+    buffer.push_json_number(b"column", at.column);
+    buffer.push_json_key(b"text");
+    let mut words = buffer.beside();
+    words.push_rule(files.spec, rule, None);
+    buffer.push_json_page(words);
+    buffer.push(b"}");
+}
+
+/// Prints how a conflict arises: the result of the search for a counterexample, the counterexample and its tokens,
+/// whether the parser gets there, both paths, an ambiguous sentence, and its trees.
+fn write_shown(
+    alloc: Global,
+    buffer: &mut TextBuffer,
+    spec: &Spec,
+    told: &GroupReport<'_>,
+) -> Result<(), OutOfMemory> {
+    buffer.push_json_key(b"search");
+    match &told.shown {
+        Shown::Unsought => {
+            buffer.push(b"\"unsought\"");
+            write_no_spot(buffer);
+            write_ways(alloc, buffer, spec, None)?;
+            write_sentence(alloc, buffer, spec, None)
+        }
+        Shown::At(spot) => {
+            buffer.push(b"\"found\"");
+            write_spot(buffer, spec, spot);
+            match &spot.readings {
+                Readings::Same => {
+                    write_ways(alloc, buffer, spec, None)?;
+                    write_sentence(alloc, buffer, spec, None)
+                }
+                Readings::Ways(ways, found) => {
+                    write_ways(alloc, buffer, spec, Some(ways))?;
+                    write_sentence(alloc, buffer, spec, found.as_ref())
+                }
+            }
+        }
+        Shown::Merged(ways) => {
+            buffer.push(b"\"merged\"");
+            write_no_spot(buffer);
+            write_ways(alloc, buffer, spec, ways.as_ref())?;
+            write_sentence(alloc, buffer, spec, None)
+        }
+        Shown::Unknown(found) => {
+            buffer.push(b"\"ended\"");
+            write_no_spot(buffer);
+            write_ways(alloc, buffer, spec, None)?;
+            write_sentence(alloc, buffer, spec, found.as_ref())
+        }
+    }
+}
+
+/// Prints that there is no counterexample.
+fn write_no_spot(buffer: &mut TextBuffer) {
+    buffer.push(b",\"example\":null,\"tokens\":null,\"met\":null");
+}
+
+/// Prints a counterexample, its tokens if they are known, and whether the parser gets there on them.
+fn write_spot(buffer: &mut TextBuffer, spec: &Spec, spot: &Spot<'_>) {
+    let (front, left_out, back) = ends(spot.string);
+    buffer.push_json_key(b"example");
+    write_row(buffer, spec, front, left_out, back);
+    buffer.push_json_key(b"tokens");
+    if spot.derived.whole {
+        write_terminals(buffer, spec, &spot.derived.tokens);
+        buffer.push(if spot.is_met {
+            b",\"met\":true".as_slice()
+        } else {
+            b",\"met\":false"
+        });
+    } else {
+        buffer.push(b"null,\"met\":null");
+    }
+}
+
+/// Prints both paths, if they are known.
+fn write_ways(
+    alloc: Global,
+    buffer: &mut TextBuffer,
+    spec: &Spec,
+    ways: Option<&Ways>,
+) -> Result<(), OutOfMemory> {
+    buffer.push_json_key(b"ways");
+    match ways {
+        Some(ways) => {
+            let (one, other) = drawn_ways(alloc, spec, ways)?;
+            write_both(buffer, &one, &other);
+        }
+        None => buffer.push(b"null"),
+    }
+    Ok(())
+}
+
+/// Prints a sentence with two trees, if one is known, and its trees.
+fn write_sentence(
+    alloc: Global,
+    buffer: &mut TextBuffer,
+    spec: &Spec,
+    found: Option<&Ambiguity>,
+) -> Result<(), OutOfMemory> {
+    buffer.push_json_key(b"sentence");
+    match found {
+        Some(ambiguity) => {
+            write_terminals(buffer, spec, &ambiguity.sentence);
+            let (one, other) = told_apart(alloc, spec, ambiguity)?;
+            buffer.push_json_key(b"trees");
+            write_both(buffer, &one, &other);
+        }
+        None => buffer.push(b"null,\"trees\":null"),
+    }
+    Ok(())
+}
+
+/// Prints two drawings as a list, each without its first space.
+fn write_both(buffer: &mut TextBuffer, one: &[u8], other: &[u8]) {
+    buffer.push(b"[");
+    buffer.push_json(one.strip_prefix(b" ").unwrap_or(one));
+    buffer.push(b",");
+    buffer.push_json(other.strip_prefix(b" ").unwrap_or(other));
+    buffer.push(b"]");
+}
+
+/// Prints the two ends of a row of symbols as a list. If symbols between them are left out, their number is an element.
+fn write_row(
+    buffer: &mut TextBuffer,
+    spec: &Spec,
+    front: &[Symbol],
+    left_out: usize,
+    back: &[Symbol],
+) {
+    buffer.push(b"[");
+    for (place, symbol) in front.iter().enumerate() {
+        buffer.push(if place > 0 { b"," } else { b"" });
+        write_symbol(buffer, spec, *symbol);
+    }
+    if left_out > 0 {
+        buffer.push(b",");
+        buffer.push_number(left_out as u64);
+    }
+    for symbol in back {
+        buffer.push(b",");
+        write_symbol(buffer, spec, *symbol);
+    }
+    buffer.push(b"]");
+}
+
+/// Prints terminals as a list. If symbols in the middle of a long one are left out, their number is an element.
+fn write_terminals(buffer: &mut TextBuffer, spec: &Spec, terminals: &[Sym]) {
+    let (front, left_out, back) = ends(terminals);
+    buffer.push(b"[");
+    for (place, terminal) in front.iter().enumerate() {
+        buffer.push(if place > 0 { b"," } else { b"" });
+        write_symbol(buffer, spec, Symbol::Terminal(*terminal));
+    }
+    if left_out > 0 {
+        buffer.push(b",");
+        buffer.push_number(left_out as u64);
+    }
+    for terminal in back {
+        buffer.push(b",");
+        write_symbol(buffer, spec, Symbol::Terminal(*terminal));
+    }
+    buffer.push(b"]");
+}
+
+/// Prints the name of a symbol as a string.
+fn write_symbol(buffer: &mut TextBuffer, spec: &Spec, symbol: Symbol) {
+    let mut name = buffer.beside();
+    name.push_symbol(spec, symbol);
+    buffer.push_json_page(name);
+}

@@ -1,0 +1,139 @@
+//! Groups of conflicts as text.
+use crate::ambiguity::Ambiguity;
+use crate::group_report::{GroupReport, Readings, Shown, Spot};
+use crate::headings::write_heading;
+use crate::trees::write_ambiguity;
+use crate::ways::{Ways, reduced_rival, write_ways};
+use ly_analysis::{Analysis, Places, write_large, write_numbered, write_symbols};
+use ly_base::OutOfMemory;
+use ly_join::{Spec, Symbol};
+use ly_resolve::Conflict;
+use ly_text_buffer::TextBuffer;
+use std::alloc::Global;
+
+/// Prints a group of conflicts.
+pub(crate) fn write_told(
+    alloc: Global,
+    buffer: &mut TextBuffer,
+    files: &Analysis<'_>,
+    places: &Places,
+    told: &GroupReport<'_>,
+) -> Result<(), OutOfMemory> {
+    write_heading(buffer, files, places, told);
+    let (spec, conflict) = (files.spec, &told.conflict);
+    match &told.shown {
+        Shown::Unsought => {}
+        Shown::At(spot) => {
+            write_spot(buffer, spec, conflict, spot);
+            match &spot.readings {
+                Readings::Same => write_same(buffer, conflict),
+                Readings::Ways(ways, found) => {
+                    write_ways(alloc, buffer, spec, conflict, ways)?;
+                    write_sentence(alloc, buffer, spec, found)?;
+                }
+            }
+        }
+        Shown::Merged(ways) => write_merged(alloc, buffer, spec, conflict, ways)?,
+        Shown::Unknown(found) => {
+            buffer.push(b"    No example was found within the bound of the search.\n");
+            write_sentence(alloc, buffer, spec, found)?;
+        }
+    }
+    Ok(())
+}
+
+/// Prints that only the merging of states makes a conflict, where each of its rules applies, and how to fix it.
+fn write_merged(
+    alloc: Global,
+    buffer: &mut TextBuffer,
+    spec: &Spec,
+    conflict: &Conflict,
+    ways: &Option<Ways>,
+) -> Result<(), OutOfMemory> {
+    buffer.push(
+        b"    No symbols lead to a place where both are possible: only merging the states of an LR(1)\n    \
+        parser makes this conflict.\n",
+    );
+    if let Some(ways) = ways {
+        write_ways(alloc, buffer, spec, conflict, ways)?;
+    }
+    buffer.push(
+        b"    No precedence settles it: for one of these places write a nonterminal of its own, with a copy\n    \
+        of the rule.\n",
+    );
+    Ok(())
+}
+
+/// Prints a string of symbols after which both actions are possible, and its shortest tokens.
+fn write_spot(buffer: &mut TextBuffer, spec: &Spec, conflict: &Conflict, spot: &Spot<'_>) {
+    buffer.push(b"    example:");
+    write_symbols(buffer, spec, spot.string);
+    write_ahead(buffer, spec, conflict);
+    if has_nonterminal(spot.string) {
+        buffer.push(b"    tokens: ");
+        spot.derived.write(buffer, spec);
+        write_ahead(buffer, spec, conflict);
+    }
+    if !spot.is_met {
+        buffer.push(
+            b"    The parser, as its other conflicts are settled, doesn't come there by these tokens.\n",
+        );
+    }
+}
+
+/// Prints the dot and the terminal after it.
+fn write_ahead(buffer: &mut TextBuffer, spec: &Spec, conflict: &Conflict) {
+    buffer.push(b" . ");
+    buffer.push_terminal(spec, conflict.terminal);
+    buffer.push(b"\n");
+}
+
+/// Prints that a conflict is between two equal rules.
+fn write_same(buffer: &mut TextBuffer, conflict: &Conflict) {
+    if let Some(rule) = reduced_rival(conflict) {
+        write_numbered(buffer, b"    Rule ", rule as u64, b" and rule ");
+        let behind = b" are the same: leave one of them out.\n";
+        write_numbered(buffer, b"", conflict.rule.0 as u64, behind);
+    }
+}
+
+/// Prints a sentence with two trees, or that none was found.
+fn write_sentence(
+    alloc: Global,
+    buffer: &mut TextBuffer,
+    spec: &Spec,
+    found: &Option<Ambiguity>,
+) -> Result<(), OutOfMemory> {
+    match found {
+        Some(ambiguity) => write_ambiguity(alloc, buffer, spec, ambiguity),
+        None => {
+            buffer.push(
+                b"    No sentence with two trees was found within the bound of the search.\n",
+            );
+            Ok(())
+        }
+    }
+}
+
+/// Prints the number of groups of conflicts that aren't printed, if there are any.
+pub(crate) fn write_untold(buffer: &mut TextBuffer, count: usize) {
+    if count > 0 {
+        buffer.push(b"\n");
+        write_large(buffer, count as u64);
+        buffer.push(if count == 1 {
+            b" more group of conflicts isn't told.\n".as_slice()
+        } else {
+            b" more groups of conflicts aren't told.\n"
+        });
+    }
+}
+
+/// Whether there is a nonterminal among symbols.
+fn has_nonterminal(symbols: &[Symbol]) -> bool {
+    for symbol in symbols {
+        if let Symbol::Nonterminal(_) = symbol {
+            return true;
+        }
+    }
+    false
+}

@@ -1,0 +1,333 @@
+//! The report of the conflicts: the resolution, why precedence doesn't settle it, and a counterexample where both
+//! actions are possible.
+ghost use Rattle.std.specs.Prelude.{◌≡◌, ◌<◌, ℕ, Contains, IfOk, length};
+ghost use Rattle.ly_resolve.specs.Conflicts as spec;
+ghost use Rattle.ly_resolve.specs.Values.{conflict_from, IsInside};
+ghost use Rattle.ly_conflicts.specs.Groups.{AreGroups, IsGroup};
+ghost use Rattle.ly_conflicts.specs.Private.Grouping.{IsAt, IsSought};
+ghost use Rattle.ly_conflicts.specs.GroupReport.{AreReadings, AreTerminalsOf, AreGroupReports, IsShown, IsGroupReport};
+
+use crate::ambiguity::Finder;
+use crate::conflict_json::write_conflict;
+use crate::conflict_messages::{write_told, write_untold};
+use crate::group_report::{GroupReport, Readings, Shown, Spot};
+use crate::groups::{BOUND, Group, TOLD, groups_of};
+use crate::meeting::is_met;
+use crate::suggestions::{Suggestion, best_suggestion, write_suggestion};
+use crate::ways::Drawn;
+use crate::yields::Yields;
+use ly_analysis::{Analysis, Cores, Options, Places, first_of, write_numbered};
+use ly_base::{OutOfMemory, Sym};
+use ly_counterexamples::{Budget, Example, Examples};
+use ly_join::{Grammar, Spec, Symbol};
+use ly_report::ConflictCounts;
+use ly_resolve::{Action, Conflict, ConflictKind};
+use ly_text_buffer::TextBuffer;
+use std::alloc::Global;
+
+/// The budget of all searches for counterexamples together, counted in demands and symbols after nonterminals that are
+/// visited.
+const LOOKS: usize = 1_000_000_000;
+
+/// The data for the report of conflicts.
+#[derive(Clone, Copy)]
+struct Teller<'a> {
+    /// The conflicts, and the search for their counterexamples.
+    examples: &'a Examples<'a>,
+    /// The items of the states.
+    cores: &'a Cores<'a>,
+    /// The shortest token strings of nonterminals.
+    yields: &'a Yields,
+    /// The specification.
+    spec: &'a Spec,
+}
+
+/// Prints the number of conflicts, and each conflict with a counterexample; or, for JSON, prints these as members of an
+/// object. Conflicts of one state that differ only in the terminal, and whose searches had the same result, form a
+/// group that is printed as one.
+pub fn write_conflicts(
+    alloc: Global,
+    buffer: &mut TextBuffer,
+    files: &Analysis<'_>,
+    places: &Places,
+    options: Options,
+) -> Result<(), OutOfMemory> {
+    let resolved = files.resolved;
+    if !options.json {
+        write_counts(buffer, ConflictCounts::of(resolved));
+        if resolved.conflicts().is_empty() {
+            return Ok(());
+        }
+    }
+    let yields = Yields::of(alloc, resolved.lr0().reduced())?;
+    let teller = Teller {
+        examples: &Examples::new(alloc, resolved)?,
+        cores: &Cores::of(alloc, resolved.lr0())?,
+        yields: &yields,
+        spec: files.spec,
+    };
+    let mut budget = Budget::new(LOOKS);
+    let groups = groups_of(alloc, teller.examples, &mut budget)?;
+    let suggestion = best_suggestion(alloc, files.spec, resolved.conflicts(), &groups)?;
+    let told = teller.all_told(alloc, &groups, budget)?;
+    let untold = groups.len().saturating_sub(TOLD);
+    if options.json {
+        write_json(alloc, buffer, files, places, &told)?;
+        write_rest(buffer, files.spec, suggestion, untold);
+    } else {
+        if let Some(suggestion) = suggestion {
+            write_suggestion(buffer, files.spec, suggestion, groups.len());
+        }
+        write_all(alloc, buffer, files, places, &told)?;
+        write_untold(buffer, untold);
+    }
+    Ok(())
+}
+
+/// Prints groups of conflicts.
+fn write_all(
+    alloc: Global,
+    buffer: &mut TextBuffer,
+    files: &Analysis<'_>,
+    places: &Places,
+    groups: &[GroupReport<'_>],
+) -> Result<(), OutOfMemory> {
+    for told in groups {
+        write_told(alloc, buffer, files, places, told)?;
+    }
+    Ok(())
+}
+
+/// Prints groups of conflicts as a member of a JSON object.
+fn write_json(
+    alloc: Global,
+    buffer: &mut TextBuffer,
+    files: &Analysis<'_>,
+    places: &Places,
+    groups: &[GroupReport<'_>],
+) -> Result<(), OutOfMemory> {
+    buffer.push_json_key(b"conflicts");
+    buffer.push(b"[");
+    for (place, told) in groups.iter().enumerate() {
+        buffer.push(if place > 0 { b"," } else { b"" });
+        write_conflict(alloc, buffer, files, places, told)?;
+    }
+    buffer.push(b"]");
+    Ok(())
+}
+
+/// Prints the number of conflicts of each kind.
+fn write_counts(buffer: &mut TextBuffer, counts: ConflictCounts) {
+    let before = b" shift/reduce, ";
+    write_numbered(buffer, b"\nConflicts: ", counts.shift_reduce as u64, before);
+    write_numbered(
+        buffer,
+        b"",
+        counts.reduce_reduce as u64,
+        b" reduce/reduce.\n",
+    );
+}
+
+/// Prints as JSON the token whose precedence settles the most groups, and the number of groups that aren't printed.
+fn write_rest(buffer: &mut TextBuffer, spec: &Spec, suggestion: Option<Suggestion>, untold: usize) {
+    buffer.push_json_key(b"cure");
+    match suggestion {
+        Some(suggestion) => {
+            buffer.push(b"{\"token\":");
+            let mut name = buffer.beside();
+            name.push_terminal(spec, suggestion.terminal);
+            buffer.push_json_page(name);
+            buffer.push_json_number(b"groups", suggestion.settled as u64);
+            buffer.push(b"}");
+        }
+        None => buffer.push(b"null"),
+    }
+    buffer.push_json_number(b"untold", untold as u64);
+}
+
+impl Teller<'_> {
+    /// Collects the data of the groups of conflicts, up to a number of groups.
+    fn all_told<'g>(
+        &self,
+        alloc: Global,
+        groups: &'g [Group],
+        budget: Budget,
+    ) -> Result<Vec<GroupReport<'g>>, OutOfMemory>
+        requires { AreGroups self.now.examples.now groups.now }
+        ensures { IfOk result (λ told. AreGroupReports self.now.examples.now groups.now told.items) }
+    {
+        let mut finder = Finder::new(self.examples, self.cores, self.yields, budget);
+        let mut all = Vec::new(alloc);
+        for group in first_of(groups, TOLD) {
+            all.push(self.told(alloc, group, &mut finder)?)?;
+        }
+        Ok(all)
+    }
+
+    /// Collects the data of a group of conflicts.
+    fn told<'g>(
+        &self,
+        alloc: Global,
+        group: &'g Group,
+        finder: &mut Finder<'_>,
+    ) -> Result<GroupReport<'g>, OutOfMemory>
+        requires group { IsGroup self.now.examples.now group.now }
+        requires same { finder.old.examples.now ≡ self.now.examples.now }
+        ensures told { IfOk result (IsGroupReport self.now.examples.now group.now.conflicts.items) }
+        ensures stays { finder.new.examples ≡ finder.old.examples }
+    {
+        let conflict = self.conflict(group.conflicts[0]);
+        Ok(GroupReport {
+            conflict,
+            terminals: self.terminals(alloc, &group.conflicts)?,
+            prefix: self.cores.prefix(alloc, conflict.state)?,
+            shown: self.shown(alloc, &conflict, group, finder)?,
+        })
+    }
+
+    /// The conflict with this index.
+    fn conflict(&self, index: usize) -> Conflict
+        requires { index < length self.now.examples.now.conflicts }
+        ensures { IsAt self.now.examples.now index result }
+    {
+        self.examples.resolved().conflicts().get(index).unwrap()
+    }
+
+    /// The terminals of the conflicts with these indices.
+    fn terminals(&self, alloc: Global, group: &[usize]) -> Result<Vec<Sym>, OutOfMemory>
+        requires { (i : ℕ) → Contains group.now i → i < length self.now.examples.now.conflicts }
+        ensures { IfOk result (λ terminals. AreTerminalsOf self.now.examples.now group.now terminals.items) }
+    {
+        let mut terminals = Vec::new(alloc);
+        for index in group {
+            terminals.push(self.conflict(*index).terminal)?;
+        }
+        Ok(terminals)
+    }
+
+    /// How the conflicts of a group arise, as far as it is known. `conflict` is the first of them.
+    fn shown<'g>(
+        &self,
+        alloc: Global,
+        conflict: &Conflict,
+        group: &'g Group,
+        finder: &mut Finder<'_>,
+    ) -> Result<Shown<'g>, OutOfMemory>
+        requires inside { IsInside self.now.examples.now.automaton conflict.now }
+        requires conflict { Contains self.now.examples.now.conflicts
+            (conflict_from self.now.examples.now.automaton conflict.now) }
+        requires example { IsSought self.now.examples.now conflict.now group.now.example }
+        requires same { finder.old.examples.now ≡ self.now.examples.now }
+        ensures shown { IfOk result (IsShown self.now.examples.now group.now.conflicts.items
+            (conflict_from self.now.examples.now.automaton conflict.now)) }
+        ensures stays { finder.new.examples ≡ finder.old.examples }
+    {
+        match &group.example {
+            Some(Example::At(string)) => Ok(Shown::At(self.spot(alloc, conflict, string, finder)?)),
+            Some(Example::Merged) => { self.merged(alloc, conflict, &group.conflicts, finder) }
+            Some(Example::Unknown) => Ok(Shown::Unknown(finder.find(alloc, conflict, None)?)),
+            None => Ok(Shown::Unsought),
+        }
+    }
+
+    /// A string after which both actions of a conflict are possible, with what is known of it.
+    fn spot<'g>(
+        &self,
+        alloc: Global,
+        conflict: &Conflict,
+        string: &'g [Symbol],
+        finder: &mut Finder<'_>,
+    ) -> Result<Spot<'g>, OutOfMemory>
+        requires { IsInside finder.old.examples.now.automaton conflict.now }
+        ensures string { IfOk result (λ spot. spot.string.now ≡ string.now) }
+        ensures readings { IfOk result (λ spot. AreReadings finder.old.examples.now
+            (conflict_from finder.old.examples.now.automaton conflict.now) spot.readings) }
+        ensures stays { finder.new.examples ≡ finder.old.examples }
+    {
+        let derived = self.yields.derive(alloc, self.spec.grammar(), string)?;
+        let is_met = !derived.whole
+            || is_met(alloc, self.examples.resolved(), conflict, &derived.tokens)?;
+        let readings = self.readings(alloc, conflict, string, finder)?;
+        Ok(Spot {
+            string,
+            derived,
+            is_met,
+            readings,
+        })
+    }
+
+    /// How both actions of a conflict arise after a string.
+    fn readings(
+        &self,
+        alloc: Global,
+        conflict: &Conflict,
+        string: &[Symbol],
+        finder: &mut Finder<'_>,
+    ) -> Result<Readings, OutOfMemory>
+        requires { IsInside finder.old.examples.now.automaton conflict.now }
+        ensures readings { IfOk result (AreReadings finder.old.examples.now
+            (conflict_from finder.old.examples.now.automaton conflict.now)) }
+        ensures stays { finder.new.examples ≡ finder.old.examples }
+    {
+        if is_between_same(self.spec.grammar(), conflict) {
+            return Ok(Readings::Same);
+        }
+        let ways = self.drawn(conflict).ways(alloc, string, string)?;
+        let found = finder.find(alloc, conflict, Some((string, &ways)))?;
+        Ok(Readings::Ways(ways, found))
+    }
+
+    /// Where each rule of a conflict applies, if the conflicts with these indices come only from the merging of states.
+    fn merged<'g>(
+        &self,
+        alloc: Global,
+        conflict: &Conflict,
+        group: &[usize],
+        finder: &mut Finder<'_>,
+    ) -> Result<Shown<'g>, OutOfMemory>
+        requires inside { IsInside self.now.examples.now.automaton conflict.now }
+        requires conflict { Contains self.now.examples.now.conflicts
+            (conflict_from self.now.examples.now.automaton conflict.now) }
+        ensures shown { (c : spec.Conflict) → IfOk result (IsShown self.now.examples.now group.now c) }
+        ensures stays { finder.new.examples ≡ finder.old.examples }
+    {
+        let budget = &mut finder.budget;
+        if !self.examples.none_has_one(alloc, group, BOUND, budget)? {
+            return Ok(Shown::Unsought);
+        }
+        let one = self.examples.of_choice(alloc, conflict, BOUND, budget)?;
+        let other = self.examples.of_rule(alloc, conflict, BOUND, budget)?;
+        if let (Some(one), Some(other)) = (one, other) {
+            let ways = self.drawn(conflict).ways(alloc, &one, &other)?;
+            return Ok(Shown::Merged(Some(ways)));
+        }
+        Ok(Shown::Merged(None))
+    }
+
+    /// The data for drawing the paths to the actions of a conflict.
+    fn drawn<'c>(&'c self, conflict: &'c Conflict) -> Drawn<'c> {
+        Drawn {
+            cores: self.cores,
+            spec: self.spec,
+            conflict,
+        }
+    }
+}
+
+/// Whether a conflict is between two equal rules.
+fn is_between_same(grammar: &Grammar, conflict: &Conflict) -> bool {
+    match (conflict.kind, conflict.choice) {
+        (ConflictKind::ReduceReduce, Action::Reduce(rule)) => {
+            are_same(grammar, rule.0 as usize, conflict.rule.0 as usize)
+        }
+        _ => false,
+    }
+}
+
+/// Whether two rules have the same left side and the same body.
+pub(crate) fn are_same(grammar: &Grammar, one: usize, other: usize) -> bool {
+    match (grammar.rules().get(one), grammar.rules().get(other)) {
+        (Some(one), Some(other)) => one.left() == other.left() && one.body() == other.body(),
+        _ => false,
+    }
+}

@@ -1,0 +1,35 @@
+//! Groups the conflicts of an accepted grammar, and prints each group with its counterexample, its derivations and a
+//! suggestion: `write_conflicts`.
+//!
+//! Conflicts of one state that differ in the terminal alone, and have counterexamples alike, are a group (`AreGroups`). What
+//! is printed of the first 100 groups is proved before it is put into words: its conflict, all its terminals, and a
+//! counterexample, or that there is none, or that the search was given up; and an ambiguous sentence with two trees of the
+//! specification's grammar (`AreGroupReports`). The counterexamples are those of `ly_counterexamples`.
+//!
+//! Tested alone: the wording, and which of several sentences and derivations is printed.
+#![tactic(auto)]
+
+mod ambiguity;
+mod brackets;
+mod claims;
+mod common;
+mod conflict_json;
+mod conflict_messages;
+mod conflicts;
+mod drawing;
+mod group_report;
+mod groups;
+mod growing;
+mod headings;
+mod joining;
+mod meeting;
+mod pair;
+mod queue;
+mod reading;
+mod suggestions;
+mod trees;
+mod waiting;
+mod ways;
+mod yields;
+
+pub use conflicts::write_conflicts;

@@ -1,0 +1,85 @@
+ghost use Rattle.std.specs.Prelude.{IfOk};
+ghost use Rattle.ly_explain.specs.Findings.{IsInForm};
+
+use crate::surveying::Findings;
+use ly_analysis::{Analysis, Options, Places};
+use ly_base::OutOfMemory;
+use ly_conflicts::write_conflicts;
+use ly_lints::{Lint, file_of, name_of, write_kind};
+use ly_text_buffer::TextBuffer;
+use std::alloc::Global;
+
+/// The report on two files in text form or as JSON. As JSON it begins with whether the files are accepted and with the
+/// numbers of conflicts, from `findings`.
+pub(crate) fn text_in_form(
+    alloc: Global,
+    json: bool,
+    findings: &Option<Findings>,
+    said: Vec<u8>,
+) -> Result<Vec<u8>, OutOfMemory>
+    ensures { IfOk result (λ text. IsInForm json findings.now text.items) }
+{
+    if !json {
+        return Ok(said);
+    }
+    let mut buffer = TextBuffer::new(alloc);
+    match findings {
+        Some(found) => {
+            buffer.push(b"{\"accepted\":true,\"counts\":{\"shift_reduce\":");
+            buffer.push_number(found.conflicts.shift_reduce as u64);
+            buffer.push(b",\"reduce_reduce\":");
+            buffer.push_number(found.conflicts.reduce_reduce as u64);
+        }
+        None => buffer.push(b"{\"accepted\":false,\"counts\":null"),
+    }
+    buffer.push(&said);
+    buffer.finish()
+}
+
+/// Prints the rest of the object: the sizes of the grammar and its parser, the warnings and the conflicts.
+pub(crate) fn write_json(
+    alloc: Global,
+    buffer: &mut TextBuffer,
+    files: &Analysis<'_>,
+    places: &Places,
+    lints: &[Lint<'_>],
+    options: Options,
+) -> Result<(), OutOfMemory> {
+    let grammar = files.spec.grammar();
+    let rules = grammar.rules().len().saturating_sub(1);
+    buffer.push_json_number(b"rules", rules as u64);
+    buffer.push_json_number(b"terminals", grammar.terminals() as u64);
+    buffer.push_json_number(b"nonterminals", grammar.accept().0 as u64);
+    buffer.push_json_number(b"states", files.resolved.lr0().states() as u64);
+    buffer.push(b"},\"faults\":[],\"more\":false");
+    buffer.push_json_key(b"doubts");
+    buffer.push(b"[");
+    for (place, lint) in lints.iter().enumerate() {
+        buffer.push(if place > 0 { b"," } else { b"" });
+        write_lint(buffer, files, lint);
+    }
+    buffer.push(b"]");
+    write_conflicts(alloc, buffer, files, places, options)?;
+    buffer.push(b"}\n");
+    Ok(())
+}
+
+/// Prints a warning as an object.
+fn write_lint(buffer: &mut TextBuffer, files: &Analysis<'_>, lint: &Lint<'_>) {
+    buffer.push(b"{\"file\":");
+    buffer.push_json(file_of(files, lint.side).name.as_bytes());
+    match lint.at {
+        Some(at) => {
+            buffer.push_json_number(b"line", at.line);
+            buffer.push_json_number(b"column", at.column);
+        }
+        None => buffer.push(b",\"line\":null,\"column\":null"),
+    }
+    buffer.push_json_key(b"name");
+    buffer.push_json(name_of(&lint.kind));
+    buffer.push_json_key(b"text");
+    let mut words = buffer.beside();
+    write_kind(&mut words, files, &lint.kind);
+    buffer.push_json_page(words);
+    buffer.push(b"}");
+}

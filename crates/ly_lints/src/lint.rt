@@ -1,0 +1,84 @@
+//! Warnings as values: what may be a mistake, and where.
+use crate::patterns::PatternLint;
+use ly_base::{Location, Sym};
+use ly_yaccread::SymbolName;
+
+/// One of the two files.
+#[derive(Clone, Copy, Debug, PartialEq, Eq)]
+pub enum Side {
+    /// The lex file.
+    Lex,
+    /// The yacc file.
+    Yacc,
+}
+
+/// A warning: something that may be a mistake.
+#[derive(Drop)]
+pub struct Lint<'a> {
+    /// The file that it is in.
+    pub side: Side,
+    /// Its location. `None` for a warning that only counts others.
+    pub at: Option<Location>,
+    /// The kind of warning.
+    pub kind: LintKind<'a>,
+}
+
+/// The kinds of warnings.
+#[derive(Drop)]
+pub enum LintKind<'a> {
+    /// No action sets this condition.
+    UnsetCondition(&'a [u8]),
+    /// No rule is active in this condition.
+    IdleCondition(&'a [u8]),
+    /// A pattern has another meaning than it may seem to have.
+    PatternLint {
+        /// The construct with that meaning.
+        pattern_lint: PatternLint,
+        /// The line of the pattern.
+        line: &'a [u8],
+        /// The offset of the construct in the line.
+        offset: usize,
+    },
+    /// A line among the rules begins with a blank.
+    IndentedLine,
+    /// A rule of the lex file never matches.
+    UnmatchedRule(Hiding),
+    /// This literal is returned, but the yacc file doesn't name it.
+    UnnamedLiteral(u8),
+    /// This rule occurs in no tree of the start symbol.
+    UselessRule(usize),
+    /// This rule is never reduced.
+    UnreducedRule(usize),
+    /// This rule has no action, so the trees of its other symbols are lost.
+    LosingRule(usize),
+    /// This terminal occurs in no rule.
+    UnusedTerminal(Sym),
+    /// So many more terminals occur in no rule.
+    MoreUnused(usize),
+    /// No rule of the lex file returns this terminal.
+    UnreturnedTerminal(Sym),
+    /// So many more terminals are returned by no rule.
+    MoreUnreturned(usize),
+    /// This token was declared before.
+    DeclaredAgain {
+        /// The token.
+        symbol: &'a SymbolName,
+        /// The line of its first declaration.
+        first: u64,
+    },
+    /// The precedence of this terminal has no effect.
+    IdlePrecedence(Sym),
+    /// The `%prec` of this rule has no effect.
+    IdlePrec(usize),
+}
+
+/// Why a rule of the lex file never matches.
+#[derive(Drop)]
+pub enum Hiding {
+    /// Earlier rules match its strings. Finding out which took too many steps.
+    Earlier,
+    /// The rule matches only the empty string.
+    EmptyAlone,
+    /// The rules on these lines match its strings. The lines ascend.
+    Lines(Vec<u64>),
+}
