@@ -1,10 +1,10 @@
-//! What is known of two files that are accepted: `Analysis`, with where each symbol and rule stands in them.
+//! What is known of two accepted files (`Analysis`), with the locations of their symbols and rules.
 //!
-//! `ly_conflicts`, `ly_lints` and `ly_explain` read it: the lines and columns of rules and symbols (`Places`, `RuleLines`),
-//! the items of the parser's states (`Cores`), which precedences decide something (`Decided`), and symbol strings that are
-//! too long to be printed whole.
+//! `ly_conflicts`, `ly_lints` and `ly_explain` read it: the lines and columns of rules and symbols (`Places`,
+//! `RuleLines`), the items of the parser's states (`Cores`), which precedences decide something (`Decided`), and how
+//! long symbol strings are shortened.
 //!
-//! Left out: what is wrong with files that are rejected, which is in `ly_diagnostics`.
+//! Left out: errors of rejected files, which are in `ly_diagnostics`.
 #![tactic(auto)]
 
 mod analysis;

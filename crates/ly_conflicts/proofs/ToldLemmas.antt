@@ -87,7 +87,8 @@ module _ (r : Resolved) (groups items : List Group) (same : items ≡ take most_
       → IsGroupReport r g.conflicts.items t → new ≡ old ++ t ∷ [] → length old ≡ n
       → ((p : ℕ) (h : Group) (u : GroupReport) → slice_get items p ≡ Some h → slice_get old p ≡ Some u
       → IsGroupReport r h.conflicts.items u)
-      → (length new ≡ n + 1) × ((p : ℕ) (h : Group) (u : GroupReport) → slice_get items p ≡ Some h → slice_get new p ≡ Some u
+      → (length new ≡ n + 1)
+      × ((p : ℕ) (h : Group) (u : GroupReport) → slice_get items p ≡ Some h → slice_get new p ≡ Some u
       → IsGroupReport r h.conflicts.items u)
   told_more n old new g t here is pushed count before = (
     ap length pushed ∙ length-append old (t ∷ []) ∙ ap (λ m. m + 1) count,

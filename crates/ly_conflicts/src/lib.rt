@@ -1,12 +1,12 @@
-//! Groups the conflicts of an accepted grammar, and prints each group with its counterexample, its derivations and a
+//! Groups the conflicts of an accepted grammar, and prints each group with its counterexample, derivations and a
 //! suggestion: `write_conflicts`.
 //!
-//! Conflicts of one state that differ in the terminal alone, and have counterexamples alike, are a group (`AreGroups`). What
-//! is printed of the first 100 groups is proved before it is put into words: its conflict, all its terminals, and a
-//! counterexample, or that there is none, or that the search was given up; and an ambiguous sentence with two trees of the
-//! specification's grammar (`AreGroupReports`). The counterexamples are those of `ly_counterexamples`.
+//! Conflicts of one state that differ only in the terminal, and have similar counterexamples, are a group (`AreGroups`).
+//! The content of the first 100 groups is proved before it is put into words (`AreGroupReports`): the conflict, all its
+//! terminals, and a counterexample, or that there is none, or that the search was given up; and an ambiguous sentence
+//! with its two trees. The counterexamples are those of `ly_counterexamples`.
 //!
-//! Tested alone: the wording, and which of several sentences and derivations is printed.
+//! Only tested: the wording, and which of several sentences and derivations is printed.
 #![tactic(auto)]
 
 mod ambiguity;

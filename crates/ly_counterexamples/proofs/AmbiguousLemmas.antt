@@ -4,7 +4,8 @@ use Rattle.std.proofs.lemmas.List.{append_cancel_left, map-append}
 use Rattle.ly_join.specs.Grammar.{Grammar}
 use Rattle.ly_resolve.specs.Conflicts.{Conflict}
 use Rattle.ly_resolve.specs.Resolved.{Resolved}
-use Rattle.ly_counterexamples.specs.Moves.{HaveNoneAt, IsAmbiguousAt, Move, moves_of, parse_of, reduces, shifted, shifts}
+use Rattle.ly_counterexamples.specs.Moves.{HaveNoneAt, IsAmbiguousAt, Move, moves_of, parse_of, reduces, shifted}
+use Rattle.ly_counterexamples.specs.Moves.{shifts}
 use Rattle.ly_counterexamples.specs.Moves.{TakeBoth}
 use Rattle.ly_counterexamples.specs.Sentences.{IsSentenceBy}
 use Rattle.ly_counterexamples.specs.declared.moves.Move as made

@@ -15,7 +15,8 @@ use Rattle.ly_counterexamples.specs.Moves.{Lead, Move, move_before, reduces, shi
 use Rattle.ly_counterexamples.specs.declared.moves.Move as made
 use Rattle.ly_counterexamples.specs.Private.Leftmost.{move_from, moves_from}
 use Rattle.ly_counterexamples.specs.Private.Parses.{ReachesNone}
-use Rattle.ly_counterexamples.proofs.ParseLemmas.{get_behind, lead_reduced, move_one, parted_at, same_below, shifted_append}
+use Rattle.ly_counterexamples.proofs.ParseLemmas.{get_behind, lead_reduced, move_one, parted_at, same_below}
+use Rattle.ly_counterexamples.proofs.ParseLemmas.{shifted_append}
 use Rattle.ly_counterexamples.proofs.ParseLemmas.{split_at}
 
 -- moves lead to one string

@@ -25,7 +25,8 @@ use Rattle.ly_counterexamples.specs.declared.claim.Claim.TheVariants.{InCore, Se
 use Rattle.ly_counterexamples.specs.declared.claim.Demand.{Demand}
 use Rattle.ly_counterexamples.specs.Private.Grounds.{AreWaiting}
 use Rattle.ly_counterexamples.specs.Private.Met.{item_at}
-use Rattle.ly_counterexamples.specs.Private.Steps.{ArePopped, IsClaimOn, IsClimbOfFirst, IsRelated, IsWithFirst, IsWithSecond}
+use Rattle.ly_counterexamples.specs.Private.Steps.{ArePopped, IsClaimOn, IsClimbOfFirst, IsRelated, IsWithFirst}
+use Rattle.ly_counterexamples.specs.Private.Steps.{IsWithSecond}
 use Rattle.ly_counterexamples.proofs.BackLemmas.{at_ahead, pushed_one}
 use Rattle.ly_counterexamples.proofs.RestLemmas.{trees_from}
 

@@ -21,7 +21,8 @@ use Rattle.ly_relate.proofs.GotoLemmas.{has_target}
 use Rattle.ly_resolve.proofs.MeetingLemmas.{filter_in, in_filter}
 use Rattle.ly_lr0.specs.declared.item.Item.{Item}
 use Rattle.ly_counterexamples.specs.Private.Grounds.{ArePredecessors, AreWaiting}
-use Rattle.ly_counterexamples.specs.Private.Lists.{ArePredecessorsAdded, ArePredecessorsOf, AreWaitingAdded, AreWaitingOf}
+use Rattle.ly_counterexamples.specs.Private.Lists.{ArePredecessorsAdded, ArePredecessorsOf, AreWaitingAdded}
+use Rattle.ly_counterexamples.specs.Private.Lists.{AreWaitingOf}
 use Rattle.ly_counterexamples.specs.Private.Lists.{IsPredecessorBy}
 use Rattle.ly_counterexamples.specs.Private.Met.{item_at}
 use Rattle.ly_counterexamples.specs.Private.Steps.{IsRelated}

@@ -19,7 +19,8 @@ use Rattle.ly_subset.specs.Automaton.{Automaton, IsAutomaton}
 use Rattle.ly_counterexamples.specs.Doubts.{Emits, IsMatched, IsNamed, IsTokenOrLiteral, IsUsed, Returns}
 use Rattle.ly_counterexamples.specs.Private.FirstBytes.{StandsFirst}
 use Rattle.ly_counterexamples.specs.Private.Marks.{AreAdded, AreMarked, ByStepBefore, IsMarked}
-use Rattle.ly_counterexamples.specs.Private.Unmarked.{IsLiteralAt, IsLiteralOf, IsUnmarked, ReturnsItself, StandsAt, StandsIn}
+use Rattle.ly_counterexamples.specs.Private.Unmarked.{IsLiteralAt, IsLiteralOf, IsUnmarked, ReturnsItself, StandsAt}
+use Rattle.ly_counterexamples.specs.Private.Unmarked.{StandsIn}
 use Rattle.ly_counterexamples.proofs.FirstByteLemmas.{stands_below}
 use Rattle.ly_counterexamples.proofs.MarkLemmas.{added_as, all_added, marked_as}
 

@@ -1,7 +1,8 @@
 //! Finds the first bytes of the matches of rules that return their first byte.
 ghost use Rattle.std.specs.Prelude.{◌≡◌, ◌<◌, ◌↔◌, length, option_map, IfOk, IsTrue, OnOk};
 ghost use Rattle.ly_subset.specs.Automaton.{IsAutomaton};
-ghost use Rattle.ly_counterexamples.specs.Private.FirstBytes.{AreEdgesAdded, AreFirstBefore, AreMoves, BeginsMarked, HasFirst};
+ghost use Rattle.ly_counterexamples.specs.Private.FirstBytes.{AreEdgesAdded, AreFirstBefore, AreMoves, BeginsMarked};
+ghost use Rattle.ly_counterexamples.specs.Private.FirstBytes.{HasFirst};
 ghost use Rattle.ly_counterexamples.specs.Private.FirstBytes.{HasZero, LeadsToFirst, Moves, StandsFirst};
 ghost use Rattle.ly_counterexamples.specs.Private.Marks.{AreAdded, AreMarked};
 

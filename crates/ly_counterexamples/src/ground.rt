@@ -5,7 +5,8 @@ ghost use Rattle.ly_grammar.specs.Private.Search.{HasNumberBelow};
 ghost use Rattle.ly_lr0.specs.Automaton.{IsLr0Automaton};
 ghost use Rattle.ly_lr0.specs.declared.transition.Transition as code;
 ghost use Rattle.ly_counterexamples.specs.Private.Grounds.{ArePredecessors, AreWaiting};
-ghost use Rattle.ly_counterexamples.specs.Private.Lists.{ArePredecessorsAdded, ArePredecessorsOf, AreWaitingAdded, IsGround};
+ghost use Rattle.ly_counterexamples.specs.Private.Lists.{ArePredecessorsAdded, ArePredecessorsOf, AreWaitingAdded};
+ghost use Rattle.ly_counterexamples.specs.Private.Lists.{IsGround};
 
 use crate::claim::{Claim, Demand};
 use crate::lists::Lists;

@@ -6,7 +6,8 @@ ghost use Rattle.ly_counterexamples.specs.Demands.{IsStep};
 ghost use Rattle.ly_counterexamples.specs.Private.Kept.{IsKeptDemand};
 ghost use Rattle.ly_counterexamples.specs.Private.Lists.{IsGround};
 ghost use Rattle.ly_counterexamples.specs.Private.Met.{IsMet, IsProper};
-ghost use Rattle.ly_counterexamples.specs.Private.Searches.{automaton_of, measure_of, GoesOn, HasMore, HasMoreThanAllowed};
+ghost use Rattle.ly_counterexamples.specs.Private.Searches.{automaton_of, measure_of, GoesOn, HasMore};
+ghost use Rattle.ly_counterexamples.specs.Private.Searches.{HasMoreThanAllowed};
 ghost use Rattle.ly_counterexamples.specs.Private.Searches.{IsClimbed, IsFoundBy, IsPopped, IsSearch, IsUnderway};
 ghost use Rattle.ly_counterexamples.specs.declared.claim.Demand as demands;
 

@@ -2,7 +2,8 @@
 ghost use Rattle.std.specs.Prelude.{◌≡◌, ◌↔◌, IfOk, IsTrue, MatchOption, Some, option_map};
 ghost use Rattle.ly_resolve.specs.Values.{action_from, conflict_from, IsInside, kind_from};
 ghost use Rattle.ly_counterexamples.specs.Examples.{rival as rival_of};
-ghost use Rattle.ly_counterexamples.specs.Moves.{HaveNoneAt, IsAmbiguousAt, move_before, reduces, shifted as shifted_by};
+ghost use Rattle.ly_counterexamples.specs.Moves.{HaveNoneAt, IsAmbiguousAt, move_before, reduces};
+ghost use Rattle.ly_counterexamples.specs.Moves.{shifted as shifted_by};
 ghost use Rattle.ly_counterexamples.specs.Moves.{TakeBoth};
 ghost use Rattle.ly_counterexamples.specs.Sentences.{numbers_of};
 ghost use Rattle.ly_counterexamples.specs.Private.Leftmost.{move_from, moves_from};

@@ -8,7 +8,8 @@ use Rattle.ly_drive.specs.Private.Lines.{IsLineAnswered, IsLineStopped}
 use Rattle.ly_drive.specs.Private.Reading.{IsReadSoFar}
 use Rattle.ly_feed.specs.Held.{Held, IsAnswerOf, IsOnward, IsRestOf, IsSettledBy, nothing_read}
 use Rattle.ly_feed.specs.TableAnswer.{IsVerdict, TableAnswer}
-use Rattle.ly_feed.specs.TextFault.{WroteNothing, IsOfEnding}
+use Rattle.ly_print.specs.Device.{WroteNothing}
+use Rattle.ly_feed.specs.TextFault.{IsOfEnding, failed_write}
 use Rattle.ly_feed.specs.Verdict.{faulty}
 use Rattle.ly_feed.specs.declared.outcome.Outcome.{Outcome}
 use Rattle.ly_feed.specs.declared.text_fault.TextFault.{TextFault}
@@ -52,7 +53,7 @@ module _ (form : AnswerForm) (s : TableSet) (line : List ℕ) where
     pub stopped_whole : {W : Type 0} (contents : W → Option (List ℕ)) (old new : W) (r : Result Outcome TextFault)
         → ((written : ℕ) → r ≡ Err (Write written) → (answer : List ℕ) × (o : Outcome) × IsAnswerOf f o answer
         × IsCutShort (contents old) (contents new) written answer) → (r ≡ Err FaultyTables → IsRestOf f [] faulty)
-        → IfErr r IsOfEnding → IfErr r (λ e. WroteNothing e → new ≡ old)
+        → IfErr r IsOfEnding → IfErr r (λ e. WroteNothing (failed_write e) → new ≡ old)
         → IfErr r (IsLineStopped form s line (contents old) (contents new))
     stopped_whole contents old new (Ok o) begun fault ending kept = tt
     stopped_whole contents old new (Err FaultyTables) begun fault ending kept =

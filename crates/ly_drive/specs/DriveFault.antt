@@ -1,6 +1,6 @@
 -- The errors of driving: their numbers and names, their relation to the errors of the parts, and their meaning for the
 -- devices.
-use Rattle.std.specs.Prelude.{ℕ, List, Option}
+use Rattle.std.specs.Prelude.{ℕ, List, None, Option}
 use Rattle.ly_drive.specs.declared.fault.DriveFault.{DriveFault}
 use Rattle.ly_drive.specs.declared.fault.DriveFault.TheVariants.{Tables, Text}
 use Rattle.ly_feed.specs.TextFault as text
@@ -29,17 +29,12 @@ fault_of_tables (file.OutOfRange section) = Tables (file.OutOfRange section)
 fault_of_tables file.Endless = Tables file.Endless
 fault_of_tables file.OutOfMemory = Text answering.OutOfMemory
 
--- a write failed
-abbrev pub IsFailedWrite : DriveFault → Type 0
-IsFailedWrite (Tables fault) = ⊥
-IsFailedWrite (Text fault) = text.IsFailedWrite fault
-
--- nothing was written: any error but a failed write
-abbrev pub WroteNothing : DriveFault → Type 0
-WroteNothing (Tables fault) = Unit {0}
-WroteNothing (Text fault) = text.WroteNothing fault
-
 -- the table file is rejected
 abbrev pub IsOfFile : DriveFault → Type 0
 IsOfFile (Tables fault) = Unit {0}
 IsOfFile (Text fault) = ⊥
+
+-- the number of bytes written before the write that failed, if one did
+abbrev pub failed_write : DriveFault → Option ℕ
+failed_write (Tables fault) = None
+failed_write (Text fault) = text.failed_write fault

@@ -1,13 +1,13 @@
 ghost use Rattle.std.specs.Prelude.{◌≡◌, ◌≢◌, ◌<◌, ℕ, Err, IfErr, IfOk, IsErrOf, Ok, OnOk, length};
 ghost use Rattle.std.specs.Io.KnownBytes.{IsAtEnd};
-ghost use Rattle.ly_print.specs.Device.{next_count};
+ghost use Rattle.ly_print.specs.Device.{next_count, IsFailedWrite, WroteNothing};
 ghost use Rattle.ly_tables.specs.Refusal.{IsRefusedAs};
 ghost use Rattle.ly_tables.specs.TableSet.{TableSet as Tables};
 ghost use Rattle.ly_tables.specs.declared.fault.TableFault as file;
 ghost use Rattle.ly_tables.specs.declared.fault.TableFault.TheVariants.{OutOfMemory};
 ghost use Rattle.ly_drive.specs.Answering.{IsAnsweredBy, IsBegunBy, IsDriven, IsFaultyOn, NeedsMoreInput};
 ghost use Rattle.ly_drive.specs.Answering.{IsReadAsNeeded, IsTooLong};
-ghost use Rattle.ly_drive.specs.DriveFault.{WroteNothing, IsOfFile, IsFailedWrite};
+ghost use Rattle.ly_drive.specs.DriveFault.{IsOfFile, failed_write};
 ghost use Rattle.ly_feed.specs.Held.{nothing_read};
 ghost use Rattle.ly_feed.specs.TextFault as text;
 
@@ -51,9 +51,10 @@ pub fn drive<R: Source, W: Sink>(
         → R.failures reader.new ≡ next_count (R.failures reader.old) }
     ensures reader_held { (IsErrOf result (DriveFault.Text TextFault.Read) → ⊥)
         → R.failures reader.new ≡ R.failures reader.old }
-    ensures write { IfErr result (λ e. IsFailedWrite e → W.failures writer.new ≡ next_count (W.failures writer.old)) }
+    ensures write { IfErr result (λ e. IsFailedWrite (failed_write e)
+        → W.failures writer.new ≡ next_count (W.failures writer.old)) }
     ensures writer_held { OnOk result (W.failures writer.new ≡ W.failures writer.old) }
-    ensures untouched { IfErr result (λ e. WroteNothing e → writer.new ≡ writer.old) }
+    ensures untouched { IfErr result (λ e. WroteNothing (failed_write e) → writer.new ≡ writer.old) }
 {
     a_file_has_one_set();
     let (set, _version) = read_tables(alloc, tables)?;
@@ -90,9 +91,10 @@ pub fn run<R: Source, W: Sink>(
         → NeedsMoreInput set.now (R.remaining reader.old) (R.remaining reader.new) }
     ensures read { IsErrOf result TextFault.Read → R.failures reader.new ≡ next_count (R.failures reader.old) }
     ensures reader_held { (IsErrOf result TextFault.Read → ⊥) → R.failures reader.new ≡ R.failures reader.old }
-    ensures write { IfErr result (λ e. text.IsFailedWrite e → W.failures writer.new ≡ next_count (W.failures writer.old)) }
+    ensures write { IfErr result (λ e. IsFailedWrite (text.failed_write e)
+        → W.failures writer.new ≡ next_count (W.failures writer.old)) }
     ensures writer_held { OnOk result (W.failures writer.new ≡ W.failures writer.old) }
-    ensures untouched { IfErr result (λ e. text.WroteNothing e → writer.new ≡ writer.old) }
+    ensures untouched { IfErr result (λ e. WroteNothing (text.failed_write e) → writer.new ≡ writer.old) }
 {
     let mut room = vec![in alloc; 0u8; PIECE]?;
     let mut feed = Feed::new(alloc, set, form)?;
@@ -125,9 +127,10 @@ fn feed_all<R: Source, W: Sink>(
         → NeedsMoreInput feed.old.set (R.remaining reader.old) (R.remaining reader.new) }
     ensures read { IsErrOf result TextFault.Read → R.failures reader.new ≡ next_count (R.failures reader.old) }
     ensures reader_held { (IsErrOf result TextFault.Read → ⊥) → R.failures reader.new ≡ R.failures reader.old }
-    ensures write { IfErr result (λ e. text.IsFailedWrite e → W.failures writer.new ≡ next_count (W.failures writer.old)) }
+    ensures write { IfErr result (λ e. IsFailedWrite (text.failed_write e)
+        → W.failures writer.new ≡ next_count (W.failures writer.old)) }
     ensures writer_held { OnOk result (W.failures writer.new ≡ W.failures writer.old) }
-    ensures untouched { IfErr result (λ e. text.WroteNothing e → writer.new ≡ writer.old) }
+    ensures untouched { IfErr result (λ e. WroteNothing (text.failed_write e) → writer.new ≡ writer.old) }
 {
     loop {
         match read_into(feed, reader, room)? {

@@ -1,8 +1,8 @@
 ghost use Rattle.std.specs.Prelude.{◌≡◌, IfErr, IfOk, OnOk};
 ghost use Rattle.ly_drive.specs.Private.Lines.{IsLineAnswered, IsLineStopped};
 ghost use Rattle.ly_feed.specs.Held.{nothing_read};
-ghost use Rattle.ly_feed.specs.TextFault.{WroteNothing, IsFailedWrite};
-ghost use Rattle.ly_print.specs.Device.{next_count};
+ghost use Rattle.ly_feed.specs.TextFault.{failed_write};
+ghost use Rattle.ly_print.specs.Device.{next_count, IsFailedWrite, WroteNothing};
 
 use ly_feed::{Feed, FeedFault, Need, Outcome, TextFault};
 use ly_print::{AnswerForm, Sink, write_whole};
@@ -21,9 +21,10 @@ pub(crate) fn answer_line<W: Sink>(
         (W.contents writer.new)) }
     ensures stopped { IfErr result (IsLineStopped form set.now line.now (W.contents writer.old)
         (W.contents writer.new)) }
-    ensures write { IfErr result (λ e. IsFailedWrite e → W.failures writer.new ≡ next_count (W.failures writer.old)) }
+    ensures write { IfErr result (λ e. IsFailedWrite (failed_write e)
+        → W.failures writer.new ≡ next_count (W.failures writer.old)) }
     ensures writer_held { OnOk result (W.failures writer.new ≡ W.failures writer.old) }
-    ensures kept { IfErr result (λ e. WroteNothing e → W.failures writer.new ≡ W.failures writer.old) }
+    ensures kept { IfErr result (λ e. WroteNothing (failed_write e) → W.failures writer.new ≡ W.failures writer.old) }
 {
     let mut feed = Feed::new(alloc, set, form)?;
     let answered = feed_whole(&mut feed, line, writer);
@@ -42,9 +43,10 @@ fn feed_whole<W: Sink>(
         (W.contents writer.new)) }
     ensures stopped { IfErr result (IsLineStopped feed.old.form feed.old.set text.now (W.contents writer.old)
         (W.contents writer.new)) }
-    ensures write { IfErr result (λ e. IsFailedWrite e → W.failures writer.new ≡ next_count (W.failures writer.old)) }
+    ensures write { IfErr result (λ e. IsFailedWrite (failed_write e)
+        → W.failures writer.new ≡ next_count (W.failures writer.old)) }
     ensures writer_held { OnOk result (W.failures writer.new ≡ W.failures writer.old) }
-    ensures kept { IfErr result (λ e. WroteNothing e → W.failures writer.new ≡ W.failures writer.old) }
+    ensures kept { IfErr result (λ e. WroteNothing (failed_write e) → W.failures writer.new ≡ W.failures writer.old) }
 {
     match feed.piece(text) {
         Ok(Need::More) => feed.finish_into(writer),

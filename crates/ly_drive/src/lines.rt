@@ -1,14 +1,14 @@
 ghost use Rattle.std.specs.Prelude.{◌≡◌, ◌≢◌, ◌<◌, ℕ, [], ◌∷◌, ◌++◌, length, List, Option, Err};
 ghost use Rattle.std.specs.Prelude.{IfErr, IfOk, IsErrOf, OnOk};
 ghost use Rattle.std.specs.Io.KnownBytes.{IsAtEnd};
-ghost use Rattle.ly_print.specs.Device.{next_count};
+ghost use Rattle.ly_print.specs.Device.{next_count, IsFailedWrite, WroteNothing};
 ghost use Rattle.ly_drive.specs.Answering.{IsDriven, IsTooLong};
 ghost use Rattle.ly_drive.specs.DriveFault as drive;
 ghost use Rattle.ly_drive.specs.DriveFault.{IsOfFile};
 ghost use Rattle.ly_drive.specs.Lines.{AreAnsweredBehind, AreLinesAnswered, AreLinesStopped, IsAnsweredSoFar};
 ghost use Rattle.ly_drive.specs.Private.Lines.{AreEnded, AreTaken};
 ghost use Rattle.ly_drive.specs.declared.lines_outcome.LinesOutcome.TheVariants.{AllTrees};
-ghost use Rattle.ly_feed.specs.TextFault.{WroteNothing, IsOfEnding, IsFailedWrite};
+ghost use Rattle.ly_feed.specs.TextFault.{IsOfEnding, failed_write};
 ghost use Rattle.ly_feed.specs.declared.text_fault.TextFault as text;
 ghost use Rattle.ly_feed.specs.declared.text_fault.TextFault.TheVariants.{OutOfMemory};
 ghost use Rattle.ly_tables.specs.Refusal.{IsRefusedAs};
@@ -57,9 +57,11 @@ pub fn drive_lines<R: Source, W: Sink>(
         → R.failures reader.new ≡ next_count (R.failures reader.old) }
     ensures reader_held { (IsErrOf result (DriveFault.Text TextFault.Read) → ⊥)
         → R.failures reader.new ≡ R.failures reader.old }
-    ensures write { IfErr result (λ e. drive.IsFailedWrite e → W.failures writer.new ≡ next_count (W.failures writer.old)) }
+    ensures write { IfErr result (λ e. IsFailedWrite (drive.failed_write e)
+        → W.failures writer.new ≡ next_count (W.failures writer.old)) }
     ensures writer_held { OnOk result (W.failures writer.new ≡ W.failures writer.old) }
-    ensures kept { IfErr result (λ e. drive.WroteNothing e → W.failures writer.new ≡ W.failures writer.old) }
+    ensures kept { IfErr result (λ e. WroteNothing (drive.failed_write e)
+        → W.failures writer.new ≡ W.failures writer.old) }
 {
     a_file_has_one_set();
     let (set, _version) = read_tables(alloc, tables)?;
@@ -89,9 +91,10 @@ pub fn run_lines<R: Source, W: Sink>(
         (R.remaining reader.new) (W.contents writer.old) (W.contents writer.new) }
     ensures read { IsErrOf result TextFault.Read → R.failures reader.new ≡ next_count (R.failures reader.old) }
     ensures reader_held { (IsErrOf result TextFault.Read → ⊥) → R.failures reader.new ≡ R.failures reader.old }
-    ensures write { IfErr result (λ e. IsFailedWrite e → W.failures writer.new ≡ next_count (W.failures writer.old)) }
+    ensures write { IfErr result (λ e. IsFailedWrite (failed_write e)
+        → W.failures writer.new ≡ next_count (W.failures writer.old)) }
     ensures writer_held { OnOk result (W.failures writer.new ≡ W.failures writer.old) }
-    ensures kept { IfErr result (λ e. WroteNothing e → W.failures writer.new ≡ W.failures writer.old) }
+    ensures kept { IfErr result (λ e. WroteNothing (failed_write e) → W.failures writer.new ≡ W.failures writer.old) }
 {
     let mut room = vec![in alloc; 0u8; PIECE]?;
     answer_all(alloc, set, form, &mut room, reader, writer)
@@ -117,9 +120,10 @@ fn answer_all<R: Source, W: Sink>(
         (R.remaining reader.new) (W.contents writer.old) (W.contents writer.new) }
     ensures read { IsErrOf result TextFault.Read → R.failures reader.new ≡ next_count (R.failures reader.old) }
     ensures reader_held { (IsErrOf result TextFault.Read → ⊥) → R.failures reader.new ≡ R.failures reader.old }
-    ensures write { IfErr result (λ e. IsFailedWrite e → W.failures writer.new ≡ next_count (W.failures writer.old)) }
+    ensures write { IfErr result (λ e. IsFailedWrite (failed_write e)
+        → W.failures writer.new ≡ next_count (W.failures writer.old)) }
     ensures writer_held { OnOk result (W.failures writer.new ≡ W.failures writer.old) }
-    ensures kept { IfErr result (λ e. WroteNothing e → W.failures writer.new ≡ W.failures writer.old) }
+    ensures kept { IfErr result (λ e. WroteNothing (failed_write e) → W.failures writer.new ≡ W.failures writer.old) }
 {
     let mut lines = Lines::new(alloc);
     let mut seen = 0u64;
@@ -172,9 +176,11 @@ impl Lines {
             → AreTaken form set.now (front ++ bytes.now) before (W.contents writer.new) self.new.part.items
             self.new.outcome result }
         ensures ending { IfErr result IsOfEnding }
-        ensures write { IfErr result (λ e. IsFailedWrite e → W.failures writer.new ≡ next_count (W.failures writer.old)) }
+        ensures write { IfErr result (λ e. IsFailedWrite (failed_write e)
+            → W.failures writer.new ≡ next_count (W.failures writer.old)) }
         ensures writer_held { OnOk result (W.failures writer.new ≡ W.failures writer.old) }
-        ensures kept { IfErr result (λ e. WroteNothing e → W.failures writer.new ≡ W.failures writer.old) }
+        ensures kept { IfErr result (λ e. WroteNothing (failed_write e)
+            → W.failures writer.new ≡ W.failures writer.old) }
     {
         for &byte in bytes {
             self.take_byte(alloc, set, form, byte, writer)?;
@@ -196,9 +202,11 @@ impl Lines {
             → AreTaken form set.now (front ++ byte ∷ []) before (W.contents writer.new) self.new.part.items
             self.new.outcome result }
         ensures ending { IfErr result IsOfEnding }
-        ensures write { IfErr result (λ e. IsFailedWrite e → W.failures writer.new ≡ next_count (W.failures writer.old)) }
+        ensures write { IfErr result (λ e. IsFailedWrite (failed_write e)
+            → W.failures writer.new ≡ next_count (W.failures writer.old)) }
         ensures writer_held { OnOk result (W.failures writer.new ≡ W.failures writer.old) }
-        ensures kept { IfErr result (λ e. WroteNothing e → W.failures writer.new ≡ W.failures writer.old) }
+        ensures kept { IfErr result (λ e. WroteNothing (failed_write e)
+            → W.failures writer.new ≡ W.failures writer.old) }
     {
         if byte != b'\n' {
             return match self.part.push(byte) {
@@ -224,9 +232,11 @@ impl Lines {
             → IsAnsweredSoFar form set.now text before (W.contents writer.old) self.part.items self.outcome
             → AreEnded form set.now text before (W.contents writer.new) result }
         ensures ending { IfErr result IsOfEnding }
-        ensures write { IfErr result (λ e. IsFailedWrite e → W.failures writer.new ≡ next_count (W.failures writer.old)) }
+        ensures write { IfErr result (λ e. IsFailedWrite (failed_write e)
+            → W.failures writer.new ≡ next_count (W.failures writer.old)) }
         ensures writer_held { OnOk result (W.failures writer.new ≡ W.failures writer.old) }
-        ensures kept { IfErr result (λ e. WroteNothing e → W.failures writer.new ≡ W.failures writer.old) }
+        ensures kept { IfErr result (λ e. WroteNothing (failed_write e)
+            → W.failures writer.new ≡ W.failures writer.old) }
     {
         if self.part.is_empty() {
             return Ok(self.outcome);

@@ -7,9 +7,9 @@ ghost use Rattle.ly_drive.specs.DriveFault.{IsOfFile};
 ghost use Rattle.ly_drive.specs.TableTokens.{token_name_in, HasBadCut, IsListedBy, IsListedFor};
 ghost use Rattle.ly_feed.specs.ScanPart.{condition_in, scan_part_of};
 ghost use Rattle.ly_feed.specs.Vocabularies.{name_in};
-ghost use Rattle.ly_feed.specs.TextFault.{WroteNothing, IsOfEnding, IsFailedWrite};
+ghost use Rattle.ly_feed.specs.TextFault.{IsOfEnding, failed_write};
 ghost use Rattle.ly_listing.specs.Listings.{end_of};
-ghost use Rattle.ly_print.specs.Device.{next_count};
+ghost use Rattle.ly_print.specs.Device.{next_count, IsFailedWrite, WroteNothing};
 ghost use Rattle.ly_print.specs.TextWriter.{IsCutShort};
 ghost use Rattle.ly_tables.specs.Refusal.{IsRefusedAs};
 ghost use Rattle.ly_tables.specs.TableSet.{TableSet as Tables};
@@ -55,9 +55,10 @@ pub fn drive_tokens<R: Source, W: Sink>(
         → R.failures reader.new ≡ next_count (R.failures reader.old) }
     ensures reader_held { (IsErrOf result (DriveFault.Text TextFault.Read) → ⊥)
         → R.failures reader.new ≡ R.failures reader.old }
-    ensures write { IfErr result (λ e. drive.IsFailedWrite e → W.failures writer.new ≡ next_count (W.failures writer.old)) }
+    ensures write { IfErr result (λ e. IsFailedWrite (drive.failed_write e)
+        → W.failures writer.new ≡ next_count (W.failures writer.old)) }
     ensures writer_held { OnOk result (W.failures writer.new ≡ W.failures writer.old) }
-    ensures untouched { IfErr result (λ e. drive.WroteNothing e → writer.new ≡ writer.old) }
+    ensures untouched { IfErr result (λ e. WroteNothing (drive.failed_write e) → writer.new ≡ writer.old) }
 {
     let (set, _version) = read_tables(alloc, tables)?;
     let listed = run_tokens(alloc, &set, form, reader, writer);
@@ -86,9 +87,10 @@ pub fn run_tokens<R: Source, W: Sink>(
     ensures ended { OnOk result (IsAtEnd (R.remaining reader.new)) }
     ensures read { IsErrOf result TextFault.Read → R.failures reader.new ≡ next_count (R.failures reader.old) }
     ensures reader_held { (IsErrOf result TextFault.Read → ⊥) → R.failures reader.new ≡ R.failures reader.old }
-    ensures write { IfErr result (λ e. IsFailedWrite e → W.failures writer.new ≡ next_count (W.failures writer.old)) }
+    ensures write { IfErr result (λ e. IsFailedWrite (failed_write e)
+        → W.failures writer.new ≡ next_count (W.failures writer.old)) }
     ensures writer_held { OnOk result (W.failures writer.new ≡ W.failures writer.old) }
-    ensures untouched { IfErr result (λ e. WroteNothing e → writer.new ≡ writer.old) }
+    ensures untouched { IfErr result (λ e. WroteNothing (failed_write e) → writer.new ≡ writer.old) }
 {
     let text = match read_whole(alloc, reader) {
         Ok(text) => text,
@@ -114,9 +116,10 @@ fn write_tokens<W: Sink>(
     ensures faulty { result ≡ Err TextFault.FaultyTables → (byte : ℕ) × (lines : List ℕ)
         × IsListedBy form set.now text.now (End.BadCut byte) lines }
     ensures ending { IfErr result IsOfEnding }
-    ensures write { IfErr result (λ e. IsFailedWrite e → W.failures writer.new ≡ next_count (W.failures writer.old)) }
+    ensures write { IfErr result (λ e. IsFailedWrite (failed_write e)
+        → W.failures writer.new ≡ next_count (W.failures writer.old)) }
     ensures writer_held { OnOk result (W.failures writer.new ≡ W.failures writer.old) }
-    ensures untouched { IfErr result (λ e. WroteNothing e → writer.new ≡ writer.old) }
+    ensures untouched { IfErr result (λ e. WroteNothing (failed_write e) → writer.new ≡ writer.old) }
 {
     let lexer = lexer_of(alloc, set)?;
     let Listing { lines, end } = list_tokens(alloc, &lexer, &SetTokens { set }, form, text)?;

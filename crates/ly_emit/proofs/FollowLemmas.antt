@@ -22,7 +22,8 @@ use Rattle.ly_pack.specs.Machine as table
 use Rattle.ly_pack.specs.Steady.{rule_at}
 use Rattle.ly_parse.specs.Feeding.{Fed, Feeds, Level, done, faulty, go_to, goes_on, onward, perform, pop, pushed}
 use Rattle.ly_parse.specs.Feeding.{reduce_by, refused, settled, settles, top_of, turn, uncover}
-use Rattle.ly_resolve.specs.Actions.{Action, IsAction, IsDone, IsRaw, IsTerminalRefused, PrecedenceVerdict, error, reduce, shift}
+use Rattle.ly_resolve.specs.Actions.{Action, IsAction, IsDone, IsRaw, IsTerminalRefused, PrecedenceVerdict, error}
+use Rattle.ly_resolve.specs.Actions.{reduce, shift}
 use Rattle.ly_resolve.specs.Laws.{Reduces}
 use Rattle.ly_resolve.specs.Laws as default
 use Rattle.ly_resolve.specs.Machine.{Configuration, Leads, Moves, Pushed, symbols_of, trees_onto}

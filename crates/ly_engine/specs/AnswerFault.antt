@@ -1,6 +1,6 @@
 -- The errors of `answer`: how they follow from those of generation, their numbers and names, and what they imply for
 -- the reader and the writer.
-use Rattle.std.specs.Prelude.{◌≡◌, ◌≢◌, ◌⊎◌, ℕ, List, Option}
+use Rattle.std.specs.Prelude.{◌≡◌, ◌≢◌, ◌⊎◌, ℕ, List, None, Option}
 use Rattle.ly_engine.specs.declared.answer_fault.AnswerFault.{AnswerFault}
 use Rattle.ly_engine.specs.declared.answer_fault.AnswerFault.TheVariants.{Gen, Text}
 use Rattle.ly_feed.specs.TextFault as text
@@ -28,12 +28,7 @@ abbrev pub ReadNothing : AnswerFault → Type 0
 ReadNothing (Gen fault) = Unit {0}
 ReadNothing (Text fault) = ⊥
 
--- nothing was written: any error but a failed write
-abbrev pub WroteNothing : AnswerFault → Type 0
-WroteNothing (Gen fault) = Unit {0}
-WroteNothing (Text fault) = text.WroteNothing fault
-
--- a write failed
-abbrev pub IsFailedWrite : AnswerFault → Type 0
-IsFailedWrite (Gen fault) = ⊥
-IsFailedWrite (Text fault) = text.IsFailedWrite fault
+-- the number of bytes written before the write that failed, if one did
+abbrev pub failed_write : AnswerFault → Option ℕ
+failed_write (Gen fault) = None
+failed_write (Text fault) = text.failed_write fault

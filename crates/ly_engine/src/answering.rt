@@ -1,12 +1,12 @@
 ghost use Rattle.std.specs.Prelude.{◌≡◌, ◌≢◌, ◌⊎◌, ℕ, Err, IfErr, IfOk, IsErrOf, Ok, OnOk};
 ghost use Rattle.std.specs.Io.KnownBytes.{IsAtEnd};
-ghost use Rattle.ly_print.specs.Device.{next_count};
+ghost use Rattle.ly_print.specs.Device.{next_count, IsFailedWrite, WroteNothing};
 ghost use Rattle.ly_base.specs.Limits.{version_2};
 ghost use Rattle.ly_base.specs.declared.version.Version.TheVariants.{V2};
 ghost use Rattle.ly_drive.specs.Answering.{IsAnsweredBy, IsBegunBy, NeedsMoreInput, IsReadAsNeeded, IsTooLong};
 ghost use Rattle.ly_tables.specs.TableSet.{TableSet as Tables};
 ghost use Rattle.ly_generate.specs.Accepted.{IsRefusedFor};
-ghost use Rattle.ly_engine.specs.AnswerFault.{ReadNothing, WroteNothing, IsFailedWrite};
+ghost use Rattle.ly_engine.specs.AnswerFault.{ReadNothing, failed_write};
 ghost use Rattle.ly_generate.specs.Generated.{IsGenerated};
 ghost use Rattle.ly_generate.specs.declared.gen_fault.GenFault as code;
 ghost use Rattle.ly_generate.specs.declared.gen_fault.GenFault.TheVariants as gen;
@@ -53,9 +53,10 @@ pub fn answer<R: Source, W: Sink>(
         → R.failures reader.new ≡ next_count (R.failures reader.old) }
     ensures reader_held { (IsErrOf result (AnswerFault.Text TextFault.Read) → ⊥)
         → R.failures reader.new ≡ R.failures reader.old }
-    ensures write { IfErr result (λ e. IsFailedWrite e → W.failures writer.new ≡ next_count (W.failures writer.old)) }
+    ensures write { IfErr result (λ e. IsFailedWrite (failed_write e)
+        → W.failures writer.new ≡ next_count (W.failures writer.old)) }
     ensures writer_held { OnOk result (W.failures writer.new ≡ W.failures writer.old) }
-    ensures untouched { IfErr result (λ e. WroteNothing e → writer.new ≡ writer.old) }
+    ensures untouched { IfErr result (λ e. WroteNothing (failed_write e) → writer.new ≡ writer.old) }
 {
     let generated = file_tables(
         alloc,

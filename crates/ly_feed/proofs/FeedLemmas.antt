@@ -120,7 +120,8 @@ module _ (set : TableSet) (form : AnswerForm) (q : Place) (s : Parse) (over : Bo
   pub is_settled : (g : Held) (syntax_error : SyntaxError) (o : Outcome) (lines : Vec ℕ Global)
       (t : Parse) (h : Halt)
       → IsRunOn false p m (progress_of (behind q piece) s) t (Ok h) → h ≡ Stopped syntax_error
-      → IsOutcome (verdict_of syntax_error) o → lines.items ≡ written_in form (vocabulary_of set) (verdict_of syntax_error) → IsOver f g
+      → IsOutcome (verdict_of syntax_error) o
+      → lines.items ≡ written_in form (vocabulary_of set) (verdict_of syntax_error) → IsOver f g
       → seen f + length piece < 2 ^ 64 → TakesPiece f piece g (Ok (Settled o lines))
   is_settled g syntax_error o lines t h run at told written over few = (
     over,

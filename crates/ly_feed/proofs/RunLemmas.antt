@@ -31,7 +31,8 @@ halts_undecided false p q e undecided = undecided
 halts_undecided true p q e undecided = absurd cc
 
 -- and at the end of the text
-pub halts_at_end : (ended : Bool) (p : ScanPart) (q : Place) → EndIsDecided ended (scanner_in p) q Clean → Halts ended p q
+pub halts_at_end : (ended : Bool) (p : ScanPart) (q : Place) → EndIsDecided ended (scanner_in p) q Clean
+    → Halts ended p q
 halts_at_end true p q ends = sym (append-nil q.rest) ∙ ends [] (λ e. refl)
 halts_at_end false p q ends = absurd
     (let none = ap length (ends (0 ∷ []) (anything_follows (0 ∷ []))) in

@@ -111,7 +111,8 @@ told_at p l facts q told is f tells = record {
 }
 
 -- the terminal of a lexeme of which this is told, by its first byte
-pub terminal_there : (p : ScanPart) (q : Place) (told : TaggedLexeme) (is : IsToldAt p q told) (text : List ℕ) (first : ℕ)
+pub terminal_there : (p : ScanPart) (q : Place) (told : TaggedLexeme) (is : IsToldAt p q told) (text : List ℕ)
+    (first : ℕ)
     (o : Option Sym) → text ≡ take told.taken q.rest → first ≡ slice_index text 0
     → option_map (λ (t : Sym). t.0) o ≡ terminal_told p told.fact first
     → option_map (λ (t : Sym). t.0) o ≡ part.terminal_in p is.lexeme.rule.0 (take is.lexeme.taken q.rest)

@@ -19,16 +19,6 @@ text_fault_name Read = codes "Read"
 text_fault_name (Write written) = codes "Write"
 text_fault_name OutOfMemory = codes "OutOfMemory"
 
--- a write failed
-abbrev pub IsFailedWrite : TextFault → Type 0
-IsFailedWrite (Write written) = Unit {0}
-IsFailedWrite _ = ⊥
-
--- nothing was written: any error but a failed write
-abbrev pub WroteNothing : TextFault → Type 0
-WroteNothing (Write written) = ⊥
-WroteNothing _ = Unit {0}
-
 -- an error of writing a result
 abbrev pub IsOfWriting : TextFault → Type 0
 IsOfWriting (Write written) = Unit {0}
@@ -41,3 +31,8 @@ IsOfEnding FaultyTables = Unit {0}
 IsOfEnding (Write written) = Unit {0}
 IsOfEnding OutOfMemory = Unit {0}
 IsOfEnding _ = ⊥
+
+-- the number of bytes written before the write that failed, if one did
+abbrev pub failed_write : TextFault → Option ℕ
+failed_write (Write written) = Some written
+failed_write _ = None

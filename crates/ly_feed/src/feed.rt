@@ -1,9 +1,9 @@
 ghost use Rattle.std.specs.Prelude.{◌≡◌, ℕ, List, [], Err, false, IfErr, IfOk, OnOk};
 ghost use Rattle.std.specs.Io.KnownBytes.{Appends};
-ghost use Rattle.ly_print.specs.Device.{next_count};
+ghost use Rattle.ly_print.specs.Device.{next_count, IsFailedWrite, WroteNothing};
 ghost use Rattle.ly_print.specs.TextWriter.{IsCutShort};
 ghost use Rattle.ly_feed.specs.Held.{bytes_held, nothing_read, IsAnswerOf, IsFinish, IsOver, IsPiece, IsRestOf};
-ghost use Rattle.ly_feed.specs.TextFault.{WroteNothing, IsOfEnding, IsFailedWrite};
+ghost use Rattle.ly_feed.specs.TextFault.{IsOfEnding, failed_write};
 ghost use Rattle.ly_feed.specs.Verdict.{faulty};
 ghost use Rattle.ly_feed.specs.declared.outcome.Outcome.{Outcome as Answered};
 
@@ -162,9 +162,10 @@ impl<'a> Feed<'a> {
             × IsCutShort (W.contents writer.old) (W.contents writer.new) written answer }
         ensures faulty { result ≡ Err TextFault.FaultyTables → IsRestOf self.old [] faulty }
         ensures ending { IfErr result IsOfEnding }
-        ensures write { IfErr result (λ e. IsFailedWrite e → W.failures writer.new ≡ next_count (W.failures writer.old)) }
+        ensures write { IfErr result (λ e. IsFailedWrite (failed_write e)
+            → W.failures writer.new ≡ next_count (W.failures writer.old)) }
         ensures writer_held { OnOk result (W.failures writer.new ≡ W.failures writer.old) }
-        ensures untouched { IfErr result (λ e. WroteNothing e → writer.new ≡ writer.old) }
+        ensures untouched { IfErr result (λ e. WroteNothing (failed_write e) → writer.new ≡ writer.old) }
     {
         self.over = true;
         let place = self.window.place();

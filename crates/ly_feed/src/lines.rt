@@ -1,13 +1,13 @@
 ghost use Rattle.std.specs.Prelude.{◌≡◌, ◌≢◌, ℕ, List, [], ◌∷◌, ◌++◌, Err, IfErr, IfOk, IsSome, OnOk, map};
 ghost use Rattle.std.specs.Io.KnownBytes.{Appends};
 ghost use Rattle.ly_base.specs.Bytes.{newline};
-ghost use Rattle.ly_print.specs.Device.{next_count};
+ghost use Rattle.ly_print.specs.Device.{next_count, IsFailedWrite, WroteNothing};
 ghost use Rattle.ly_print.specs.Text.{no_rule_line};
 ghost use Rattle.ly_print.specs.TextWriter.{IsCutShort};
 ghost use Rattle.ly_feed.specs.SyntaxError.{token_of, verdict_of};
 ghost use Rattle.ly_feed.specs.Closed.{IsThere, IsVerdictOf};
 ghost use Rattle.ly_feed.specs.Private.Running.{words_of};
-ghost use Rattle.ly_feed.specs.TextFault.{WroteNothing, IsOfWriting, IsFailedWrite};
+ghost use Rattle.ly_feed.specs.TextFault.{IsOfWriting, failed_write};
 ghost use Rattle.ly_feed.specs.Verdict.{accepted, expected_line, printed, syntax_line, written_in, IsOutcome, Verdict};
 ghost use Rattle.ly_feed.specs.Vocabularies.{vocabulary_of};
 ghost use Rattle.ly_tree.specs.Costs.{IsBoundedBySize};
@@ -49,9 +49,10 @@ pub(crate) fn write_ended<W: Sink>(
         → IsCutShort (W.contents writer.old) (W.contents writer.new) written
         (written_in form (vocabulary_of set.now) v) }
     ensures of_writing { IfErr result IsOfWriting }
-    ensures write { IfErr result (λ e. IsFailedWrite e → W.failures writer.new ≡ next_count (W.failures writer.old)) }
+    ensures write { IfErr result (λ e. IsFailedWrite (failed_write e)
+        → W.failures writer.new ≡ next_count (W.failures writer.old)) }
     ensures writer_held { OnOk result (W.failures writer.new ≡ W.failures writer.old) }
-    ensures untouched { IfErr result (λ e. WroteNothing e → writer.new ≡ writer.old) }
+    ensures untouched { IfErr result (λ e. WroteNothing (failed_write e) → writer.new ≡ writer.old) }
 {
     match ended {
         Ended::Accepted(root) => {
@@ -84,9 +85,10 @@ fn write_term<W: Sink>(
         → IsCutShort (W.contents writer.old) (W.contents writer.new) written
         (written_in form (words_of names.now) (accepted t)) }
     ensures of_writing { IfErr result IsOfWriting }
-    ensures write { IfErr result (λ e. IsFailedWrite e → W.failures writer.new ≡ next_count (W.failures writer.old)) }
+    ensures write { IfErr result (λ e. IsFailedWrite (failed_write e)
+        → W.failures writer.new ≡ next_count (W.failures writer.old)) }
     ensures writer_held { OnOk result (W.failures writer.new ≡ W.failures writer.old) }
-    ensures untouched { IfErr result (λ e. WroteNothing e → writer.new ≡ writer.old) }
+    ensures untouched { IfErr result (λ e. WroteNothing (failed_write e) → writer.new ≡ writer.old) }
 {
     match form {
         AnswerForm::Plain => {
@@ -118,9 +120,10 @@ fn write_line<N: TermNotation, W: Sink>(
         → IsCutShort (W.contents writer.old) (W.contents writer.new) written
         (noted (N.form notation.now) t ++ newline ∷ []) }
     ensures of_writing { IfErr result IsOfWriting }
-    ensures write { IfErr result (λ e. IsFailedWrite e → W.failures writer.new ≡ next_count (W.failures writer.old)) }
+    ensures write { IfErr result (λ e. IsFailedWrite (failed_write e)
+        → W.failures writer.new ≡ next_count (W.failures writer.old)) }
     ensures writer_held { OnOk result (W.failures writer.new ≡ W.failures writer.old) }
-    ensures untouched { IfErr result (λ e. WroteNothing e → writer.new ≡ writer.old) }
+    ensures untouched { IfErr result (λ e. WroteNothing (failed_write e) → writer.new ≡ writer.old) }
 {
     let line = forest.line(alloc, notation, root)?;
     line.write(writer)?;

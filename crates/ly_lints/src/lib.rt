@@ -1,8 +1,8 @@
-//! Finds what two accepted files may not mean: `lints_of`, the warnings of `explain`.
+//! Finds what two accepted files may not mean (`lints_of`): the warnings of `explain`.
 //!
-//! Rules that never match, patterns that mean something else than they seem to, tokens that no rule returns, precedences that
-//! decide nothing, and the like. Which rules and tokens are of no use is proved in `ly_counterexamples`; which of it is worth
-//! a warning, and its wording, is tested alone.
+//! These are rules that never match, patterns that mean something other than they seem to, tokens that no rule returns,
+//! precedences that decide nothing, and the like. Which rules and tokens are useless is proved in `ly_counterexamples`.
+//! Which of it deserves a warning, and the wording, is only tested.
 #![tactic(auto)]
 
 mod hiding;

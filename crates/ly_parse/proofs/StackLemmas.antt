@@ -183,7 +183,8 @@ accepted_paid m f levels l p count over t view h e stands =
     let top = last_is levels l e in
     let paid = subst (IsStackPaid f) (ap (stack_from f) top.1 ∙ stack_from-push f top.0 l) h.paid in
     subst (λ q. IsBoundedBySize q.forest t) view
-    (subst (IsBoundedBySize f) (stands_unwrapped f l.term t (subst (λ q. StandsFor q.forest l.term t) (sym view) stands))
+    (subst (IsBoundedBySize f)
+    (stands_unwrapped f l.term t (subst (λ q. StandsFor q.forest l.term t) (sym view) stands))
     (top_paid f (level_from f l) (stack_from f top.0) paid))
 
 -- a shift

@@ -62,7 +62,8 @@ module _ (p : Parse) (token : Token ℕ) (a : Before) (s : Parse)
       (fed, more ∙ ap (λ n. n + 1) counted)
 
   -- the tables accept
-  pub accepts_token : (answer : TokenOutcome) (b : Before) → action_of p.machine (top_of s.stack) token.terminal ≡ accept
+  pub accepts_token : (answer : TokenOutcome) (b : Before)
+      → action_of p.machine (top_of s.stack) token.terminal ≡ accept
       → IsAcceptance s.stack answer → Comes (with_note p a) token (with_note s b) answer
   accepts_token answers.Accepts b action x =
       (x.0, alike token (done x.0) refl (feeds_by p.machine token s.stack accept (done x.0) action x.1), x.1)
@@ -117,7 +118,8 @@ module _ (p : Parse) (t : Token ℕ) (q : Parse) where
       by true e h = absurd (let no : answers.Refuses ≡ answers.Over = (h.after_end e).0 in cc)
       by false e h = (h.before_end e).3
 
-  told_of : (answer : TokenOutcome) (r : Result step.Step ParseFault) → (answer ≡ answers.Over → ⊥) → IsTake p t q answer
+  told_of : (answer : TokenOutcome) (r : Result step.Step ParseFault) → (answer ≡ answers.Over → ⊥)
+      → IsTake p t q answer
       → (Comes p t q answer → Takes p t q r) → ends_by answer ≡ is_last r → IsCall p t q r
   told_of answer r not_over h tells ended = record {
     after_end = λ e. absurd (not_over (h.after_end e).0);
@@ -160,7 +162,8 @@ module _ (p : Parse) (t : Token ℕ) (q : Parse) where
       (told_of answers.Refuses (Err OutOfMemory) (λ e. cc) h (λ x. tt) refl)
 
   -- what is told of a call is an answer of the call
-  pub told_call : (answer : TokenOutcome) (r : Result step.Step ParseFault) → IsTake p t q answer → IsTold q t.at answer r
+  pub told_call : (answer : TokenOutcome) (r : Result step.Step ParseFault) → IsTake p t q answer
+      → IsTold q t.at answer r
       → IsCall p t q r
   told_call answers.Reads r h told =
       subst (IsCall p t q) (sym told) (told_of answers.Reads (Ok More) (λ e. cc) h (λ x. x) refl)

@@ -54,14 +54,16 @@ some_outcome (Refused number token expected) =
 some_outcome (NoRule byte) = (outcome.NoRule byte, refl)
 
 -- what is wrong with a text is said with places too
-pub placed_syntax_error : (s : TableSet) (text : List ℕ) (syntax_error : SyntaxError) → IsVerdict s text (verdict_of syntax_error)
+pub placed_syntax_error : (s : TableSet) (text : List ℕ) (syntax_error : SyntaxError)
+    → IsVerdict s text (verdict_of syntax_error)
     → (v : PlacedVerdict) × IsPlacedVerdict s text v × (answer.verdict_of text v ≡ verdict_of syntax_error)
 placed_syntax_error s text (Refused number token expected) is =
     (answer.refused number (token_of token) (map (λ s. s.0) expected.items), is, refl)
 placed_syntax_error s text (NoRule byte) is = (answer.unmatched byte, is, refl)
 
 -- and without them
-pub plain_syntax_error : (s : TableSet) (text : List ℕ) (v : PlacedVerdict) (syntax_error : SyntaxError) → IsPlacedVerdict s text v
+pub plain_syntax_error : (s : TableSet) (text : List ℕ) (v : PlacedVerdict) (syntax_error : SyntaxError)
+    → IsPlacedVerdict s text v
     → answer.verdict_of text v ≡ verdict_of syntax_error → IsVerdict s text (verdict_of syntax_error)
 plain_syntax_error s text (accepted t) (Refused number token expected) is same = absurd cc
 plain_syntax_error s text (accepted t) (NoRule byte) is same = absurd cc
@@ -127,7 +129,8 @@ module _ (s : TableSet) (text : List ℕ) (tokens : List (Token ℕ)) (x : Deriv
 
 -- what is wrong with tokens is said with places too
 pub placed_token_syntax_error : (s : TableSet) (text : List ℕ) (tokens : List (Token ℕ)) (syntax_error : SyntaxError)
-    → IsTokenVerdict s text tokens (verdict_of syntax_error) → (v : PlacedVerdict) × IsPlacedTokenVerdict s text tokens v
+    → IsTokenVerdict s text tokens (verdict_of syntax_error) → (v : PlacedVerdict)
+    × IsPlacedTokenVerdict s text tokens v
     × (answer.verdict_of text v ≡ verdict_of syntax_error)
 placed_token_syntax_error s text tokens (Refused number token expected) is =
     (answer.refused number (token_of token) (map (λ s. s.0) expected.items), is, refl)

@@ -209,7 +209,8 @@ module _ (s : TableSet) (text : List ℕ) (is_machine : IsMachine (machine_of s)
 
   module _ (p : Parse) (reads : ReadsTokens (keeping_machine m) [] tokens p.stack)
       (machine : p.machine ≡ keeping_machine m) (counted : p.count ≡ length tokens) where
-    pub end_syntax_error_told : (f : Grown) (syntax_error : SyntaxError) → IsEndRead p text f (Ok (ended.Refused syntax_error))
+    pub end_syntax_error_told : (f : Grown) (syntax_error : SyntaxError)
+        → IsEndRead p text f (Ok (ended.Refused syntax_error))
         → IsTokenVerdict s text tokens (verdict_of syntax_error)
     end_syntax_error_told f syntax_error told =
         let fed = subst (λ k. Feeds k (end_of text) p.stack terms.refused) machine told.1 in

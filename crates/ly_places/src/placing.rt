@@ -4,7 +4,7 @@ ghost use Rattle.ly_drive.specs.Answering.{IsDriven, IsFaultyOn};
 ghost use Rattle.ly_drive.specs.DriveFault as drive;
 ghost use Rattle.ly_drive.specs.DriveFault.{IsOfFile};
 ghost use Rattle.ly_feed.specs.TableAnswer.{IsVerdict};
-ghost use Rattle.ly_feed.specs.TextFault.{WroteNothing, IsOfEnding, IsOfWriting, IsFailedWrite};
+ghost use Rattle.ly_feed.specs.TextFault.{IsOfEnding, IsOfWriting, failed_write};
 ghost use Rattle.ly_feed.specs.Verdict.{faulty};
 ghost use Rattle.ly_feed.specs.declared.outcome.Outcome.{Outcome as Answered};
 ghost use Rattle.ly_feed.specs.SyntaxError.{verdict_of};
@@ -14,7 +14,7 @@ ghost use Rattle.ly_places.specs.PlacedAnswer.{PlacedAnswer, PlacedVerdict};
 ghost use Rattle.ly_places.specs.Parts.{parts_of};
 ghost use Rattle.ly_places.specs.Placed.{Placed};
 ghost use Rattle.ly_places.specs.Placing.{IsPlacedFor, IsPlacingBegun};
-ghost use Rattle.ly_print.specs.Device.{next_count};
+ghost use Rattle.ly_print.specs.Device.{next_count, IsFailedWrite, WroteNothing};
 ghost use Rattle.ly_print.specs.TextWriter.{IsCutShort};
 ghost use Rattle.ly_tables.specs.Refusal.{IsRefusedAs};
 ghost use Rattle.ly_tables.specs.TableSet.{TableSet as Tables};
@@ -59,9 +59,10 @@ pub fn drive_placed<R: Source, W: Sink>(
         → R.failures reader.new ≡ next_count (R.failures reader.old) }
     ensures reader_held { (IsErrOf result (DriveFault.Text TextFault.Read) → ⊥)
         → R.failures reader.new ≡ R.failures reader.old }
-    ensures write { IfErr result (λ e. drive.IsFailedWrite e → W.failures writer.new ≡ next_count (W.failures writer.old)) }
+    ensures write { IfErr result (λ e. IsFailedWrite (drive.failed_write e)
+        → W.failures writer.new ≡ next_count (W.failures writer.old)) }
     ensures writer_held { OnOk result (W.failures writer.new ≡ W.failures writer.old) }
-    ensures untouched { IfErr result (λ e. drive.WroteNothing e → writer.new ≡ writer.old) }
+    ensures untouched { IfErr result (λ e. WroteNothing (drive.failed_write e) → writer.new ≡ writer.old) }
 {
     let (set, _version) = read_tables(alloc, tables)?;
     let answered = run_placed(alloc, &set, reader, writer);
@@ -87,9 +88,10 @@ pub fn run_placed<R: Source, W: Sink>(
     ensures ended { OnOk result (IsAtEnd (R.remaining reader.new)) }
     ensures read { IsErrOf result TextFault.Read → R.failures reader.new ≡ next_count (R.failures reader.old) }
     ensures reader_held { (IsErrOf result TextFault.Read → ⊥) → R.failures reader.new ≡ R.failures reader.old }
-    ensures write { IfErr result (λ e. IsFailedWrite e → W.failures writer.new ≡ next_count (W.failures writer.old)) }
+    ensures write { IfErr result (λ e. IsFailedWrite (failed_write e)
+        → W.failures writer.new ≡ next_count (W.failures writer.old)) }
     ensures writer_held { OnOk result (W.failures writer.new ≡ W.failures writer.old) }
-    ensures untouched { IfErr result (λ e. WroteNothing e → writer.new ≡ writer.old) }
+    ensures untouched { IfErr result (λ e. WroteNothing (failed_write e) → writer.new ≡ writer.old) }
 {
     let text = match read_whole(alloc, reader) {
         Ok(text) => text,
@@ -115,9 +117,10 @@ pub fn place_text<W: Sink>(
         × IsCutShort (W.contents writer.old) (W.contents writer.new) written answer }
     ensures faulty { result ≡ Err TextFault.FaultyTables → IsVerdict set.now text.now faulty }
     ensures ending { IfErr result IsOfEnding }
-    ensures write { IfErr result (λ e. IsFailedWrite e → W.failures writer.new ≡ next_count (W.failures writer.old)) }
+    ensures write { IfErr result (λ e. IsFailedWrite (failed_write e)
+        → W.failures writer.new ≡ next_count (W.failures writer.old)) }
     ensures writer_held { OnOk result (W.failures writer.new ≡ W.failures writer.old) }
-    ensures untouched { IfErr result (λ e. WroteNothing e → writer.new ≡ writer.old) }
+    ensures untouched { IfErr result (λ e. WroteNothing (failed_write e) → writer.new ≡ writer.old) }
 {
     match parse(alloc, set, text)? {
         Parsed::Tree(parts) => write_tree(alloc, set, text, &parts, writer),
@@ -144,9 +147,10 @@ fn write_tree<W: Sink>(
         → (answer : List ℕ) × (o : Answered) × PlacedAnswer set.now text.now o answer
         × IsCutShort (W.contents writer.old) (W.contents writer.new) written answer }
     ensures of_writing { IfErr result IsOfWriting }
-    ensures write { IfErr result (λ e. IsFailedWrite e → W.failures writer.new ≡ next_count (W.failures writer.old)) }
+    ensures write { IfErr result (λ e. IsFailedWrite (failed_write e)
+        → W.failures writer.new ≡ next_count (W.failures writer.old)) }
     ensures writer_held { OnOk result (W.failures writer.new ≡ W.failures writer.old) }
-    ensures untouched { IfErr result (λ e. WroteNothing e → writer.new ≡ writer.old) }
+    ensures untouched { IfErr result (λ e. WroteNothing (failed_write e) → writer.new ≡ writer.old) }
 {
     let line = PlacedLine::new(alloc, NameLabels::of(alloc, set)?, text, parts)?;
     line.write(writer)?;

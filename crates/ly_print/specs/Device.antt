@@ -29,3 +29,14 @@ allowed (Some left) n = min left n
 abbrev pub left_after : Option ℕ → ℕ → Option ℕ
 left_after None n = None
 left_after (Some left) n = Some (left - n)
+
+-- What the error of a call says of its writer is the number of bytes written before the write that failed, if one did.
+-- a write failed
+abbrev pub IsFailedWrite : Option ℕ → Type 0
+IsFailedWrite (Some written) = Unit {0}
+IsFailedWrite None = ⊥
+
+-- nothing was written: the error isn't that of a write
+abbrev pub WroteNothing : Option ℕ → Type 0
+WroteNothing (Some written) = ⊥
+WroteNothing None = Unit {0}

@@ -47,7 +47,8 @@ done_asks A v shift d = (shift, d.0)
 done_asks A v (reduce p) d = (reduce p, d.0.0)
 done_asks A v error d = (shift, d.0)
 
-counts_asks : (A : Action → Type 0) (v : ℕ → PrecedenceVerdict) (k : Kind) (p : ℕ) → CountsAs A v k p → (b : Action) × A b
+counts_asks : (A : Action → Type 0) (v : ℕ → PrecedenceVerdict) (k : Kind) (p : ℕ) → CountsAs A v k p → (b : Action)
+    × A b
 counts_asks A v shift_reduce p c = (shift, c.0)
 counts_asks A v reduce_reduce p c = (reduce p, c.0.0)
 

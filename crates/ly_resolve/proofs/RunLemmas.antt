@@ -6,7 +6,8 @@ use Rattle.ly_base.specs.Trees.{Tree, leaf, node, none, yield_of}
 use Rattle.ly_join.specs.Grammar.{Grammar, IsRule, Symbol, nonterminal, terminal}
 use Rattle.ly_grammar.proofs.ItemLemmas.{length-onto}
 use Rattle.ly_grammar.proofs.SearchLemmas.{rule_is_one}
-use Rattle.ly_resolve.specs.Actions.{Action, IsAction, IsTerminalRefused, Judge, PrecedenceVerdict, error, reduce, shift}
+use Rattle.ly_resolve.specs.Actions.{Action, IsAction, IsTerminalRefused, Judge, PrecedenceVerdict, error, reduce}
+use Rattle.ly_resolve.specs.Actions.{shift}
 use Rattle.ly_resolve.specs.Actions.{to_error}
 use Rattle.ly_resolve.specs.Actions.{to_reduce, to_shift, unsettled}
 use Rattle.ly_resolve.specs.Laws.{IsUnambiguous}

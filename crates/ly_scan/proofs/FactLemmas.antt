@@ -81,7 +81,8 @@ told_there t q line start at n rule initial lines begun some within on ended is 
         on refl (sym (ap (option_map (λ (r : RuleNo). r.0)) is)) (λ less. ended)
 
 -- so it is told by the state
-pub is_told : (t : StateTable) (q : Place) (line : Bool) (start at : RowStart) (by_rule facts : List ℕ) (told : TaggedLexeme)
+pub is_told : (t : StateTable) (q : Place) (line : Bool) (start at : RowStart) (by_rule facts : List ℕ)
+    (told : TaggedLexeme)
     → facts ≡ facts_by t by_rule → state_at at < length t.rules → get_or facts (state_at at) 0 ≡ told.fact
     → told.fact ≢ 0 → q.condition ≡ 0 → (scanner_of t).walk 0 line ≡ (scanner_of t).walk 0 q.line
     → ((text : List ℕ) → ahead_at t start text ≡ (scanner_of t).walk 0 line text) → 0 < told.taken

@@ -24,8 +24,8 @@ fact_by t by_rule (Some rule) = if is_whole (cut_at t rule.0) then get_or by_rul
 abbrev pub facts_by : StateTable → List ℕ → List ℕ
 facts_by t by_rule = map (fact_by t by_rule) t.rules
 
--- The place has a lexeme, whatever bytes follow the known ones. TaggedLexeme has the number of bytes taken and the fact of its
--- rule.
+-- The place has a lexeme, whatever bytes follow the known ones. The tagged lexeme has the number of bytes taken and the
+-- fact of its rule.
 pub record IsTaggedLexeme (s : Scanner) (by_rule : List ℕ) (q : Place) (told : TaggedLexeme) : Type 0 where
   pub lexeme : Lexeme
   pub stands : IsDecided false s q lexeme

@@ -6,7 +6,8 @@ ghost use Rattle.ly_join.specs.Grammar.{symbol_of, terminal as symbol_at};
 ghost use Rattle.ly_join.specs.Terminals.{terminal_from};
 ghost use Rattle.ly_report.specs.Report.{symbol_name, terminal_name};
 ghost use Rattle.ly_text_buffer.specs.Json.{json_words};
-ghost use Rattle.ly_text_buffer.specs.TextBuffer.{body_words, counted, line_of, location_in, numbered_words, quoted_words, Says};
+ghost use Rattle.ly_text_buffer.specs.TextBuffer.{body_words, counted, line_of, location_in, numbered_words};
+ghost use Rattle.ly_text_buffer.specs.TextBuffer.{quoted_words, Says};
 ghost use Rattle.ly_text_buffer.specs.TextBuffer.{SaysMore, SaysPrinted, spaced_words, symbol_words};
 
 use crate::named_file::NamedFile;

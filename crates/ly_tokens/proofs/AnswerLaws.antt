@@ -77,7 +77,8 @@ answer_one form limits others lex text e f answer other a b =
     let same = lex_text_one lex a.file b.file a.spelled b.spelled in
     let here : IsTokenOutput form (defined b.file.names) a.file.rules.items a.file.actions.items text e answer =
     subst (λ t. IsTokenOutput form (defined b.file.names) a.file.rules.items a.file.actions.items t e answer) a.is_text
-    (subst (λ names. IsTokenOutput form (defined names) a.file.rules.items a.file.actions.items a.text e answer) same.names
+    (subst (λ names. IsTokenOutput form
+    (defined names) a.file.rules.items a.file.actions.items a.text e answer) same.names
     a.is_answer)
     in
     let there : IsTokenOutput form (defined b.file.names) b.file.rules.items b.file.actions.items text f other =

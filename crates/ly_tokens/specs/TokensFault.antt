@@ -1,4 +1,5 @@
 -- How the errors of the parts become errors of `tokens`.
+use Rattle.std.specs.Prelude.{ℕ, None, Option, Some}
 use Rattle.ly_base.specs.Limits.{Sizes}
 use Rattle.ly_print.specs.declared.whole.ReadFault.{ReadFault}
 use Rattle.ly_print.specs.declared.whole.ReadFault.TheVariants as read
@@ -24,22 +25,12 @@ abbrev pub fault_of_read : ReadFault → TokensFault
 fault_of_read read.Read = Read
 fault_of_read read.OutOfMemory = OutOfMemory
 
--- Nothing was written: any error but a failed write.
-abbrev pub WroteNothing : TokensFault → Type 0
-WroteNothing (Write written) = ⊥
-WroteNothing _ = Unit {0}
-
 -- Nothing was read: the lex file is rejected, exceeds the weight limit, or its DFA has too many states.
 abbrev pub ReadNothing : TokensFault → Type 0
 ReadNothing (Lex fault) = Unit {0}
 ReadNothing (Positions fault) = Unit {0}
 ReadNothing (States fault) = Unit {0}
 ReadNothing _ = ⊥
-
--- a write failed
-abbrev pub IsFailedWrite : TokensFault → Type 0
-IsFailedWrite (Write written) = Unit {0}
-IsFailedWrite _ = ⊥
 
 -- what an error implies for a lex file that was read
 abbrev pub HasNoTokens : Sizes → LexFile → TokensFault → Type 0
@@ -53,3 +44,8 @@ abbrev pub IsOfOutput : TokensFault → Type 0
 IsOfOutput (Write written) = Unit {0}
 IsOfOutput OutOfMemory = Unit {0}
 IsOfOutput _ = ⊥
+
+-- the number of bytes written before the write that failed, if one did
+abbrev pub failed_write : TokensFault → Option ℕ
+failed_write (Write written) = Some written
+failed_write _ = None

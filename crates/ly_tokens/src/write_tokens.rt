@@ -1,7 +1,7 @@
 ghost use Rattle.std.specs.Prelude.{◌≡◌, ◌≢◌, ℕ, ◌<◌, ◌≤◌, List, length, map, take, Err, IfOk, IfErr, IsErrOf, OnOk};
 ghost use Rattle.std.specs.Io.KnownBytes.{Appends, IsAtEnd};
 ghost use Rattle.ly_ere.specs.Names.{defined};
-ghost use Rattle.ly_print.specs.Device.{next_count};
+ghost use Rattle.ly_print.specs.Device.{next_count, IsFailedWrite, WroteNothing};
 ghost use Rattle.ly_base.specs.Limits.{version_2};
 ghost use Rattle.ly_print.specs.TextWriter.{IsCutShort};
 ghost use Rattle.ly_print.specs.declared.answer_form.AnswerForm.TheVariants.{Json, Plain};
@@ -20,7 +20,7 @@ ghost use Rattle.ly_tokens.specs.Agreement.{Agrees};
 ghost use Rattle.ly_tokens.specs.Answering.{IsTokenOutput};
 ghost use Rattle.ly_tokens.specs.Answers.{Answers, AreTooHeavy, HaveTooManyStates};
 ghost use Rattle.ly_listing.specs.Listings.{end_of, LeavesTokens};
-ghost use Rattle.ly_tokens.specs.TokensFault.{HasNoTokens, ReadNothing, WroteNothing, IsOfOutput, IsFailedWrite};
+ghost use Rattle.ly_tokens.specs.TokensFault.{HasNoTokens, ReadNothing, IsOfOutput, failed_write};
 ghost use Rattle.ly_tokens.specs.Private.FileAnswers.{FileAnswers};
 ghost use Rattle.ly_tokens.specs.Private.RunEnd.{AreSetBelow};
 ghost use Rattle.ly_tokens.specs.Private.TokenLines.{is_passed};
@@ -71,10 +71,11 @@ pub fn tokens<R: Source, W: Sink>(
     ensures ended { OnOk result (IsAtEnd (R.remaining reader.new)) }
     ensures read { IsErrOf result TokensFault.Read → R.failures reader.new ≡ next_count (R.failures reader.old) }
     ensures reader_held { (IsErrOf result TokensFault.Read → ⊥) → R.failures reader.new ≡ R.failures reader.old }
-    ensures write { IfErr result (λ e. IsFailedWrite e → W.failures writer.new ≡ next_count (W.failures writer.old)) }
+    ensures write { IfErr result (λ e. IsFailedWrite (failed_write e)
+        → W.failures writer.new ≡ next_count (W.failures writer.old)) }
     ensures writer_held { OnOk result (W.failures writer.new ≡ W.failures writer.old) }
     ensures unread { IfErr result (λ e. ReadNothing e → reader.new ≡ reader.old) }
-    ensures untouched { IfErr result (λ e. WroteNothing e → writer.new ≡ writer.old) }
+    ensures untouched { IfErr result (λ e. WroteNothing (failed_write e) → writer.new ≡ writer.old) }
 {
     let limits = Limits::V2;
     let file = read_lex(alloc, lex, &limits)?;
@@ -101,10 +102,11 @@ fn write_answer<R: Source, W: Sink>(
     ensures ended { OnOk result (IsAtEnd (R.remaining reader.new)) }
     ensures read { IsErrOf result TokensFault.Read → R.failures reader.new ≡ next_count (R.failures reader.old) }
     ensures reader_held { (IsErrOf result TokensFault.Read → ⊥) → R.failures reader.new ≡ R.failures reader.old }
-    ensures write { IfErr result (λ e. IsFailedWrite e → W.failures writer.new ≡ next_count (W.failures writer.old)) }
+    ensures write { IfErr result (λ e. IsFailedWrite (failed_write e)
+        → W.failures writer.new ≡ next_count (W.failures writer.old)) }
     ensures writer_held { OnOk result (W.failures writer.new ≡ W.failures writer.old) }
     ensures unread { IfErr result (λ e. ReadNothing e → reader.new ≡ reader.old) }
-    ensures untouched { IfErr result (λ e. WroteNothing e → writer.new ≡ writer.old) }
+    ensures untouched { IfErr result (λ e. WroteNothing (failed_write e) → writer.new ≡ writer.old) }
 {
     let lexer = lexer_of(alloc, file, limits)?;
     let text = read_whole(alloc, reader)?;
@@ -132,9 +134,10 @@ fn write_answer_by<W: Sink>(
         × IsTokenOutput form (defined file.now.names) file.now.rules.items file.now.actions.items text.now e answer
         × IsCutShort (W.contents writer.old) (W.contents writer.new) written answer) }
     ensures of_output { IfErr result IsOfOutput }
-    ensures write { IfErr result (λ e. IsFailedWrite e → W.failures writer.new ≡ next_count (W.failures writer.old)) }
+    ensures write { IfErr result (λ e. IsFailedWrite (failed_write e)
+        → W.failures writer.new ≡ next_count (W.failures writer.old)) }
     ensures writer_held { OnOk result (W.failures writer.new ≡ W.failures writer.old) }
-    ensures untouched { IfErr result (λ e. WroteNothing e → writer.new ≡ writer.old) }
+    ensures untouched { IfErr result (λ e. WroteNothing (failed_write e) → writer.new ≡ writer.old) }
 {
     match form {
         AnswerForm::Plain => write_lines(alloc, file, lexer, text, writer),
@@ -162,9 +165,10 @@ fn write_lines<W: Sink>(
         × IsTokenOutput Plain (defined file.now.names) file.now.rules.items file.now.actions.items text.now e answer
         × IsCutShort (W.contents writer.old) (W.contents writer.new) written answer) }
     ensures of_output { IfErr result IsOfOutput }
-    ensures write { IfErr result (λ e. IsFailedWrite e → W.failures writer.new ≡ next_count (W.failures writer.old)) }
+    ensures write { IfErr result (λ e. IsFailedWrite (failed_write e)
+        → W.failures writer.new ≡ next_count (W.failures writer.old)) }
     ensures writer_held { OnOk result (W.failures writer.new ≡ W.failures writer.old) }
-    ensures untouched { IfErr result (λ e. WroteNothing e → writer.new ≡ writer.old) }
+    ensures untouched { IfErr result (λ e. WroteNothing (failed_write e) → writer.new ≡ writer.old) }
 {
     if !are_countable(&file.actions, text.len()) {
         return Err(TokensFault::OutOfMemory);
@@ -198,9 +202,10 @@ fn write_listing<W: Sink>(
         × IsTokenOutput Json (defined file.now.names) file.now.rules.items file.now.actions.items text.now e answer
         × IsCutShort (W.contents writer.old) (W.contents writer.new) written answer) }
     ensures of_output { IfErr result IsOfOutput }
-    ensures write { IfErr result (λ e. IsFailedWrite e → W.failures writer.new ≡ next_count (W.failures writer.old)) }
+    ensures write { IfErr result (λ e. IsFailedWrite (failed_write e)
+        → W.failures writer.new ≡ next_count (W.failures writer.old)) }
     ensures writer_held { OnOk result (W.failures writer.new ≡ W.failures writer.old) }
-    ensures untouched { IfErr result (λ e. WroteNothing e → writer.new ≡ writer.old) }
+    ensures untouched { IfErr result (λ e. WroteNothing (failed_write e) → writer.new ≡ writer.old) }
 {
     let labels = RuleLabels::new(alloc, &file.actions)?;
     let Listing { lines, end } = list_tokens(alloc, lexer, &labels, AnswerForm::Json, text)?;

@@ -94,7 +94,8 @@ short_seen f children n terminal start seen r h is same =
     )
 
 -- so is a long node
-pub long_node_seen : (texts : List ℕ) (long : List (Sym × List ℕ)) (spans : List NodeSpan) (rs : List TermRef) (f : Grown)
+pub long_node_seen : (texts : List ℕ) (long : List (Sym × List ℕ)) (spans : List NodeSpan) (rs : List TermRef)
+    (f : Grown)
     (children : List Term) (high low : ℕ) (s : NodeSpan) (r : TermRef) → grown (lists_from texts long spans) rs ≡ f
     → r ≡ LongNode high low → slice_get spans (number_of high low) ≡ Some s
     → term_of (record { lists = f.lists; children = children }) r ≡ node_over children s.count s.rule.0 s.start

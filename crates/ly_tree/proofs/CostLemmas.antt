@@ -89,7 +89,8 @@ node_pays ls rs cs qs f each byte v e =
     omega (arith, before, after, more)
 
 -- a long node more
-pub long_node_pays : (texts : List ℕ) (long : List (Sym × List ℕ)) (spans longer : List NodeSpan) (rs cs qs : List TermRef)
+pub long_node_pays : (texts : List ℕ) (long : List (Sym × List ℕ)) (spans longer : List NodeSpan)
+    (rs cs qs : List TermRef)
     (f : Grown) (s : NodeSpan) (each byte : ℕ) → AreKnown (lists_from texts long spans) [] rs
     → grown (lists_from texts long spans) rs ≡ f → AllKnown f qs → cs ≡ rs ++ qs → longer ≡ spans ++ s ∷ []
     → budget each byte (grown (lists_from texts long longer) cs) ≡ budget each byte f + each * length qs

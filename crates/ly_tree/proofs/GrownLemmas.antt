@@ -196,7 +196,8 @@ long_is texts long spans bs f high low l e is =
     ∙ (slice_get-map long_leaf long (number_of high low) ∙ ap (option_map long_leaf) is)
 
 -- reading a long node
-span_there : (ts : List Term) (spans : List NodeSpan) (k : ℕ) → IsSome (node_by ts (slice_get spans k)) → k < length spans
+span_there : (ts : List Term) (spans : List NodeSpan) (k : ℕ) → IsSome (node_by ts (slice_get spans k))
+    → k < length spans
 span_there ts spans k h = slice_get_inside spans k (there (slice_get spans k) h)
   where
     there : (o : Option NodeSpan) → IsSome (node_by ts o) → IsSome o
@@ -310,7 +311,8 @@ node_stands ls rs cs qs f n p s ts known v e start count stand =
     ∙ ap (λ us. Some (built p us)) (all_of_map g qs ∙ stand_unwrapped g qs ts kept))
 
 -- a long node more: its children, and then its span
-module _ (texts : List ℕ) (long : List (Sym × List ℕ)) (spans longer : List NodeSpan) (rs cs qs : List TermRef) (f : Grown)
+module _ (texts : List ℕ) (long : List (Sym × List ℕ)) (spans longer : List NodeSpan) (rs cs qs : List TermRef)
+    (f : Grown)
     (s : NodeSpan) (known : AreKnown (lists_from texts long spans) [] rs)
     (view : grown (lists_from texts long spans) rs ≡ f) (children : cs ≡ rs ++ qs)
     (last : longer ≡ spans ++ s ∷ []) where

@@ -78,7 +78,8 @@ children_of_bytes ls done (r ∷ rs) texts long all =
     (All-push IsOfBytes done (child_term ls done r) all
     (or_nothing (term_of f r) (λ t is. stands_of_bytes f texts long all r t is)))
 
-pub forest_of_bytes : (f : Grown) (texts : List ℕ) (long : List (Sym × List ℕ)) (spans : List NodeSpan) (rs : List TermRef)
+pub forest_of_bytes : (f : Grown) (texts : List ℕ) (long : List (Sym × List ℕ)) (spans : List NodeSpan)
+    (rs : List TermRef)
     → All IsByte texts → All (λ l. All IsByte l.1) long → grown (lists_from texts long spans) rs ≡ f
     → (r : TermRef) (t : Term) → term_of f r ≡ Some t → IsOfBytes t
 forest_of_bytes f texts long spans rs bytes all is =

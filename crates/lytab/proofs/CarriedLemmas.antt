@@ -19,7 +19,8 @@ use Rattle.lytab.specs.Answering.{AreTokensBegun, AreTokensPrinted, IsAnsweredBy
 use Rattle.lytab.specs.Answering.{IsBegunByFiles, IsBegunByTables, text_from}
 use Rattle.lytab.specs.CarriedOut.{Ends, WroteNothingOrPrefix, HasBuilt, IsCarriedOut, HasExplained, IsInputTaken}
 use Rattle.lytab.specs.CarriedOut.{lex_text, wanted_for}
-use Rattle.lytab.specs.Devices.{LineFailuresReported, WriteFailuresReported, UnchangedOrWriteFailed, OutputFailuresReported, DoneOrUnchanged, IsOutputAfter}
+use Rattle.lytab.specs.Devices.{LineFailuresReported, WriteFailuresReported, UnchangedOrWriteFailed}
+use Rattle.lytab.specs.Devices.{OutputFailuresReported, DoneOrUnchanged, IsOutputAfter}
 use Rattle.lytab.specs.Failure.{IsOfDevice, IsOfWriter, failure_of_file}
 use Rattle.lytab.specs.Files.{IsWrittenIf}
 use Rattle.lytab.specs.Lines.{AreLinesAnsweredBy, AreLinesFailed, AreLinesRead}
@@ -418,7 +419,8 @@ left_or_failed known old new before after f (inl left) = inl (left.0, ap known l
 left_or_failed known old new before after f (inr failed) = inr failed
 
 known_told : {W : Type 0} (known : W → Option (List ℕ)) (r : Result Completion Failure) (old new : W)
-    (before after : ℕ) → OutputFailuresReported r old new before after → OutputFailuresReported r (known old) (known new) before after
+    (before after : ℕ) → OutputFailuresReported r old new before after
+    → OutputFailuresReported r (known old) (known new) before after
 known_told known (Ok c) old new before after h = record { failed = tt; held = h.held }
 known_told known (Err f) old new before after h =
     record { failed = left_or_failed known old new before after f h.failed; held = h.held }

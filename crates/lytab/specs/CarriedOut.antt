@@ -214,12 +214,14 @@ IsCarriedOut contents (run_placed table_file text points) result e = (bytes : Li
 IsCarriedOut contents (try_placed lex yacc text points) result e = (lex_bytes yacc_bytes : List ℕ)
     × IfOk result (IsPlacedByFiles lex_bytes yacc_bytes (text_from text e.given) e.before e.after)
     × IfErr result (IsRefusalOfFiles lex_bytes yacc_bytes (text_from text e.given))
-    × WroteNothingOrPrefix result e (IsPlacingBegunByFiles lex_bytes yacc_bytes (text_from text e.given) e.before e.after)
+    × WroteNothingOrPrefix result e
+    (IsPlacingBegunByFiles lex_bytes yacc_bytes (text_from text e.given) e.before e.after)
     × IsInputTaken text result e (OnOk result (IsAtEnd e.left))
 IsCarriedOut contents (try lex yacc text by) result e = (lex_bytes yacc_bytes : List ℕ)
     × IfOk result (IsAnsweredByFiles by.form lex_bytes yacc_bytes (text_from text e.given) e.before e.after)
     × IfErr result (IsRefusalOfFiles lex_bytes yacc_bytes (text_from text e.given))
-    × WroteNothingOrPrefix result e (IsBegunByFiles by.form lex_bytes yacc_bytes (text_from text e.given) e.before e.after)
+    × WroteNothingOrPrefix result e
+    (IsBegunByFiles by.form lex_bytes yacc_bytes (text_from text e.given) e.before e.after)
     × IsInputTaken text result e (IsReadForFiles lex_bytes yacc_bytes result e)
 IsCarriedOut contents (build lex yacc table_file report version expected points) result e =
     DoneOrUnchanged result e.before e.after

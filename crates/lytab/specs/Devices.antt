@@ -29,7 +29,8 @@ UnchangedOrWriteFailed old new before after f =
     ((after ≡ before) × (new ≡ old)) ⊎ ((after ≡ next_count before) × IsOfWriter f)
 
 -- this holds if a command fails; if it succeeds, the count is unchanged
-pub record OutputFailuresReported {W : Type 0} (result : Result Completion Failure) (old new : W) (before after : ℕ) : Type 0
+pub record OutputFailuresReported {W : Type 0} (result : Result Completion Failure) (old new : W)
+    (before after : ℕ) : Type 0
   where
     pub failed : IfErr result (UnchangedOrWriteFailed old new before after)
     pub held : OnOk result (after ≡ before)

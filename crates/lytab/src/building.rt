@@ -37,7 +37,8 @@ pub fn build_tables<'a, F: Files, W: Sink>(
         (HasBuilt ⟦<Counted<F::File> as Sink>⟧.contents version_2 version paths.entry.report expected
         (W.contents output.old) (W.contents output.new) result) }
     ensures refused { IfErr result (IsRefusalOfBuild version expected) }
-    ensures devices { OutputFailuresReported result output.old output.new (W.failures output.old) (W.failures output.new) }
+    ensures devices { OutputFailuresReported result output.old output.new (W.failures output.old)
+        (W.failures output.new) }
 {
     let lex = read_file(files, alloc, paths.lex, notes)?;
     let yacc = read_file(files, alloc, paths.yacc, notes)?;

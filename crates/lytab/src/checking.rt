@@ -30,7 +30,8 @@ pub fn check_tables<'a, F: Files, W: Sink>(
     ensures checked { DoneOrUnchanged result (W.contents output.old) (W.contents output.new)
         (HasChecked form (W.contents output.old) (W.contents output.new) result) }
     ensures refused { IfErr result IsRefusalOfCheck }
-    ensures devices { OutputFailuresReported result output.old output.new (W.failures output.old) (W.failures output.new) }
+    ensures devices { OutputFailuresReported result output.old output.new (W.failures output.old)
+        (W.failures output.new) }
 {
     let bytes = read_file(files, alloc, path, notes)?;
     let (counts, version) = counts_of(alloc, &bytes)?;

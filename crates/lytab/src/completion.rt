@@ -73,7 +73,8 @@ impl Completion {
         ensures said { WroteAllOrPrefix result (W.contents output.old) (W.contents output.new) text.now }
         ensures completed { IfOk result (λ c. c ≡ self) }
         ensures failed { IfErr result IsOfDevice }
-        ensures devices { OutputFailuresReported result output.old output.new (W.failures output.old) (W.failures output.new) }
+        ensures devices { OutputFailuresReported result output.old output.new (W.failures output.old)
+            (W.failures output.new) }
     {
         match write_to(output, STANDARD, text) {
             Ok(()) => Ok(self),

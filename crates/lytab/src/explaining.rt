@@ -36,7 +36,8 @@ pub fn explain_files<'a, F: Files, W: Sink>(
         (HasExplained ⟦<Counted<F::File> as Sink>⟧.contents paths.entry.lex paths.entry.states
         paths.entry.graph strictness form (W.contents output.old) (W.contents output.new) result) }
     ensures failed { IfErr result IsOfDevice }
-    ensures devices { OutputFailuresReported result output.old output.new (W.failures output.old) (W.failures output.new) }
+    ensures devices { OutputFailuresReported result output.old output.new (W.failures output.old)
+        (W.failures output.new) }
 {
     let lex = read_if_named(files, alloc, paths.lex, notes)?;
     let yacc = read_or_say_why(files, alloc, paths.yacc, notes)?;

@@ -148,21 +148,23 @@ said_alone tables text s x driven (inl (t, placed, same)) = subst (IsSaidAlone t
   parts = sym (length_listed 0 (parts_of t));
   expected = refl;
 })
-said_alone tables text s x driven (inr (inl (syntax_error, said, same))) = subst (IsSaidAlone tables text) (sym same) (record {
-  old = (syntax_error_answer syntax_error).blocks;
-  parts_room = refl;
-  expected_room = refl;
-  parsed = (syntax_error, (s, driven, said), filled_of (expected_in syntax_error), refl, refl);
-  of_text = tt;
-  parts = needs_none syntax_error;
-  expected = as_many syntax_error;
-})
+said_alone tables text s x driven (inr (inl (syntax_error, said, same))) =
+    subst (IsSaidAlone tables text) (sym same) (record {
+      old = (syntax_error_answer syntax_error).blocks;
+      parts_room = refl;
+      expected_room = refl;
+      parsed = (syntax_error, (s, driven, said), filled_of (expected_in syntax_error), refl, refl);
+      of_text = tt;
+      parts = needs_none syntax_error;
+      expected = as_many syntax_error;
+    })
   where
     needs_none : (syntax_error : SyntaxError) → (syntax_error_answer syntax_error).report.needed ≡ 0
     needs_none (syntax_errors.Refused number token expected) = refl
     needs_none (syntax_errors.NoRule byte) = refl
 
-    as_many : (syntax_error : SyntaxError) → (syntax_error_answer syntax_error).report.expected ≡ length (expected_in syntax_error)
+    as_many : (syntax_error : SyntaxError)
+        → (syntax_error_answer syntax_error).report.expected ≡ length (expected_in syntax_error)
     as_many (syntax_errors.Refused number token expected) = sym (length-map expected.items (λ t. t.0))
     as_many (syntax_errors.NoRule byte) = refl
 said_alone tables text s x driven (inr (inr (said, same))) = subst (IsSaidAlone tables text) (sym same) (record {
@@ -197,8 +199,10 @@ pub found_parts : (s : TableSet) (text : List ℕ) (p : Parsed) (ps : Vec tree.P
 found_parts s text p ps same told =
     let is = subst (λ x. IsParsedAs text told.0 x) same told.2 in (is.0, is.2)
 
-pub found_syntax_error : (s : TableSet) (text : List ℕ) (p : Parsed) (syntax_error : SyntaxError) → p ≡ parsed.Refused syntax_error
-    → ((v : PlacedVerdict) × IsPlacedVerdict s text v × IsParsedAs text v p) → IsVerdict s text (verdict_of syntax_error)
+pub found_syntax_error : (s : TableSet) (text : List ℕ) (p : Parsed) (syntax_error : SyntaxError)
+    → p ≡ parsed.Refused syntax_error
+    → ((v : PlacedVerdict) × IsPlacedVerdict s text v × IsParsedAs text v p)
+    → IsVerdict s text (verdict_of syntax_error)
 found_syntax_error s text p syntax_error same told =
     plain_syntax_error s text told.0 syntax_error told.1 (subst (λ x. IsParsedAs text told.0 x) same told.2)
 

@@ -30,7 +30,8 @@ outcome_fits form tables text o answer fits h =
     let told = h.2 in fits_by h.0 text told.0 o fits told.1 told.2
 
 -- that of a flaw
-pub syntax_error_fits : (s : TableSet) (text : List ℕ) (syntax_error : SyntaxError) → length text < 2 ^ 64 → IsVerdict s text (verdict_of syntax_error)
+pub syntax_error_fits : (s : TableSet) (text : List ℕ) (syntax_error : SyntaxError) → length text < 2 ^ 64
+    → IsVerdict s text (verdict_of syntax_error)
     → FitsSyntaxError syntax_error
 syntax_error_fits s text (syntax_errors.Refused number token expected) fits is =
     let within = refused_within s text number (token_of token) (map (λ t. t.0) expected.items) is in

@@ -101,11 +101,15 @@ parsed_over s text tokens placed (Ok (parsed.Tree ps)) same (v, is, (t, accepted
 parsed_over s text tokens placed (Ok (parsed.Refused syntax_error)) same (v, is, plain) =
     by_verdict v syntax_error (subst (λ ts. IsPlacedTokenVerdict s text (map (token_over text) ts) v) same is) plain
   where
-    by_verdict : (v : PlacedVerdict) (syntax_error : SyntaxError) → IsPlacedTokenVerdict s text (given_over text tokens) v
-        → plain_of text v ≡ verdict_of syntax_error → IsTokenVerdict s text (given_over text tokens) (verdict_of syntax_error)
-    by_verdict (answer.accepted t) (syntax_errors.Refused number token expected) is plain = absurd (let no : ⊥ = cc in no)
+    by_verdict : (v : PlacedVerdict) (syntax_error : SyntaxError)
+        → IsPlacedTokenVerdict s text (given_over text tokens) v
+        → plain_of text v ≡ verdict_of syntax_error
+        → IsTokenVerdict s text (given_over text tokens) (verdict_of syntax_error)
+    by_verdict (answer.accepted t) (syntax_errors.Refused number token expected) is plain =
+        absurd (let no : ⊥ = cc in no)
     by_verdict (answer.accepted t) (syntax_errors.NoRule byte) is plain = absurd (let no : ⊥ = cc in no)
-    by_verdict (answer.refused k t ts) syntax_error is plain = subst (IsTokenVerdict s text (given_over text tokens)) plain is
+    by_verdict (answer.refused k t ts) syntax_error is plain =
+        subst (IsTokenVerdict s text (given_over text tokens)) plain is
     by_verdict (answer.unmatched byte) syntax_error is plain = absurd is
     by_verdict answer.faulty (syntax_errors.Refused number token expected) is plain = absurd (let no : ⊥ = cc in no)
     by_verdict answer.faulty (syntax_errors.NoRule byte) is plain = absurd (let no : ⊥ = cc in no)
@@ -161,7 +165,8 @@ given_within terminals text (t ∷ ts) h =
     )
 
 -- so a refused one does
-pub token_syntax_error_fits : (s : TableSet) (text : List ℕ) (tokens : List Token) (syntax_error : SyntaxError) → length text < 2 ^ 64
+pub token_syntax_error_fits : (s : TableSet) (text : List ℕ) (tokens : List Token) (syntax_error : SyntaxError)
+    → length text < 2 ^ 64
     → All (λ t. IsTokenOver (length s.terminals) (length text) (placed_from t)) tokens
     → IsTokenVerdict s text (given_over text tokens) (verdict_of syntax_error) → FitsSyntaxError syntax_error
 token_syntax_error_fits s text tokens (syntax_errors.Refused number token expected) fits right is =

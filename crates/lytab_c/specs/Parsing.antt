@@ -54,7 +54,8 @@ IsTreeOf tables text t = (s : TableSet) × IsDriven tables s × IsPlacedBy s tex
 
 -- Such a set gives for the text this syntax error.
 abbrev pub IsSyntaxErrorOf : List ℕ → List ℕ → SyntaxError → Type 0
-IsSyntaxErrorOf tables text syntax_error = (s : TableSet) × IsDriven tables s × IsVerdict s text (verdict_of syntax_error)
+IsSyntaxErrorOf tables text syntax_error = (s : TableSet) × IsDriven tables s
+    × IsVerdict s text (verdict_of syntax_error)
 
 -- the numbers of the expected terminals of a syntax error
 abbrev pub expected_in : SyntaxError → List ℕ
@@ -70,14 +71,18 @@ pub record ParseBlocks : Type 0 where
 -- tables fail on it. It has a tree, whose parts are in the block of parts. Or it has a syntax error, and as many
 -- expected terminals are in the other block as it holds. Or the tables are rejected or fail. Or memory ran out. Or it
 -- has a tree, and the block is too short for its parts. Whatever isn't written is unchanged.
-abbrev pub IsReported : (Placed → Type 0) → (SyntaxError → Type 0) → (DriveFault → Type 0) → ParseBlocks → ParseBlocks → Report
+abbrev pub IsReported : (Placed → Type 0) → (SyntaxError → Type 0) → (DriveFault → Type 0) → ParseBlocks
+    → ParseBlocks → Report
     → Status → Type 0
 IsReported IsTree IsSyntaxError IsFault old new report Done = (t : Placed) × IsTree t
     × IsPut (listed 0 (parts_of t)) old.parts new.parts × (report ≡ needing (length (parts_of t)))
     × (new.expected ≡ old.expected)
-IsReported IsTree IsSyntaxError IsFault old new report Refused = (syntax_error : SyntaxError) × IsSyntaxError syntax_error
-    × IsFilled (expected_in syntax_error) old.expected new.expected × (report ≡ syntax_error_report syntax_error) × (new.parts ≡ old.parts)
-IsReported IsTree IsSyntaxError IsFault old new report Fault = (fault : DriveFault) × IsFault fault × TellsFault fault report
+IsReported IsTree IsSyntaxError IsFault old new report Refused = (syntax_error : SyntaxError)
+    × IsSyntaxError syntax_error
+    × IsFilled (expected_in syntax_error) old.expected new.expected × (report ≡ syntax_error_report syntax_error)
+    × (new.parts ≡ old.parts)
+IsReported IsTree IsSyntaxError IsFault old new report Fault = (fault : DriveFault) × IsFault fault
+    × TellsFault fault report
     × (new ≡ old)
 IsReported IsTree IsSyntaxError IsFault old new report Memory = (report ≡ nothing_told) × (new ≡ old)
 IsReported IsTree IsSyntaxError IsFault old new report Misused = ⊥

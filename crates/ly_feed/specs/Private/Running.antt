@@ -58,7 +58,8 @@ IsTaken ended p m w t r Over = ⊥
 -- the flaw names the token of a lexeme, the number behind those that a parse has read, and what is expected in its
 -- place
 abbrev pub IsRefusalAt : ScanPart → Place → Lexeme → Parse → SyntaxError → Type 0
-IsRefusalAt p q t r syntax_error = (token : Token ℕ) × (ts : List ℕ) × IsTokenAt p q t token × AreExpected r.machine r.asked ts
+IsRefusalAt p q t r syntax_error = (token : Token ℕ) × (ts : List ℕ) × IsTokenAt p q t token
+    × AreExpected r.machine r.asked ts
     × (verdict_of syntax_error ≡ refused (r.count + 1) token ts)
 
 -- a run halts at a place where the next match isn't decided, or at the end of the text

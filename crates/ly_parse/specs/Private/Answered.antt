@@ -6,7 +6,8 @@ use Rattle.ly_parse.specs.Parse.{Parse}
 use Rattle.ly_parse.specs.Private.Before.{before_on, IsNoteOf}
 use Rattle.ly_parse.specs.Private.Stack.{FeedAlike, FeedAs, IsAccepted, IsRefusedWith}
 use Rattle.ly_parse.specs.declared.token_outcome.TokenOutcome.{TokenOutcome}
-use Rattle.ly_parse.specs.declared.token_outcome.TokenOutcome.TheVariants.{Accepts, OutOfMemory, Over, Reads, Refuses, FaultyTables}
+use Rattle.ly_parse.specs.declared.token_outcome.TokenOutcome.TheVariants.{Accepts, OutOfMemory, Over, Reads, Refuses}
+use Rattle.ly_parse.specs.declared.token_outcome.TokenOutcome.TheVariants.{FaultyTables}
 use Rattle.ly_parse.specs.declared.before.Before.{Before}
 use Rattle.ly_parse.specs.declared.fault.ParseFault.{ParseFault}
 use Rattle.ly_parse.specs.declared.fault.ParseFault.TheVariants as fault

@@ -53,7 +53,8 @@ fault_answer = record { status = Fault; report = at_fault 90 0; blocks = record 
 -- a set says this of a text
 abbrev pub IsAnswerBy : TableSet → List ℕ → TextAnswer → Type 0
 IsAnswerBy s text x = ((t : Placed) × IsPlacedBy s text t × (x ≡ tree_answer (parts_of t)))
-    ⊎ (((syntax_error : SyntaxError) × IsVerdict s text (verdict_of syntax_error) × (x ≡ syntax_error_answer syntax_error))
+    ⊎ (((syntax_error : SyntaxError) × IsVerdict s text (verdict_of syntax_error)
+    × (x ≡ syntax_error_answer syntax_error))
     ⊎ (IsVerdict s text faulty × (x ≡ fault_answer)))
 
 -- it says these of texts

@@ -102,7 +102,8 @@ ArePartsPut parts old new report _ = ⊥
 
 -- what is wrong with a text is told, with the terminals that are expected
 abbrev pub IsSyntaxErrorPut : SyntaxError → List ℕ → List ℕ → Report → Status → Type 0
-IsSyntaxErrorPut syntax_error old new report Refused = IsFilled (expected_in syntax_error) old new × (report ≡ syntax_error_report syntax_error)
+IsSyntaxErrorPut syntax_error old new report Refused = IsFilled (expected_in syntax_error) old new
+    × (report ≡ syntax_error_report syntax_error)
 IsSyntaxErrorPut syntax_error old new report _ = ⊥
 
 -- each part ends among so many, where the first of these has this index

@@ -24,7 +24,8 @@ use Rattle.lytab_c.specs.declared.token.Token.{Token}
 abbrev pub IsParsedOver : TableSet → List ℕ → List Token → Parsed → Type 0
 IsParsedOver s text tokens (parsed.Tree parts) = (t : Placed) × IsPlacedOver s text (given_over text tokens) t
     × (parts.items ≡ parts_of t)
-IsParsedOver s text tokens (parsed.Refused syntax_error) = IsTokenVerdict s text (given_over text tokens) (verdict_of syntax_error)
+IsParsedOver s text tokens (parsed.Refused syntax_error) =
+    IsTokenVerdict s text (given_over text tokens) (verdict_of syntax_error)
 
 -- it is at fault on them; want of memory says nothing
 abbrev pub IsFaultOver : TableSet → List ℕ → List Token → TextFault → Type 0
@@ -42,5 +43,6 @@ abbrev pub AreTokensSaid : TableSet → List ℕ → List Token → ParseBlocks 
 AreTokensSaid s text tokens old new report Misused = (number : ℕ)
     × IsFirstWrong (length s.terminals) (length text) tokens number × (report ≡ numbering number) × (new ≡ old)
 AreTokensSaid s text tokens old new report status = IsReported (IsPlacedOver s text (given_over text tokens))
-    (λ syntax_error. IsTokenVerdict s text (given_over text tokens) (verdict_of syntax_error)) (IsDriveFaultOver s text tokens) old new
+    (λ syntax_error. IsTokenVerdict s text (given_over text tokens) (verdict_of syntax_error))
+    (IsDriveFaultOver s text tokens) old new
     report status

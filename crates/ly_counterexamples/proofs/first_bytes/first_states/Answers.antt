@@ -3,7 +3,8 @@ use Rattle.std.proofs.lemmas.Bool.{iff_false}
 use Rattle.ly_counterexamples.specs.Private.FirstBytes.{AreFirstBefore, HasFirst}
 use Rattle.ly_counterexamples.proofs.FirstByteLemmas.{first_row_more, first_row_same, no_first_rows}
 use Rattle.ly_counterexamples.proofs.first_bytes.first_states.Goals as goal
-use Rattle.ly_counterexamples.proofs.first_bytes.first_states.Goals.{else-returns_first, then-returns_first+in_ok-insert}
+use Rattle.ly_counterexamples.proofs.first_bytes.first_states.Goals.{else-returns_first}
+use Rattle.ly_counterexamples.proofs.first_bytes.first_states.Goals.{then-returns_first+in_ok-insert}
 
 pub loop-state-init : goal.loop-state-init
 loop-state-init c = no_first_rows c.args.actions.now c.args.dfa.now c.in_ok-sets.sets c.len.result c.len.ensures.count

@@ -13,7 +13,8 @@ use Rattle.ly_lr0.specs.Automaton.{IsLr0Automaton, Lr0Automaton, Reaches, goto_o
 use Rattle.ly_counterexamples.specs.Moves.{Lead, Move, shifted}
 use Rattle.ly_counterexamples.specs.Private.Leftmost.{move_from, moves_from}
 use Rattle.ly_counterexamples.specs.Private.Parses.{IsNext, LeadNowhere, ReachesNone, string_of}
-use Rattle.ly_counterexamples.proofs.BothLemmas.{are_both, is_one, is_other, lead_there, next_is, reaches_one, reaches_some}
+use Rattle.ly_counterexamples.proofs.BothLemmas.{are_both, is_one, is_other, lead_there, next_is, reaches_one}
+use Rattle.ly_counterexamples.proofs.BothLemmas.{reaches_some}
 use Rattle.ly_counterexamples.proofs.BothLemmas.{take_them}
 use Rattle.ly_counterexamples.proofs.sentences.take_both.Goals as goal
 

@@ -6,7 +6,8 @@ use Rattle.ly_counterexamples.specs.Private.Unmarked.{IsLiteralAt}
 use Rattle.ly_counterexamples.proofs.MarkLemmas.{added_as, step_added, step_nothing}
 use Rattle.ly_counterexamples.proofs.UnmarkedLemmas.{literal_step, literals_marked, no_literal, no_literal_step}
 use Rattle.ly_counterexamples.proofs.unreturned.mark_literals.Goals as goal
-use Rattle.ly_counterexamples.proofs.unreturned.mark_literals.Goals.{in-Literal+then-has, in-Literal+else-has, in_default}
+use Rattle.ly_counterexamples.proofs.unreturned.mark_literals.Goals.{in-Literal+then-has, in-Literal+else-has}
+use Rattle.ly_counterexamples.proofs.unreturned.mark_literals.Goals.{in_default}
 
 pub loop-number-preserved : goal.loop-number-preserved
 loop-number-preserved c =

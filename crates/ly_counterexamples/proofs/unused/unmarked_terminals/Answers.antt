@@ -8,7 +8,8 @@ use Rattle.ly_counterexamples.specs.Private.Unmarked.{IsUnmarked}
 use Rattle.ly_counterexamples.proofs.RisingLemmas.{rising_all, rising_more, rising_same}
 use Rattle.ly_counterexamples.proofs.UnmarkedLemmas.{named_at, unmarked_below}
 use Rattle.ly_counterexamples.proofs.unused.unmarked_terminals.Goals as goal
-use Rattle.ly_counterexamples.proofs.unused.unmarked_terminals.Goals.{else-is_named, then-is_named+then-not-has+in_ok-push}
+use Rattle.ly_counterexamples.proofs.unused.unmarked_terminals.Goals.{else-is_named}
+use Rattle.ly_counterexamples.proofs.unused.unmarked_terminals.Goals.{then-is_named+then-not-has+in_ok-push}
 use Rattle.ly_counterexamples.proofs.unused.unmarked_terminals.Goals.{else-is_named-via-else-is_named}
 use Rattle.ly_counterexamples.proofs.unused.unmarked_terminals.Goals.{else-is_named-via-then-is_named+else-not-has}
 

@@ -12,7 +12,8 @@ returns-in-Refused c =
     let v = words_of c.args.names.now in
     let syntax_error = c.in-Refused in
     subst (λ (bytes : List ℕ). IfOk c.refused_line.result (λ line. line.items ≡ bytes))
-    (ap (λ ts. json_refused_with v syntax_error.number (token_of syntax_error.token) [] (map (λ t. t.0) ts)) c.deref.ensures.value
+    (ap (λ ts. json_refused_with v syntax_error.number (token_of syntax_error.token) []
+    (map (λ t. t.0) ts)) c.deref.ensures.value
     ∙ (refused_without v syntax_error.number (token_of syntax_error.token) (map (λ t. t.0) syntax_error.expected.items)
     ∙ ap (λ f. json_printed v (verdict_of f)) (sym syntax_error.is)))
     c.refused_line.ensures

@@ -15,7 +15,8 @@ returns-in_err-place-clause-closed c = closed_fault (scan_part_of c.args.set.now
 pub returns-in-Stopped-clause-closed : goal.returns-in-Stopped-clause-closed
 returns-in-Stopped-clause-closed c = closed_by (scan_part_of c.args.set.now) c.args.parser.now.machine
     (progress_of c.args.place c.args.parser.now) c.run_on.new.parser
-    c.run_on.new.parser.forest c.in_ok-place.field-0 c.in-Stopped.syntax_error c.in_ok-place.ensures.runs c.in-Stopped.is
+    c.run_on.new.parser.forest c.in_ok-place.field-0 c.in-Stopped.syntax_error c.in_ok-place.ensures.runs
+    c.in-Stopped.is
 
 pub returns-in-At-clause-closed : goal.returns-in-At-clause-closed
 returns-in-At-clause-closed c =

@@ -31,13 +31,15 @@ returns-in-Refused c =
     syntax_error_told c.refused_line.result (λ line. line.items) s text v (verdict_of c.args.syntax_error.now)
     (subst (λ f. IsVerdict s text (verdict_of f)) syntax_error.is c.requires) (ap verdict_of (sym syntax_error.is))
     (subst (λ es. IfOk c.refused_line.result (λ line. line.items ≡ placed_line (vocabulary_of s) text
-    (refused syntax_error.number (token_of syntax_error.token) (map (λ t. t.0) es)))) c.deref.ensures.value c.refused_line.ensures)
+    (refused syntax_error.number (token_of syntax_error.token) (map (λ t. t.0) es)))) c.deref.ensures.value
+    c.refused_line.ensures)
 
 pub returns-in-NoRule : goal.returns-in-NoRule
 returns-in-NoRule c =
     let s = c.args.set.now in
     let text = c.args.text.now in
     let syntax_error = c.in-NoRule in
-    syntax_error_told c.unmatched_line.result (λ line. line.items) s text (unmatched syntax_error.byte) (verdict_of c.args.syntax_error.now)
+    syntax_error_told c.unmatched_line.result (λ line. line.items) s text (unmatched syntax_error.byte)
+    (verdict_of c.args.syntax_error.now)
     (subst (λ f. IsVerdict s text (verdict_of f)) syntax_error.is c.requires) (ap verdict_of (sym syntax_error.is))
     (c.unmatched_line.ensures (vocabulary_of s))

@@ -1,6 +1,7 @@
 use Rattle.std.proofs.Common.{◌∙◌, [], ap, length, map, refl, subst}
 use Rattle.std.specs.Prelude.{Ok}
-use Rattle.ly_places.proofs.TokenLemmas.{end_derived, end_err_told, end_syntax_error_told, syntax_error_told, none_refused}
+use Rattle.ly_places.proofs.TokenLemmas.{end_derived, end_err_told, end_syntax_error_told, syntax_error_told}
+use Rattle.ly_places.proofs.TokenLemmas.{none_refused}
 use Rattle.ly_places.proofs.TokenLemmas.{read_err_told, same_extents}
 use Rattle.ly_places.specs.Private.TokenDerived.{AreReadOver, IsEndRead}
 use Rattle.ly_parse.specs.Reading.{ReadsTokens}
@@ -33,7 +34,8 @@ returns-in_err-root c =
     let read = none_refused parser.result.machine tokens p c.in_ok-syntax_error.field-0 c.in_default.not-Some
     c.in_ok-syntax_error.ensures.read in
     end_err_told c.args.set.now c.args.text.now parser.ensures.machine tokens p
-    (subst (λ k. ReadsTokens k [] tokens p.stack) machine read.0) (c.in_ok-syntax_error.ensures.machine ∙ machine) read.1
+    (subst (λ k. ReadsTokens k [] tokens p.stack) machine read.0) (c.in_ok-syntax_error.ensures.machine
+    ∙ machine) read.1
     c.read_end.new.parser.forest c.in_err-root.field-0.0 c.from_residual-in_err-root.result c.in_err-root.ensures
     c.from_residual-in_err-root.ensures.1
 
@@ -46,7 +48,8 @@ returns-in-Accepted c =
     let read = none_refused parser.result.machine tokens p c.in_ok-syntax_error.field-0 c.in_default.not-Some
     c.in_ok-syntax_error.ensures.read in
     end_derived c.args.set.now c.args.text.now parser.ensures.machine tokens p
-    (subst (λ k. ReadsTokens k [] tokens p.stack) machine read.0) (c.in_ok-syntax_error.ensures.machine ∙ machine) read.1
+    (subst (λ k. ReadsTokens k [] tokens p.stack) machine read.0) (c.in_ok-syntax_error.ensures.machine
+    ∙ machine) read.1
     c.read_end.new.parser.forest c.in-Accepted.root _ (map (λ t. t.extent) c.args.tokens.now)
     (subst (λ e. IsEndRead p c.args.text.now c.read_end.new.parser.forest (Ok e)) c.in-Accepted.is
     c.in_ok-root.ensures) c.into_forest.ensures refl c.in_ok-tokens-in-Accepted.ensures
@@ -61,7 +64,8 @@ returns c =
     let read = none_refused parser.result.machine tokens p c.in_ok-syntax_error.field-0 c.in_default.not-Some
     c.in_ok-syntax_error.ensures.read in
     end_syntax_error_told c.args.set.now c.args.text.now parser.ensures.machine tokens p
-    (subst (λ k. ReadsTokens k [] tokens p.stack) machine read.0) (c.in_ok-syntax_error.ensures.machine ∙ machine) read.1
+    (subst (λ k. ReadsTokens k [] tokens p.stack) machine read.0) (c.in_ok-syntax_error.ensures.machine
+    ∙ machine) read.1
     c.read_end.new.parser.forest c.in-Refused.syntax_error
     (subst (λ e. IsEndRead p c.args.text.now c.read_end.new.parser.forest (Ok e)) c.in-Refused.is
     c.in_ok-root.ensures)

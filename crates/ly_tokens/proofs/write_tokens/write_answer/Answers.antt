@@ -34,7 +34,8 @@ file_answers form limits file left text given e answer within few is_text same i
   few = few;
   text = text;
   is_text = is_text;
-  is_answer = subst (λ t. IsTokenOutput form (defined file.names) file.rules.items file.actions.items t e answer) same is;
+  is_answer = subst (λ t. IsTokenOutput form
+      (defined file.names) file.rules.items file.actions.items t e answer) same is;
 }
 
 pub returns-clause-answered : goal.returns-clause-answered

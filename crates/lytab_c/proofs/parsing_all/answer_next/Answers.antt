@@ -23,7 +23,9 @@ push_syntax_error-requires c =
 pub returns-in-Ok-Refused : goal.returns-in-Ok-Refused
 returns-in-Ok-Refused c xs held =
     let syntax_error = c.in-Ok-Refused.syntax_error in
-    let is = found_syntax_error c.args.parser.now c.args.text.now c.in-Ok-Refused.field-0 syntax_error c.in-Ok-Refused.field-0-is
+    let is = found_syntax_error c.args.parser.now c.args.text.now c.in-Ok-Refused.field-0 syntax_error
+    c.in-Ok-Refused.field-0-is
     c.in-Ok-Refused.ensures.parsed in
-    with_answer c.push_syntax_error.result c.args.parser.now c.args.text.now xs (syntax_error_answer syntax_error) c.push_syntax_error.new.self
+    with_answer c.push_syntax_error.result c.args.parser.now c.args.text.now xs
+    (syntax_error_answer syntax_error) c.push_syntax_error.new.self
     (inr (inl (syntax_error, is, refl))) (c.push_syntax_error.ensures xs held)

@@ -7,7 +7,8 @@ use Rattle.ly_counterexamples.specs.declared.steps.Pop.{Pop}
 use Rattle.ly_counterexamples.specs.declared.halt.Halt.TheVariants.{TooMany}
 use Rattle.ly_counterexamples.specs.Private.Searches.{automaton_of}
 use Rattle.ly_counterexamples.proofs.SearchLemmas.{allowed_before, found_on, stays_among}
-use Rattle.ly_counterexamples.proofs.UnderwayLemmas.{each_more, no_pop, not_too_many, pop_next, pop_next_kept, popped_all}
+use Rattle.ly_counterexamples.proofs.UnderwayLemmas.{each_more, no_pop, not_too_many, pop_next, pop_next_kept}
+use Rattle.ly_counterexamples.proofs.UnderwayLemmas.{popped_all}
 use Rattle.ly_counterexamples.proofs.UnderwayLemmas.{still_err}
 use Rattle.ly_counterexamples.proofs.search.Search.pop.Goals as goal
 
