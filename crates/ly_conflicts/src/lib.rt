@@ -1,7 +1,8 @@
 //! Groups the conflicts of an accepted grammar, and prints each group with its counterexample, derivations and a
 //! suggestion: `write_conflicts`.
 //!
-//! Conflicts of one state that differ only in the terminal, and have similar counterexamples, are a group (`AreGroups`).
+//! Conflicts of one state that differ only in the terminal, and have similar counterexamples, form a group
+//! (`AreGroups`).
 //! The content of the first 100 groups is proved before it is put into words (`AreGroupReports`): the conflict, all its
 //! terminals, and a counterexample, or that there is none, or that the search was given up; and an ambiguous sentence
 //! with its two trees. The counterexamples are those of `ly_counterexamples`.
