@@ -12,7 +12,7 @@ pub enum ReportingFault {
     #[error("{0}")]
     Files(GenFault),
     /// The writer failed in this call. Exactly the first `written` bytes of the report were written.
-    #[error("the report could not be written after {written} bytes")]
+    #[error("writing failed after {written} bytes")]
     Write {
         /// How many bytes were written.
         written: usize,

@@ -27,57 +27,57 @@ pub enum EreFault {
 #[derive(Clone, Copy, Debug, PartialEq, Eq, Error)]
 pub enum EreFaultKind {
     /// A pattern, branch, group, head or tail is empty. Reported at the byte where an expression is missing.
-    #[error("something is empty that has to hold an expression")]
+    #[error("empty expression")]
     Empty,
     /// A string isn't closed by the end of the line. Reported at its opening quote.
-    #[error("the closing quote is missing")]
+    #[error("missing closing quote")]
     UnclosedQuote,
     /// A bracket expression isn't closed by the end of the line. Reported at its `[`.
-    #[error("the closing bracket is missing")]
+    #[error("missing closing bracket")]
     UnclosedBracket,
     /// A group isn't closed by the end of the line. Reported at the `(` of the innermost one.
-    #[error("the closing parenthesis is missing")]
+    #[error("missing closing parenthesis")]
     UnclosedGroup,
     /// An operator without operand, `*`, `+` or `?` after an interval, `)` without `(`, a backslash at the end, or `/`
     /// where no trailing context is allowed. Reported at this byte.
-    #[error("an operator where none may stand")]
+    #[error("misplaced operator")]
     StrayOperator,
     /// A range that runs backwards, ends in a class or `[=c=]`, or directly follows a range or class. Reported at its
     /// start.
-    #[error("not a range")]
+    #[error("invalid range")]
     BadRange,
     /// A bracket expression that matches no byte. Reported at its `[`.
-    #[error("a bracket expression without a byte")]
+    #[error("empty bracket expression")]
     EmptySet,
     /// An unknown class, or `[. .]` or `[= =]` with other than one character. Reported at its `[`.
-    #[error("not a character class")]
+    #[error("unknown character class")]
     UnknownClass,
     /// An interval that has none of the three forms, a bound above 255, or a greater lower bound. Reported at its `{`.
-    #[error("not an interval")]
+    #[error("invalid interval")]
     BadInterval,
     /// An escape with a value above 255. Reported at its backslash.
-    #[error("an escape above 255")]
+    #[error("escape above 255")]
     EscapeTooLarge,
     /// A name in braces that is undefined, or that no `}` closes. Reported at its `{`.
-    #[error("a name that isn't defined")]
+    #[error("undefined name")]
     UnknownName,
     /// A definition that leads into a cycle of names. Reported at the start of its expression.
-    #[error("a cycle of names")]
+    #[error("cyclic definition")]
     NameCycle,
     /// A `^` that isn't at the start, or a `$` that isn't at the end. Reported at this byte.
-    #[error("an anchor inside the pattern")]
+    #[error("misplaced anchor")]
     AnchorInside,
     /// A second `/`, or a `/` and a `$`. Reported at the second of them.
-    #[error("a second trailing context")]
+    #[error("second trailing context")]
     TrailingTwice,
     /// Neither the head nor the tail has one length. Reported at the `/` or `$`.
-    #[error("neither side of the trailing context has one length")]
+    #[error("neither side of the trailing context has a fixed length")]
     TrailingBothVary,
     /// The head before a `/` or `$` matches the empty string. Reported at the `/` or `$`.
-    #[error("the trailing context follows what may be empty")]
+    #[error("trailing context after a pattern that may be empty")]
     TrailingHeadEmpty,
     /// The weight is above the limit. Reported at the start of the pattern or expression.
-    #[error("too heavy")]
+    #[error("pattern too large")]
     TooHeavy,
 }
 

@@ -12,10 +12,10 @@ use thiserror::Error;
 pub enum FeedFault {
     /// The tables are faulty for this text: a goto is missing, a body extends past the bottom of the stack, they accept
     /// without a tree, or a trailing context leaves no byte or more than its match has. Never for generated tables.
-    #[error("the tables are at fault")]
+    #[error("the tables are faulty")]
     FaultyTables,
     /// The feed had ended before the call, which changed nothing.
-    #[error("the text is answered")]
+    #[error("the feed has ended")]
     Over,
     /// More than 2^64-1 bytes have come, including those already dropped. This is checked before memory is allocated.
     #[error("the text is too long")]

@@ -13,7 +13,7 @@ pub enum TextFault {
     /// The tables are faulty for this text: a goto is missing, a body extends past the bottom of the stack, they accept
     /// without a tree, or a trailing context leaves no byte or more than its match has. Never for generated tables.
     /// Nothing was written.
-    #[error("the tables are at fault")]
+    #[error("the tables are faulty")]
     FaultyTables,
     /// More than 2^64-1 bytes have come, and the result wasn't known by then. Nothing was written.
     #[error("the text is too long")]
@@ -22,7 +22,7 @@ pub enum TextFault {
     #[error("the text could not be read")]
     Read,
     /// The writer failed in this call. Exactly the first `written` bytes of the result were written.
-    #[error("the answer could not be written after {written} bytes")]
+    #[error("writing failed after {written} bytes")]
     Write {
         /// The number of bytes written.
         written: usize,

@@ -44,7 +44,7 @@ pub enum GenFault {
     #[error("{0}")]
     Automaton(Lr0Fault),
     /// A run of the parser's tables makes too many reductions before a token is shifted. This is the first such run.
-    #[error("a run of the parser makes too many reductions")]
+    #[error("the parser may reduce without end")]
     Endless {
         /// The state below the top of the stack.
         below: StateNo,

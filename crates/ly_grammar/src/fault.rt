@@ -9,7 +9,7 @@ use thiserror::Error;
 #[derive(Clone, Copy, Debug, PartialEq, Eq, Error)]
 pub enum GrammarFault {
     /// The start symbol has no tree, so there is no sentence.
-    #[error("the start symbol derives no text")]
+    #[error("the start symbol derives no sentence")]
     StartUnproductive,
     /// Out of memory.
     #[error("out of memory")]

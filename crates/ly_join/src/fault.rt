@@ -11,28 +11,28 @@ use thiserror::Error;
 #[derive(Debug, Drop, Error)]
 pub enum JoinFault {
     /// A symbol of a body that is neither a token nor the left side of a rule.
-    #[error("a symbol that no declaration and no left side names")]
+    #[error("undefined symbol")]
     UndefinedSymbol(Vec<u8>),
     /// The left side of a rule that is a token.
-    #[error("a token on the left side of a rule")]
+    #[error("token on the left side of a rule")]
     TokenOnLeft(Vec<u8>),
     /// A token with two precedences, from two declarations or from one.
-    #[error("a second precedence for a token")]
+    #[error("second precedence for a token")]
     PrecedenceTwice(TerminalName),
     /// The name after `%start`, which is no left side.
-    #[error("a start symbol without rules")]
+    #[error("start symbol without rules")]
     UnknownStart(Vec<u8>),
     /// A name that an action of the lex file returns and that is no token.
-    #[error("a returned name that is no token")]
+    #[error("returned name isn't a token")]
     ReturnUndeclared(Vec<u8>),
     /// The name after a `%prec`, which is no token.
-    #[error("a name behind %prec that is no token")]
+    #[error("name after %prec isn't a token")]
     PrecUnknown(Vec<u8>),
     /// The yacc file has no rules.
     #[error("no rules")]
     NoRules,
     /// A count is above its limit.
-    #[error("a count above its limit")]
+    #[error("limit exceeded")]
     LimitPassed {
         /// The limit that is exceeded.
         which: Limit,

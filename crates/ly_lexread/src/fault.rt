@@ -32,24 +32,24 @@ pub enum LexFaultKind {
     /// A line that isn't a definition is reported at the first byte that doesn't fit, or at its first byte if its name
     /// is wrong. A duplicate definition is reported at its name. A block or a comment that isn't closed is reported
     /// where it opens.
-    #[error("not a definition")]
+    #[error("invalid definition")]
     BadDefinition,
     /// An undeclared condition is reported at its name. A malformed list of conditions is reported at its `<`.
-    #[error("a condition that isn't declared")]
+    #[error("undeclared start condition")]
     UnknownCondition,
     /// A condition that is declared a second time, or `INITIAL`. Reported at its name.
-    #[error("a condition declared twice")]
+    #[error("start condition declared twice")]
     ConditionTwice,
     /// What follows a pattern isn't an action. Reported at the erroneous word, or where one is missing. Braces that
     /// aren't closed are reported at the last byte of the file.
-    #[error("not an action")]
+    #[error("unsupported action")]
     BadAction,
     /// The last rule has the action `|`, but no rule follows. Reported at its `|`.
-    #[error("no rule follows a |")]
+    #[error("no rule after the action |")]
     BarAtEnd,
     /// A pattern or the expression of a definition is rejected: error 26, which is printed with the number and name of
     /// the error of the expression.
-    #[error("not a pattern: {0}")]
+    #[error("invalid pattern: {0}")]
     Pattern(EreFaultKind),
 }
 

@@ -9,7 +9,7 @@ use thiserror::Error;
 #[derive(Clone, Copy, Debug, PartialEq, Eq, Error)]
 pub enum LoopFault {
     /// The run of an edge on a terminal makes more reductions than are allowed. It is the first such run.
-    #[error("a run of the parser makes too many reductions")]
+    #[error("the parser may reduce without end")]
     Endless {
         /// The state below of the edge.
         below: StateNo,

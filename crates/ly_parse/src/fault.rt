@@ -10,10 +10,10 @@ use thiserror::Error;
 pub enum ParseFault {
     /// The tables are faulty: a goto is missing, a body extends past the bottom of the stack, or they accept without a
     /// term.
-    #[error("the tables are at fault")]
+    #[error("the tables are faulty")]
     FaultyTables,
     /// The parse had ended before the call.
-    #[error("the parse is over")]
+    #[error("the parser has ended")]
     Over,
     /// Out of memory, or the forest has no more numbers for nodes, children or bytes of tokens.
     #[error("out of memory")]

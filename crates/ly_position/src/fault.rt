@@ -8,7 +8,7 @@ use thiserror::Error;
 #[derive(Clone, Copy, Debug, PartialEq, Eq, Error)]
 pub enum PosFault {
     /// The weight of all patterns together is above the limit.
-    #[error("the patterns are too heavy together")]
+    #[error("the patterns together are too large")]
     TooManyPositions,
     /// An allocation failed.
     #[error("out of memory")]

@@ -9,7 +9,7 @@ use thiserror::Error;
 #[derive(Clone, Copy, Debug, PartialEq, Eq, Error)]
 pub enum ReportFault {
     /// The writer failed in this call. Exactly the first `written` bytes of the report were written.
-    #[error("the report could not be written after {written} bytes")]
+    #[error("writing failed after {written} bytes")]
     Write {
         /// The number of bytes written.
         written: usize,

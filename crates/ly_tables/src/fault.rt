@@ -9,16 +9,16 @@ use thiserror::Error;
 #[derive(Clone, Copy, Debug, PartialEq, Eq, Error)]
 pub enum TableFault {
     /// The first four bytes, or all bytes of a shorter file, aren't a prefix of `LYTB`.
-    #[error("no table file")]
+    #[error("not a table file")]
     BadMagic,
     /// The version is neither 1 nor 2.
-    #[error("a table file of another version")]
+    #[error("unsupported version of the table file")]
     BadVersion,
     /// A field is missing.
-    #[error("the table file is cut")]
+    #[error("the table file is truncated")]
     Truncated,
     /// There are bytes after the last field.
-    #[error("bytes are left behind the tables")]
+    #[error("bytes after the tables")]
     Trailing,
     /// A number is out of range.
     #[error("section {section} is out of range")]
@@ -27,7 +27,7 @@ pub enum TableFault {
         section: u8,
     },
     /// The parser's tables aren't steady: the parser could run forever.
-    #[error("the tables could run forever")]
+    #[error("the parser may reduce without end")]
     Endless,
     /// Out of memory.
     #[error("out of memory")]

@@ -27,7 +27,7 @@ pub enum TokensFault {
     #[error("the text could not be read")]
     Read,
     /// The writer failed in this call. Exactly the first `written` bytes of the output were written.
-    #[error("the answer could not be written after {written} bytes")]
+    #[error("writing failed after {written} bytes")]
     Write {
         /// How many bytes were written.
         written: usize,

@@ -26,34 +26,34 @@ pub enum YaccFault {
 #[derive(Clone, Copy, Debug, PartialEq, Eq, Error)]
 pub enum YaccFaultKind {
     /// No `%%` ends the declarations.
-    #[error("no %% ends the declarations")]
+    #[error("no %% after the declarations")]
     NoRulesMark,
     /// A word that isn't allowed in the declarations, or a second `%start`.
-    #[error("not a declaration")]
+    #[error("invalid declaration")]
     BadDeclaration,
     /// A word that isn't allowed in the rules, or at their end.
-    #[error("not a rule")]
+    #[error("invalid rule")]
     BadRule,
     /// A literal of no byte, of byte 0, of more than one byte, or without its closing quote.
-    #[error("not a literal")]
+    #[error("invalid literal")]
     BadLiteral,
     /// A word that isn't allowed in an action.
-    #[error("not an action")]
+    #[error("unsupported action")]
     BadAction,
     /// A `$` number that is no symbol of the body.
-    #[error("a place that the body doesn't have")]
+    #[error("no such symbol in the body")]
     DollarRange,
     /// A `$` number that occurs twice in an action.
-    #[error("a place named twice")]
+    #[error("symbol used twice")]
     DollarTwice,
     /// The name `error`, which is reserved.
-    #[error("the token error")]
+    #[error("the token error isn't supported")]
     ErrorToken,
     /// A symbol or an action after an action.
-    #[error("an action within a rule")]
+    #[error("action within a rule")]
     MidRuleAction,
     /// A comment, a block or a union that isn't closed.
-    #[error("a comment or a block that isn't closed")]
+    #[error("unclosed comment or block")]
     UnclosedComment,
 }
 
