@@ -146,14 +146,15 @@ def answer(plain):
 # What `explain --json` says, put into the lines of the text that docs/explain.md describes, as far as it says them; and
 # these lines of a text: without those that a caret points into, bytes with which no match begins, and the rules.
 CARET = re.compile(r"    [ \t]*\^")
-NO_MATCH = re.compile(r"In .* no match begins with .*")
+NO_PATTERN = re.compile(r"In .* no pattern starts with .*")
 MERGED = (
-    "    No symbols lead to a place where both are possible: only merging the states of an LR(1)",
-    "    parser makes this conflict.",
+    "    No string of symbols makes both actions possible: only the merging of LR(1) states, as in",
+    "    every LALR(1) parser, makes this conflict.",
 )
-MENDED = (
-    "    No precedence settles it: for one of these places write a nonterminal of its own, with a copy",
-    "    of the rule.",
+NOT_REACHED = "    Because of how the other conflicts are resolved, the parser never gets here on these tokens."
+FIX = (
+    "    Precedence can't resolve it: for one of these contexts write a nonterminal of its own, with a",
+    "    copy of the rule.",
 )
 
 
@@ -164,24 +165,25 @@ def explained(value):
         lines = exchanged_lines(exchanged)
         lines += [line for fault in value["faults"][len(exchanged) :] for line in fault_lines(fault)]
         if value["more"]:
-            lines.append("there may be more faults behind these")
+            lines.append("there may be more errors after these")
         return lines
     counts = value["counts"]
     sizes = [counted(counts[name], name[:-1]) for name in ("rules", "terminals", "nonterminals", "states")]
     lines = [f"accepted: {', '.join(sizes)}."]
-    lines += [placed(doubt) + doubt["text"] for doubt in value["doubts"]]
-    if not value["doubts"] and not value["conflicts"]:
-        lines.append("No doubts.")
+    lines += [placed(warning) + warning["text"] for warning in value["warnings"]]
+    if not value["warnings"] and not value["conflicts"]:
+        lines.append("No warnings.")
     lines += ["", f"Conflicts: {counts['shift_reduce']} shift/reduce, {counts['reduce_reduce']} reduce/reduce."]
-    groups = len(value["conflicts"]) + value["untold"]
-    if value["cure"]:
-        cure = value["cure"]
-        lines.append(f"A precedence for {cure['token']} settles {cure['groups']} of these {counted(groups, 'group')}.")
+    groups = len(value["conflicts"]) + value["omitted"]
+    if value["suggestion"]:
+        found = value["suggestion"]
+        resolves = f"resolves {found['groups']} of these {counted(groups, 'group')}."
+        lines.append(f"Declaring a precedence for {found['token']} {resolves}")
     for group in value["conflicts"]:
         lines += group_lines(group)
-    if value["untold"]:
-        told = "group of conflicts isn't" if value["untold"] == 1 else "groups of conflicts aren't"
-        lines += ["", f"{value['untold']:,} more {told} told."]
+    if value["omitted"]:
+        not_shown = "group of conflicts isn't" if value["omitted"] == 1 else "groups of conflicts aren't"
+        lines += ["", f"{value['omitted']:,} more {not_shown} shown."]
     return lines
 
 
@@ -193,7 +195,7 @@ def text_lines(text):
     if "Rules:" in lines:
         lines = lines[: lines.index("Rules:") - 1]
         lines[0] = lines[0][lines[0].rindex("accepted: ") :]
-    return [line for line in lines if not NO_MATCH.fullmatch(line)]
+    return [line for line in lines if not NO_PATTERN.fullmatch(line)]
 
 
 def counted(count, name):
@@ -225,12 +227,12 @@ def row(names):
 
 def group_lines(group):
     rule = group["rules"][-1]["number"]
-    chosen = {"shift": "the shift is", "rule": f"rule {group['rules'][0]['number']} is", "nothing": "nothing is"}
+    chosen = {"shift": "a shift", "rule": f"rule {group['rules'][0]['number']}", "nothing": "an error"}
     after = f"after{row(group['after'])}" if group["after"] else "at the start"
     count = sum(1 if isinstance(it, str) else it for it in group["before"])
     before = row(group["before"][:12]) + (f" and {count - 12} more" if count > 12 else "")
     state = f"{placed(group['rules'][-1])}in state {group['state']}, {after}, before{before}"
-    lines = ["", f"{state}: {chosen[group['taken']]} taken, rule {rule} is not."]
+    lines = ["", f"{state}: resolved as {chosen[group['taken']]}, not rule {rule}."]
     lines += [f"    Rule {it['number']} is {placed(it)}{it['text']}" for it in group["rules"]]
     if group["reason"] is not None:
         lines.append(f"    {group['reason']}")
@@ -244,34 +246,34 @@ def shown_lines(group):
         lines.append(f"    example:{row(group['example'])}{ahead}")
         if group["tokens"] != group["example"]:
             lines.append(f"    tokens: {row(group['tokens'])}{ahead}")
-        if not group["met"]:
-            lines.append("    The parser, as its other conflicts are settled, doesn't come there by these tokens.")
-        if group["ways"] is None:
+        if not group["reached"]:
+            lines.append(NOT_REACHED)
+        if group["derivations"] is None:
             numbers = [it["number"] for it in group["rules"]]
-            return lines + [f"    Rule {numbers[0]} and rule {numbers[1]} are the same: leave one of them out."]
+            return lines + [f"    Rule {numbers[0]} and rule {numbers[1]} are the same: remove one of them."]
     if group["search"] == "merged":
         lines += MERGED
-    if group["search"] == "ended":
-        lines.append("    No example was found within the bound of the search.")
+    if group["search"] == "limit":
+        lines.append("    No example found: the search reached its limit.")
     lines += way_lines(group)
     if group["search"] == "merged":
-        return lines + list(MENDED)
-    return lines + sentence_lines(group) if group["search"] != "unsought" else lines
+        return lines + list(FIX)
+    return lines + sentence_lines(group) if group["search"] != "skipped" else lines
 
 
 def way_lines(group):
-    if group["ways"] is None:
+    if group["derivations"] is None:
         return []
     numbers = [it["number"] for it in group["rules"]]
     labels = [f"rule {it}:" for it in numbers[-2:]]
     if group["kind"] == "shift/reduce":
         labels = ["shift:", f"rule {numbers[-1]}:"]
-    return [f"    {label:8}{way and ' ' + way}" for label, way in zip(labels, group["ways"])]
+    return [f"    {label:8}{way and ' ' + way}" for label, way in zip(labels, group["derivations"])]
 
 
 def sentence_lines(group):
     if group["sentence"] is None:
-        return ["    No sentence with two trees was found within the bound of the search."]
+        return ["    No ambiguous sentence found: the search reached its limit."]
     first = "    The empty sentence has two trees:"
     if group["sentence"]:
         first = f"    This sentence has two trees:{row(group['sentence'])}"

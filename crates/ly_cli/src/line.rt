@@ -161,7 +161,7 @@ fn explain_paths<'a>(alloc: Global) -> Result<Command<'a>, AllocError>
 {
     Command::new(alloc, "explain")
         .about("Report the errors, warnings and conflicts of a lex file and a yacc file")
-        .arg(path(alloc, "LEX", LEX))?
+        .arg(path(alloc, "LEX", LEX_OR_YACC))?
         .arg(other_file(alloc))?
         .arg(states(alloc))?
         .arg(graph(alloc))
@@ -178,6 +178,8 @@ fn files<'a>(alloc: Global, name: &'a str, about: &'a str) -> Result<Command<'a>
 }
 
 const LEX: &str = "The lex file: definitions, %%, rules";
+
+const LEX_OR_YACC: &str = "The lex file; with --yacc, the yacc file";
 
 const YACC: &str = "The yacc file: declarations, %%, rules";
 
@@ -314,22 +316,24 @@ fn strict<'a>(alloc: Global) -> Arg<'a>
         .help("Exit with 1 if there is a warning, or a conflict that --expect doesn't allow")
 }
 
-/// `--states STATES`.
+/// `--states FILE`.
 fn states<'a>(alloc: Global) -> Arg<'a>
     ensures rule { rule_of result ≡ states_rule }
     ensures local { result.global ≡ false }
 {
     Arg::new(alloc, "STATES")
         .long("states")
-        .help("Write the states of the parser to STATES")
+        .value_name("FILE")
+        .help("Write the states of the parser to FILE")
 }
 
-/// `--graph GRAPH`.
+/// `--graph FILE`.
 fn graph<'a>(alloc: Global) -> Arg<'a>
     ensures rule { rule_of result ≡ graph_rule }
     ensures local { result.global ≡ false }
 {
     Arg::new(alloc, "GRAPH")
         .long("graph")
-        .help("Write the states as a graph for Graphviz's dot to GRAPH")
+        .value_name("FILE")
+        .help("Write the states as a graph for Graphviz's dot to FILE")
 }

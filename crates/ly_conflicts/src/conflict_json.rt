@@ -41,7 +41,7 @@ pub(crate) fn write_conflict(
     if has_reason(conflict) {
         let mut words = buffer.beside();
         write_reason(&mut words, spec, conflict, told.terminals.len());
-        buffer.push_json_page(words);
+        buffer.push_json_buffer(words);
     } else {
         buffer.push(b"null");
     }
@@ -80,7 +80,7 @@ fn write_rule(buffer: &mut TextBuffer, files: &Analysis<'_>, places: &Places, ru
     buffer.push_json_key(b"text");
     let mut words = buffer.beside();
     words.push_rule(files.spec, rule, None);
-    buffer.push_json_page(words);
+    buffer.push_json_buffer(words);
     buffer.push(b"}");
 }
 
@@ -95,7 +95,7 @@ fn write_shown(
     buffer.push_json_key(b"search");
     match &told.shown {
         Shown::Unsought => {
-            buffer.push(b"\"unsought\"");
+            buffer.push(b"\"skipped\"");
             write_no_spot(buffer);
             write_ways(alloc, buffer, spec, None)?;
             write_sentence(alloc, buffer, spec, None)
@@ -121,7 +121,7 @@ fn write_shown(
             write_sentence(alloc, buffer, spec, None)
         }
         Shown::Unknown(found) => {
-            buffer.push(b"\"ended\"");
+            buffer.push(b"\"limit\"");
             write_no_spot(buffer);
             write_ways(alloc, buffer, spec, None)?;
             write_sentence(alloc, buffer, spec, found.as_ref())
@@ -131,7 +131,7 @@ fn write_shown(
 
 /// Prints that there is no counterexample.
 fn write_no_spot(buffer: &mut TextBuffer) {
-    buffer.push(b",\"example\":null,\"tokens\":null,\"met\":null");
+    buffer.push(b",\"example\":null,\"tokens\":null,\"reached\":null");
 }
 
 /// Prints a counterexample, its tokens if they are known, and whether the parser gets there on them.
@@ -143,12 +143,12 @@ fn write_spot(buffer: &mut TextBuffer, spec: &Spec, spot: &Spot<'_>) {
     if spot.derived.whole {
         write_terminals(buffer, spec, &spot.derived.tokens);
         buffer.push(if spot.is_met {
-            b",\"met\":true".as_slice()
+            b",\"reached\":true".as_slice()
         } else {
-            b",\"met\":false"
+            b",\"reached\":false"
         });
     } else {
-        buffer.push(b"null,\"met\":null");
+        buffer.push(b"null,\"reached\":null");
     }
 }
 
@@ -159,7 +159,7 @@ fn write_ways(
     spec: &Spec,
     ways: Option<&Ways>,
 ) -> Result<(), OutOfMemory> {
-    buffer.push_json_key(b"ways");
+    buffer.push_json_key(b"derivations");
     match ways {
         Some(ways) => {
             let (one, other) = drawn_ways(alloc, spec, ways)?;
@@ -246,5 +246,5 @@ fn write_terminals(buffer: &mut TextBuffer, spec: &Spec, terminals: &[Sym]) {
 fn write_symbol(buffer: &mut TextBuffer, spec: &Spec, symbol: Symbol) {
     let mut name = buffer.beside();
     name.push_symbol(spec, symbol);
-    buffer.push_json_page(name);
+    buffer.push_json_buffer(name);
 }

@@ -35,7 +35,7 @@ pub(crate) fn write_told(
         }
         Shown::Merged(ways) => write_merged(alloc, buffer, spec, conflict, ways)?,
         Shown::Unknown(found) => {
-            buffer.push(b"    No example was found within the bound of the search.\n");
+            buffer.push(b"    No example found: the search reached its limit.\n");
             write_sentence(alloc, buffer, spec, found)?;
         }
     }
@@ -51,15 +51,15 @@ fn write_merged(
     ways: &Option<Ways>,
 ) -> Result<(), OutOfMemory> {
     buffer.push(
-        b"    No symbols lead to a place where both are possible: only merging the states of an LR(1)\n    \
-        parser makes this conflict.\n",
+        b"    No string of symbols makes both actions possible: only the merging of LR(1) states, as in\n    \
+        every LALR(1) parser, makes this conflict.\n",
     );
     if let Some(ways) = ways {
         write_ways(alloc, buffer, spec, conflict, ways)?;
     }
     buffer.push(
-        b"    No precedence settles it: for one of these places write a nonterminal of its own, with a copy\n    \
-        of the rule.\n",
+        b"    Precedence can't resolve it: for one of these contexts write a nonterminal of its own, with a\n    \
+        copy of the rule.\n",
     );
     Ok(())
 }
@@ -76,7 +76,7 @@ fn write_spot(buffer: &mut TextBuffer, spec: &Spec, conflict: &Conflict, spot: &
     }
     if !spot.is_met {
         buffer.push(
-            b"    The parser, as its other conflicts are settled, doesn't come there by these tokens.\n",
+            b"    Because of how the other conflicts are resolved, the parser never gets here on these tokens.\n",
         );
     }
 }
@@ -92,7 +92,7 @@ fn write_ahead(buffer: &mut TextBuffer, spec: &Spec, conflict: &Conflict) {
 fn write_same(buffer: &mut TextBuffer, conflict: &Conflict) {
     if let Some(rule) = reduced_rival(conflict) {
         write_numbered(buffer, b"    Rule ", rule as u64, b" and rule ");
-        let behind = b" are the same: leave one of them out.\n";
+        let behind = b" are the same: remove one of them.\n";
         write_numbered(buffer, b"", conflict.rule.0 as u64, behind);
     }
 }
@@ -107,9 +107,7 @@ fn write_sentence(
     match found {
         Some(ambiguity) => write_ambiguity(alloc, buffer, spec, ambiguity),
         None => {
-            buffer.push(
-                b"    No sentence with two trees was found within the bound of the search.\n",
-            );
+            buffer.push(b"    No ambiguous sentence found: the search reached its limit.\n");
             Ok(())
         }
     }
@@ -121,9 +119,9 @@ pub(crate) fn write_untold(buffer: &mut TextBuffer, count: usize) {
         buffer.push(b"\n");
         write_large(buffer, count as u64);
         buffer.push(if count == 1 {
-            b" more group of conflicts isn't told.\n".as_slice()
+            b" more group of conflicts isn't shown.\n".as_slice()
         } else {
-            b" more groups of conflicts aren't told.\n"
+            b" more groups of conflicts aren't shown.\n"
         });
     }
 }

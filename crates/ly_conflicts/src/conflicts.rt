@@ -130,19 +130,19 @@ fn write_counts(buffer: &mut TextBuffer, counts: ConflictCounts) {
 
 /// Prints as JSON the token whose precedence settles the most groups, and the number of groups that aren't printed.
 fn write_rest(buffer: &mut TextBuffer, spec: &Spec, suggestion: Option<Suggestion>, untold: usize) {
-    buffer.push_json_key(b"cure");
+    buffer.push_json_key(b"suggestion");
     match suggestion {
         Some(suggestion) => {
             buffer.push(b"{\"token\":");
             let mut name = buffer.beside();
             name.push_terminal(spec, suggestion.terminal);
-            buffer.push_json_page(name);
+            buffer.push_json_buffer(name);
             buffer.push_json_number(b"groups", suggestion.settled as u64);
             buffer.push(b"}");
         }
         None => buffer.push(b"null"),
     }
-    buffer.push_json_number(b"untold", untold as u64);
+    buffer.push_json_number(b"omitted", untold as u64);
 }
 
 impl Teller<'_> {

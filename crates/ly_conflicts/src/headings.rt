@@ -72,13 +72,13 @@ fn write_before(buffer: &mut TextBuffer, spec: &Spec, terminals: &[Sym]) {
 /// Prints the action that is taken, and the one that isn't.
 fn write_done(buffer: &mut TextBuffer, conflict: &Conflict) {
     match conflict.choice {
-        Action::Shift => buffer.push(b": the shift is taken"),
+        Action::Shift => buffer.push(b": resolved as a shift"),
         Action::Reduce(rule) => {
-            write_numbered(buffer, b": rule ", rule.0 as u64, b" is taken");
+            write_numbered(buffer, b": resolved as rule ", rule.0 as u64, b"");
         }
-        Action::Error => buffer.push(b": nothing is taken"),
+        Action::Error => buffer.push(b": resolved as an error"),
     }
-    write_numbered(buffer, b", rule ", conflict.rule.0 as u64, b" is not.\n");
+    write_numbered(buffer, b", not rule ", conflict.rule.0 as u64, b".\n");
 }
 
 /// Whether a reason is printed: precedence can settle shift/reduce conflicts, except at the end of the input.

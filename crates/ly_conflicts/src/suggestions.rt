@@ -57,11 +57,11 @@ pub(crate) fn write_suggestion(
     suggestion: Suggestion,
     groups: usize,
 ) {
-    buffer.push(b"A precedence for ");
+    buffer.push(b"Declaring a precedence for ");
     buffer.push_terminal(spec, suggestion.terminal);
     write_numbered(
         buffer,
-        b" settles ",
+        b" resolves ",
         suggestion.settled as u64,
         b" of these ",
     );

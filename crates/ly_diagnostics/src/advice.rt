@@ -19,15 +19,15 @@ impl Advice {
         match fault {
             GenFault::Positions(_) | GenFault::States(_) => {
                 Advice::Words(
-                    "intervals such as `x{100}` are written out: shorter ones make fewer states",
+                    "intervals such as `x{100}` are expanded: shorter ones make fewer states",
                 )
             }
             GenFault::Grammar(_) => {
-                Advice::Words("each of its rules needs itself again: one is missing that ends")
+                Advice::Words("each of its rules needs it again: add one that doesn't")
             }
             GenFault::Endless { .. } => {
                 Advice::Words(
-                    "rules are reduced without end where what they need may be empty, or derives itself alone",
+                    "the parser reduces without end if a symbol derives only itself, or the symbols before it may be empty",
                 )
             }
             _ => Advice::Nothing,
@@ -37,9 +37,9 @@ impl Advice {
     /// The suggestion for an error that a byte-order mark or a CR causes.
     pub(crate) fn of_marks(byte_order_mark: bool) -> Advice {
         Advice::Words(if byte_order_mark {
-            "the file begins with a byte-order mark: leave these three bytes out"
+            "the file begins with a byte-order mark: remove these three bytes"
         } else {
-            "the line ends with CR LF: write LF alone, as by `tr -d '\\r'`"
+            "the line ends with CR LF: convert it to LF, for instance with `tr -d '\\r'`"
         })
     }
 

@@ -117,7 +117,7 @@ impl Joined<'_> {
                 self.cause_in_body(
                     rule,
                     Advice::Words(
-                        "what stands before the left side in its own body may be empty, and is reduced without end",
+                        "the symbols before the left side in its own body may be empty, so they are reduced without end",
                     ),
                 )
             }
@@ -153,7 +153,7 @@ impl Joined<'_> {
             self.write_name(&mut buffer, step.to);
             buffer.push(b" needs ");
             self.write_name(&mut buffer, step.to);
-            buffer.push(b" again: one is missing that ends");
+            buffer.push(b" again: add one that doesn't");
             return buffer.finish();
         }
         for (number, step) in around.iter().take(NAMED).enumerate() {
@@ -167,7 +167,7 @@ impl Joined<'_> {
         if around.len() > NAMED {
             buffer.push(b", and so on back to the first");
         }
-        buffer.push(b": a rule is missing that ends");
+        buffer.push(b": add a rule that ends this");
         buffer.finish()
     }
 
@@ -176,12 +176,12 @@ impl Joined<'_> {
         let mut buffer = TextBuffer::new(alloc);
         let least = around.iter().map(|step| step.rule).min().unwrap_or(0);
         self.write_name(&mut buffer, self.left(least));
-        buffer.push(b" derives itself alone, by ");
+        buffer.push(b" derives only itself, by ");
         if around.len() == 1 {
-            buffer.push(b"this rule, which is reduced without end: leave it out");
+            buffer.push(b"this rule, which is reduced without end: remove it");
         } else {
             write_lines(&mut buffer, &self.lines(alloc, around)?);
-            buffer.push(b", which are reduced without end: leave one of them out");
+            buffer.push(b", which are reduced without end: remove one of them");
         }
         buffer.finish()
     }
@@ -218,9 +218,9 @@ impl Joined<'_> {
 /// Appends the lines of the rules that are named.
 fn write_lines(buffer: &mut TextBuffer, lines: &[u64]) {
     buffer.push(if lines.len() == 1 {
-        b"the rules of line "
+        b"the rules on line "
     } else {
-        b"the rules of lines "
+        b"the rules on lines "
     });
     for (number, line) in lines.iter().take(NAMED).enumerate() {
         if number > 0 {

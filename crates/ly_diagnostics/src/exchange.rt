@@ -10,7 +10,7 @@ pub(crate) const READS_AS_YACC: &[u8] = b"this reads as a yacc file";
 
 pub(crate) const READS_AS_LEX: &[u8] = b"this reads as a lex file";
 
-pub(crate) const ARE_EXCHANGED: &[u8] = b"are both exchanged? the lex file comes first";
+pub(crate) const ARE_EXCHANGED: &[u8] = b"are the two files swapped? the lex file comes first";
 
 /// The signs that two files are swapped.
 #[derive(Clone, Copy)]

@@ -137,21 +137,21 @@ fn write_fault(
     let mut what = buffer.beside();
     write_what(&mut what, fault);
     if what.len() > 0 {
-        buffer.push_json_page(what);
+        buffer.push_json_buffer(what);
     } else {
         buffer.push(b"null");
     }
     buffer.push_json_key(b"text");
     let mut words = buffer.beside();
     write_words(&mut words, fault);
-    buffer.push_json_page(words);
+    buffer.push_json_buffer(words);
     buffer.push_json_key(b"advice");
     if advice.is_nothing() {
         buffer.push(b"null");
     } else {
         let mut words = buffer.beside();
         write_advice_words(&mut words, advice);
-        buffer.push_json_page(words);
+        buffer.push_json_buffer(words);
     }
     buffer.push(b"}");
 }

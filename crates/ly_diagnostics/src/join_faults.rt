@@ -127,7 +127,7 @@ impl Joining<'_> {
             return Ok(Advice::Nothing);
         };
         let mut buffer = TextBuffer::new(alloc);
-        buffer.push(b"leave it out of one declaration: the first is on line ");
+        buffer.push(b"remove it from one declaration: the first is on line ");
         buffer.push_number(locate(&self.yacc.text, offset).line);
         Ok(Advice::Made(buffer.finish()?))
     }
@@ -292,13 +292,12 @@ fn push_tokens<'t>(names: &mut Vec<&'t [u8]>, file: &'t YaccFile) -> Result<(), 
 /// The suggestion if there is no similar name.
 fn words_for(fault: &JoinFault) -> Advice {
     Advice::Words(match fault {
-        JoinFault::UndefinedSymbol(_) => "declare it by `%token`, or write a rule for it",
-        JoinFault::TokenOnLeft(_) =>
-            "leave it out of the declarations, or give the rule another name",
-        JoinFault::UnknownStart(_) => "name a left side behind `%start`",
-        JoinFault::ReturnUndeclared(_) => "declare it in the yacc file: `%token` and the name",
-        JoinFault::PrecUnknown(_) => "declare it by `%left`, `%right` or `%nonassoc`",
-        JoinFault::NoRules => "write a rule behind the `%%`: `name : symbols ;`",
+        JoinFault::UndefinedSymbol(_) => "declare it with `%token`, or write a rule for it",
+        JoinFault::TokenOnLeft(_) => "remove the declaration, or rename the rule",
+        JoinFault::UnknownStart(_) => "name a nonterminal after `%start`",
+        JoinFault::ReturnUndeclared(_) => "declare it in the yacc file with `%token`",
+        JoinFault::PrecUnknown(_) => "declare it with `%left`, `%right` or `%nonassoc`",
+        JoinFault::NoRules => "write a rule after the `%%`: `name : symbols ;`",
         JoinFault::PrecedenceTwice(_) | JoinFault::LimitPassed { .. } | JoinFault::OutOfMemory => {
             return Advice::Nothing;
         }

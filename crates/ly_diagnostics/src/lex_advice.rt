@@ -45,7 +45,7 @@ pub(crate) fn lex_advice(
 /// The suggestion for a line with a flex extension that POSIX doesn't have.
 fn form_of_flex(unit: Unit, line: &[u8]) -> Option<&'static str> {
     if line.starts_with(b"//") {
-        return Some("comments are `/* .. */`: among the rules they stand behind a blank");
+        return Some("comments are `/* .. */`: among the rules they must follow a blank");
     }
     if unit.kind == Kind::Directive && line.starts_with(b"%option") {
         return Some(option_advice(line));
@@ -54,20 +54,22 @@ fn form_of_flex(unit: Unit, line: &[u8]) -> Option<&'static str> {
         return None;
     }
     if line.starts_with(b"/*") {
-        return Some("a comment among the rules stands behind a blank");
+        return Some("among the rules a comment must follow a blank");
     }
     if line.starts_with(b"<<EOF>>") {
-        return Some("the end of the text needs no rule, and has no action: leave it out");
+        return Some("the end of the text has no rule and no action: remove this rule");
     }
     if line.starts_with(b"<*>") {
-        return Some("name the conditions, with commas between them: `<INITIAL,NAME>`");
+        return Some("name the start conditions, separated by commas: `<INITIAL,NAME>`");
     }
     if line.starts_with(b"<") && !opens_list(line) {
-        return Some("`<` begins a list of conditions: for the byte write `\\<` or `\"<\"`");
+        return Some("`<` begins a list of start conditions: for the byte write `\\<` or `\"<\"`");
     }
     let opens_scope = line.starts_with(b"<") && from_offset(line, action_start(line)).is_empty();
     if opens_scope && ends_with_brace(line) {
-        return Some("write the conditions in front of each rule: there are no braces round many");
+        return Some(
+            "write the start conditions before each rule: there are no blocks `<NAME>{ .. }`",
+        );
     }
     None
 }
@@ -78,12 +80,12 @@ fn form_of_others(kind: LexFaultKind, line: &[u8], before: usize) -> Option<&'st
         LexFaultKind::Pattern(EreFaultKind::BadInterval | EreFaultKind::UnknownName)
             if ends_with_escape(line.get(..before).unwrap_or(line)) => {
             Some(
-                "a byte is written with two digits and no braces, as `\\x41`; a character of several bytes as itself",
+                "write a byte with two digits and no braces, as in `\\x41`, and a character of several bytes as itself",
             )
         }
         LexFaultKind::UnknownCondition if before == 0 => {
             Some(
-                "a list of conditions is `<NAME>` or `<NAME,NAME>`: for the byte write `\\<` or `\"<\"`",
+                "a list of start conditions is `<NAME>` or `<NAME,NAME>`: for the byte write `\\<` or `\"<\"`",
             )
         }
         _ => None,
@@ -111,9 +113,9 @@ fn opens_list(line: &[u8]) -> bool {
 fn option_advice(line: &[u8]) -> &'static str {
     let caseless: [&[u8]; 2] = [b"case-insensitive", b"caseless"];
     if caseless.iter().any(|word| offset_of(line, word).is_some()) {
-        "there are no options: write both cases of each letter, as `[aA]`"
+        "options aren't supported: write both cases of each letter, as in `[aA]`"
     } else {
-        "there are no options: leave the line out"
+        "options aren't supported: remove the line"
     }
 }
 
@@ -171,15 +173,15 @@ fn words_for(unit: Unit, kind: LexFaultKind, line: &[u8], before: usize) -> &'st
     match kind {
         LexFaultKind::NoRulesMark => "write a line `%%` before the first rule",
         LexFaultKind::BadDefinition => definition_advice(unit, line, rest),
-        LexFaultKind::UnknownCondition => "declare it among the definitions: `%x NAME`",
-        LexFaultKind::ConditionTwice => "a condition is declared once, and `INITIAL` never",
+        LexFaultKind::UnknownCondition => "declare it in the definitions: `%x NAME`",
+        LexFaultKind::ConditionTwice => "declare each start condition once, and `INITIAL` never",
         LexFaultKind::BadAction => action_advice(line),
         LexFaultKind::BarAtEnd =>
-            "`|` is the action of the next rule: the last rule needs one of its own",
+            "`|` means the action of the next rule: the last rule needs its own",
         LexFaultKind::Pattern(EreFaultKind::StrayOperator) if opens_options(line, before) =>
             "groups are `( .. )`, without options",
         LexFaultKind::Pattern(EreFaultKind::BadInterval) if is_turned(rest) =>
-            "the lesser count stands first, as in `{1,3}`",
+            "write the smaller count first, as in `{1,3}`",
         LexFaultKind::Pattern(kind) => pattern_advice(kind),
     }
 }
@@ -222,22 +224,22 @@ fn definition_advice(unit: Unit, line: &[u8], rest: &[u8]) -> &'static str {
         Kind::Block => "close the block with a line `%}`",
         Kind::Comment => "close the comment with `*/`",
         Kind::Directive =>
-            "there are `%s` and `%x` and names of conditions: leave other lines with `%` out",
+            "only `%s` and `%x` with names of start conditions are supported: remove other lines with `%`",
         _ if offset_of(line, b"return").is_some() => "write a line `%%` before the first rule",
         _ if rest.starts_with(b"/*") || rest.starts_with(b"//") => {
-            "a comment stands on a line of its own"
+            "write a comment on a line of its own"
         }
         _ if rest.len() == line.len() && leading_name(line, Language::Lex).is_some() => {
-            "a line before this one defines the name: each name is defined once"
+            "an earlier line defines this name: define each name once"
         }
-        _ => "a definition is a name, blanks and an expression, and each name is defined once",
+        _ => "a definition is a name, blanks and an expression: define each name once",
     }
 }
 
 /// The suggestion for an invalid action.
 fn action_advice(line: &[u8]) -> &'static str {
     if offset_of(line, b"_state").is_some() {
-        return "conditions have no stack: `BEGIN NAME;` sets one";
+        return "there is no stack of start conditions: use `BEGIN NAME;`";
     }
     let left_out: [&[u8]; 8] = [
         b"REJECT",
@@ -250,7 +252,7 @@ fn action_advice(line: &[u8]) -> &'static str {
         b"yyterminate",
     ];
     if left_out.iter().any(|word| offset_of(line, word).is_some()) {
-        return "there is no C, nor what needs it: the text of a token is in the tree";
+        return "actions aren't C: the text of a token is in the tree";
     }
     if offset_of(line, b"return \"").is_some() {
         return "a literal is one byte in single quotes: `return '(';`";
@@ -276,29 +278,30 @@ fn ends_open(action: &[u8]) -> bool {
 /// The suggestion for an invalid pattern.
 fn pattern_advice(kind: EreFaultKind) -> &'static str {
     match kind {
-        EreFaultKind::Empty => "a string of no byte is `\"\"`; a rule begins with its pattern",
+        EreFaultKind::Empty => "the empty string is `\"\"`; a rule begins with its pattern",
         EreFaultKind::UnclosedQuote => "close the string with `\"`, or write `\\\"` for the byte",
         EreFaultKind::UnclosedBracket => "close the set with `]`, or write `\\[` for the byte",
         EreFaultKind::UnclosedGroup => "close the group with `)`, or write `\\(` for the byte",
         EreFaultKind::StrayOperator =>
-            "write a backslash before the byte, or quotes round it, if it stands for itself",
+            "to match the byte itself, write a backslash before it or quotes around it",
         EreFaultKind::BadRange =>
-            "write the lesser byte first, and `-` first or last in a set if it stands for itself",
-        EreFaultKind::EmptySet => "a set has one byte at least",
+            "write the smaller byte first; to match `-` itself, write it first or last in the set",
+        EreFaultKind::EmptySet => "a set needs at least one byte",
         EreFaultKind::UnknownClass =>
             "classes are `[:alpha:]`, `[:digit:]`, `[:alnum:]`, `[:space:]` and the others of POSIX",
         EreFaultKind::BadInterval =>
             "intervals are `{m}`, `{m,}` and `{m,n}`; for the byte write `\\{`",
-        EreFaultKind::EscapeTooLarge => "bytes go to 255: `\\377` and `\\xff`",
+        EreFaultKind::EscapeTooLarge => "the greatest byte is 255: `\\377` or `\\xff`",
         EreFaultKind::UnknownName => "define it before the first `%%`; for the byte write `\\{`",
-        EreFaultKind::NameCycle => "a definition may not use itself, nor others that use it",
+        EreFaultKind::NameCycle => "a definition can't use itself, directly or through others",
         EreFaultKind::AnchorInside =>
-            "`^` stands in front of the pattern and `$` at its end: write `\\^` or `\\$` for the byte",
-        EreFaultKind::TrailingTwice => "a pattern has one `/` or one `$`; for the byte write `\\/`",
+            "`^` is allowed only at the start of a pattern and `$` only at its end: for the byte write `\\^` or `\\$`",
+        EreFaultKind::TrailingTwice =>
+            "a pattern has at most one `/` or `$`; for the byte write `\\/`",
         EreFaultKind::TrailingBothVary =>
-            "what stands before the `/`, or what stands behind it, has to have one length",
-        EreFaultKind::TrailingHeadEmpty => "what stands before the `/` has to have a byte",
-        EreFaultKind::TooHeavy => "intervals are written out: shorter ones weigh less",
+            "the part before the `/` or the part after it must have a fixed length",
+        EreFaultKind::TrailingHeadEmpty => "the part before the `/` must match at least one byte",
+        EreFaultKind::TooHeavy => "intervals are expanded: use shorter ones",
     }
 }
 

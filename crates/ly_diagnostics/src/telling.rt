@@ -30,7 +30,7 @@ pub(crate) fn write_findings(
         );
     }
     if findings.has_more() {
-        buffer.push(b"there may be more faults behind these\n");
+        buffer.push(b"there may be more errors after these\n");
     }
 }
 
@@ -113,7 +113,7 @@ fn write_rest(
         rest.push_excerpt(file, at);
     }
     write_advice(&mut rest, advice);
-    buffer.push_page(rest);
+    buffer.push_buffer(rest);
 }
 
 /// Whether an error is one of the lex file.
@@ -141,7 +141,7 @@ fn write_heading(buffer: &mut TextBuffer, fault: &GenFault) {
     write_what(&mut what, fault);
     if what.len() > 0 {
         buffer.push(b" ");
-        buffer.push_page(what);
+        buffer.push_buffer(what);
     }
     buffer.push(b": ");
     write_words(buffer, fault);

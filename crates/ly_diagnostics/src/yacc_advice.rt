@@ -29,14 +29,12 @@ pub(crate) fn yacc_advice(
         YaccFaultKind::BadLiteral => literal_advice(rest),
         YaccFaultKind::BadAction => action_advice(before, rest),
         YaccFaultKind::DollarRange => {
-            "`$1` is the first symbol of this body: it has fewer than that"
+            "`$1` is the first symbol of the body, which has fewer symbols than that"
         }
-        YaccFaultKind::DollarTwice => "a tree stands in one place: name each `$` once",
-        YaccFaultKind::ErrorToken => {
-            "there is no recovery from errors: leave the body with `error` out"
-        }
+        YaccFaultKind::DollarTwice => "use each `$` once: a subtree has one place in the tree",
+        YaccFaultKind::ErrorToken => { "there is no error recovery: remove the body with `error`" }
         YaccFaultKind::MidRuleAction => {
-            "an action ends its body: make the symbols before it a rule of their own"
+            "an action must end its body: move the symbols before it to a rule of their own"
         }
         YaccFaultKind::UnclosedComment => unclosed_advice(rest),
     }))
@@ -55,18 +53,18 @@ fn literal_advice(rest: &[u8]) -> &'static str {
     let line = rest.split(|byte| *byte == b'\n').next().unwrap_or(rest);
     let inside = line.get(1..).unwrap_or_default();
     if inside.starts_with(b"\\0") || inside.starts_with(b"\\x0") || inside.starts_with(b"\0") {
-        return "a literal isn't byte 0, which is the number of the end: return a token with a name for it";
+        return "byte 0 can't be a literal, since 0 is the end of the input: return a named token for it";
     }
     if !inside.contains(&b'\'') {
-        return "the quote isn't closed: a literal is one byte in single quotes, as `'+'`";
+        return "the quote isn't closed: a literal is one byte in single quotes, as in `'+'`";
     }
     if inside.starts_with(b"''") {
         return "write `'\\''` for the literal of a single quote";
     }
     if inside.starts_with(b"'") {
-        return "a literal has one byte between its quotes, as `'+'`";
+        return "a literal has one byte between its quotes, as in `'+'`";
     }
-    "a literal is one byte in single quotes, as `'+'`: give a longer token a name"
+    "a literal is one byte in single quotes, as in `'+'`: give a longer token a name"
 }
 
 /// The suggestion for what isn't allowed in the declarations.
@@ -77,9 +75,9 @@ fn declaration_advice(before: &Before, rest: &[u8]) -> &'static str {
     match rest.first() {
         Some(b'%') => directive_advice(before, rest),
         Some(b'"') =>
-            "tokens have no second name: leave the string out, and use the token's name in the rules",
-        Some(b',') => "symbols have blanks between them, and no commas",
-        Some(b';') => "a declaration ends without a `;`",
+            "tokens have no string aliases: remove the string, and use the token's name in the rules",
+        Some(b',') => "separate symbols by blanks, not commas",
+        Some(b';') => "a declaration has no `;` at its end",
         Some(0x80..=0xFF) => OTHER_BYTE,
         _ =>
             "a declaration is `%token`, `%left`, `%right`, `%nonassoc` or `%type` and symbols, or `%start` and a name",
@@ -105,23 +103,23 @@ const DIRECTIVES: [(&[u8], &str); 4] = [
     (b"precedence", "write `%nonassoc` for bison's `%precedence`"),
     (
         b"nterm",
-        "write `%type` for bison's `%nterm`, or nothing: left sides need no declaration",
+        "write `%type` for bison's `%nterm`, or nothing: nonterminals need no declaration",
     ),
     (b"start", "a file has one `%start`, with one name"),
-    (b"option", "`%option` is flex's: leave it out"),
+    (b"option", "`%option` belongs to flex: remove it"),
 ];
 
 /// The suggestion for a directive that isn't allowed there.
 fn directive_advice(before: &Before, rest: &[u8]) -> &'static str {
     let behind = rest.strip_prefix(b"%").unwrap_or(rest);
     let Some((name, _)) = leading_name(behind, Language::Yacc) else {
-        return "write `%{` and `%}` round C code, or leave it out";
+        return "write `%{` and `%}` around C code, or remove it";
     };
     if DECLARING.contains(&name) {
         return if before.last.is_some() {
             "the declaration before this one names no symbol"
         } else {
-            "a declaration names symbols"
+            "a declaration needs at least one symbol"
         };
     }
     for (directive, advice) in &DIRECTIVES {
@@ -129,12 +127,12 @@ fn directive_advice(before: &Before, rest: &[u8]) -> &'static str {
             return advice;
         }
     }
-    "POSIX has no such declaration: leave it out"
+    "POSIX has no such declaration: remove it"
 }
 
 /// The suggestion for a byte that isn't ASCII.
 const OTHER_BYTE: &str =
-    "no name has this byte: names are of the letters `a` to `z` and `A` to `Z`, digits, `_` and `.`";
+    "this byte can't be part of a name: names have letters `a` to `z` and `A` to `Z`, digits, `_` and `.`";
 
 /// The suggestion for what isn't allowed in the rules.
 fn rule_advice(before: &Before, rest: &[u8]) -> &'static str {
@@ -146,13 +144,13 @@ fn rule_advice(before: &Before, rest: &[u8]) -> &'static str {
         Some(b'"') =>
             "a token is a name, or one byte in single quotes: name what the lex file returns",
         Some(b'*' | b'+' | b'?' | b'(' | b')' | b'[' | b']') => {
-            "a body has symbols alone: write a rule of its own for what is repeated or may be missing"
+            "a body has only symbols: write a separate rule for a part that is optional or repeated"
         }
         Some(b':' | b'=' | b'-') => "a rule is `name : symbols ;`",
-        Some(b'<') => "places have no types here: leave the tag out",
+        Some(b'<') => "`$` has no types here: remove the tag",
         Some(0x80..=0xFF) => OTHER_BYTE,
         _ if before.in_body =>
-            "a body has symbols, and at its end perhaps an action: is a `;` or a `|` missing?",
+            "a body has symbols and, at its end, an optional action: is a `;` or a `|` missing?",
         _ => "a rule is `name : symbols ;`: is a `:` or a `;` missing?",
     }
 }
@@ -160,17 +158,17 @@ fn rule_advice(before: &Before, rest: &[u8]) -> &'static str {
 /// The suggestion for a directive in the rules.
 fn rule_directive_advice(rest: &[u8]) -> &'static str {
     if rest.starts_with(b"%empty") {
-        return "an empty body is nothing: leave `%empty` out, or write `/* empty */`";
+        return "an empty body is written as nothing: remove `%empty`, or write `/* empty */`";
     }
     if rest.starts_with(b"%prec") {
-        return "`%prec` stands once, behind the symbols of a body, with a token behind it";
+        return "write `%prec` once, after the symbols of a body, followed by a token";
     }
     if let Some((name, _)) = leading_name(rest.get(1..).unwrap_or_default(), Language::Yacc)
         && (DECLARING.contains(&name) || name == b"start".as_slice())
     {
-        return "declarations stand before the first `%%`";
+        return "declarations come before the first `%%`";
     }
-    "a rule has no directive but `%prec`: leave it out"
+    "`%prec` is the only directive in a rule: remove this one"
 }
 
 /// The suggestion for what isn't allowed in an action.
@@ -182,7 +180,7 @@ fn action_advice(before: &Before, rest: &[u8]) -> &'static str {
     } else if rest.starts_with(b";") {
         "a node without children has parentheses too: `{ $$ = Name(); }`"
     } else if before.at_child && leading_name(rest, Language::Yacc).is_some() {
-        "the children of a node are trees of the body, as `$1`: make a node within it by a rule of its own"
+        "the children of a node are `$1`, `$2` and so on: make an inner node with a rule of its own"
     } else {
         "write `{ $$ = Name($1,$3); }`, `{ $$ = $1; }`, or no action: lytab's actions are not C"
     }

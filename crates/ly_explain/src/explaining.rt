@@ -86,7 +86,7 @@ fn said_of_refused(
     let mut buffer = TextBuffer::new(alloc);
     if json {
         write_json_faults(alloc, &mut buffer, lex, yacc, limits, fault)?;
-        buffer.push(b",\"doubts\":[],\"conflicts\":[],\"cure\":null,\"untold\":0}\n");
+        buffer.push(b",\"warnings\":[],\"conflicts\":[],\"suggestion\":null,\"omitted\":0}\n");
     } else {
         write_faults(alloc, &mut buffer, lex, yacc, limits, fault)?;
     }

@@ -52,7 +52,7 @@ pub(crate) fn write_json(
     buffer.push_json_number(b"nonterminals", grammar.accept().0 as u64);
     buffer.push_json_number(b"states", files.resolved.lr0().states() as u64);
     buffer.push(b"},\"faults\":[],\"more\":false");
-    buffer.push_json_key(b"doubts");
+    buffer.push_json_key(b"warnings");
     buffer.push(b"[");
     for (place, lint) in lints.iter().enumerate() {
         buffer.push(if place > 0 { b"," } else { b"" });
@@ -80,6 +80,6 @@ fn write_lint(buffer: &mut TextBuffer, files: &Analysis<'_>, lint: &Lint<'_>) {
     buffer.push_json_key(b"text");
     let mut words = buffer.beside();
     write_kind(&mut words, files, &lint.kind);
-    buffer.push_json_page(words);
+    buffer.push_json_buffer(words);
     buffer.push(b"}");
 }

@@ -78,7 +78,7 @@ pub(crate) fn write_other_bytes(
         if others.contains(&true) {
             buffer.push(b"In ");
             write_name(buffer, files, condition);
-            buffer.push(b" no match begins with");
+            buffer.push(b" no pattern starts with");
             write_bytes(buffer, &others);
             buffer.push(b"\n");
         }

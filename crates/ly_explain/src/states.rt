@@ -137,7 +137,7 @@ impl Teller<'_> {
                 None => buffer.push(b" accept\n"),
             },
             Action::Reduce(rule) => write_numbered(buffer, b" rule ", rule.0 as u64, b"\n"),
-            Action::Error => buffer.push(b" error, since it doesn't associate\n"),
+            Action::Error => buffer.push(b" error, since it is nonassociative\n"),
         }
     }
 

@@ -106,7 +106,7 @@ fn write_all(
         write_lint(buffer, files, lint);
     }
     if lints.is_empty() && files.resolved.conflicts().is_empty() {
-        buffer.push(b"No doubts.\n");
+        buffer.push(b"No warnings.\n");
     }
     if !options.grammar_alone {
         write_other_bytes(alloc, buffer, files)?;

@@ -42,15 +42,15 @@ pub fn write_kind(buffer: &mut TextBuffer, files: &Analysis<'_>, kind: &LintKind
     match kind {
         LintKind::UnsetCondition(name) => write_about(
             buffer,
-            b"no action sets the condition ",
+            b"no action enters the start condition ",
             name,
         ),
         LintKind::IdleCondition(name) => {
-            write_about(buffer, b"no rule is active in the condition ", name)
+            write_about(buffer, b"no rule is active in the start condition ", name)
         }
         LintKind::PatternLint { pattern_lint, .. } => write_pattern_lint(buffer, *pattern_lint),
         LintKind::IndentedLine => {
-            buffer.push(b"this line begins with a blank, and so is no rule: it is not used")
+            buffer.push(b"this line begins with a blank, so it isn't a rule and is ignored")
         }
         LintKind::UnmatchedRule(hiding) => write_hiding(buffer, hiding),
         LintKind::UnnamedLiteral(byte) => {
@@ -81,14 +81,14 @@ fn write_of_rule(buffer: &mut TextBuffer, files: &Analysis<'_>, kind: &LintKind<
                 buffer,
                 b"rule ",
                 *rule as u64,
-                b" is of no use: no text has it",
+                b" is useless: no sentence needs it",
             );
         }
         LintKind::UnreducedRule(rule) => {
             let words = if is_roundabout(files.spec.grammar(), *rule) {
-                b" is never reduced, and of no use: it makes its left side of that alone".as_slice()
+                b" is never reduced, and useless: its body is only its own left side".as_slice()
             } else {
-                b" is never reduced: conflicts and precedence leave it nothing"
+                b" is never reduced: it loses every conflict"
             };
             write_numbered(buffer, b"rule ", *rule as u64, words);
         }
@@ -105,7 +105,7 @@ fn write_of_rule(buffer: &mut TextBuffer, files: &Analysis<'_>, kind: &LintKind<
                 buffer,
                 b"the %prec of rule ",
                 *rule as u64,
-                b" decides nothing",
+                b" has no effect",
             );
         }
         _ => {}
@@ -126,19 +126,19 @@ fn write_of_terminal(buffer: &mut TextBuffer, files: &Analysis<'_>, kind: &LintK
     match kind {
         LintKind::UnusedTerminal(terminal) => {
             buffer.push_terminal(spec, *terminal);
-            buffer.push(b" stands in no rule");
+            buffer.push(b" is used in no rule");
         }
         LintKind::MoreUnused(count) => {
             write_numbered(
                 buffer,
                 b"",
                 *count as u64,
-                b" terminals more stand in no rule",
+                b" more terminals are used in no rule",
             );
         }
         LintKind::UnreturnedTerminal(terminal) => {
             buffer.push_terminal(spec, *terminal);
-            buffer.push(b" is returned by no rule of ");
+            buffer.push(b" is never returned by ");
             buffer.push(files.lex.name.as_bytes());
         }
         LintKind::MoreUnreturned(count) => {
@@ -146,7 +146,7 @@ fn write_of_terminal(buffer: &mut TextBuffer, files: &Analysis<'_>, kind: &LintK
                 buffer,
                 b"",
                 *count as u64,
-                b" terminals more are returned by no rule",
+                b" more terminals are never returned",
             );
         }
         LintKind::DeclaredAgain { symbol, first } => {
@@ -154,12 +154,12 @@ fn write_of_terminal(buffer: &mut TextBuffer, files: &Analysis<'_>, kind: &LintK
                 SymbolName::Name(name) => buffer.push(name),
                 SymbolName::Literal(byte) => buffer.push_byte(*byte),
             }
-            write_numbered(buffer, b" is declared before, on line ", *first, b"");
+            write_numbered(buffer, b" is already declared on line ", *first, b"");
         }
         LintKind::IdlePrecedence(terminal) => {
             buffer.push(b"the precedence of ");
             buffer.push_terminal(spec, *terminal);
-            buffer.push(b" decides nothing");
+            buffer.push(b" has no effect");
         }
         _ => {}
     }
@@ -169,9 +169,9 @@ fn write_of_terminal(buffer: &mut TextBuffer, files: &Analysis<'_>, kind: &LintK
 fn write_hiding(buffer: &mut TextBuffer, hiding: &Hiding) {
     buffer.push(b"this rule never matches: ");
     match hiding {
-        Hiding::Earlier => buffer.push(b"earlier rules take all that it could"),
+        Hiding::Earlier => buffer.push(b"earlier rules match all its strings"),
         Hiding::EmptyAlone => {
-            buffer.push(b"it has the empty string alone, and no match is empty");
+            buffer.push(b"its only string is the empty one, and no match is empty");
         }
         Hiding::Lines(lines) => write_rules(buffer, lines),
     }
@@ -181,9 +181,9 @@ fn write_hiding(buffer: &mut TextBuffer, hiding: &Hiding) {
 fn write_rules(buffer: &mut TextBuffer, lines: &[u64]) {
     let count = lines.len();
     buffer.push(if count == 1 {
-        b"the rule of line".as_slice()
+        b"the rule on line".as_slice()
     } else {
-        b"the rules of lines"
+        b"the rules on lines"
     });
     for (place, line) in first_of(lines, NAMED).iter().enumerate() {
         let last = place.saturating_add(1) == count;
@@ -200,9 +200,9 @@ fn write_rules(buffer: &mut TextBuffer, lines: &[u64]) {
         write_numbered(buffer, b" and ", (count - NAMED) as u64, b" more");
     }
     buffer.push(if count == 1 {
-        b" takes all that it could".as_slice()
+        b" matches all its strings".as_slice()
     } else {
-        b" take all that it could"
+        b" match all its strings"
     });
 }
 

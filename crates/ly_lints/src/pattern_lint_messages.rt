@@ -6,28 +6,28 @@ use ly_text_buffer::TextBuffer;
 pub(crate) fn write_pattern_lint(buffer: &mut TextBuffer, pattern_lint: PatternLint) {
     buffer.push(match pattern_lint {
         PatternLint::Letter(letter) => return write_letter(buffer, letter),
-        PatternLint::Backspace => b"\\b is a backspace; nothing stands for the edge of a word",
+        PatternLint::Backspace => b"\\b is a backspace; there is no pattern for a word boundary",
         PatternLint::Braces => {
-            b"\\x is the letter x, and the braces are an interval; write two hexadecimal digits, as \\x41"
+            b"\\x is the letter x here, and the braces are an interval; write two hexadecimal digits, as in \\x41"
         }
         PatternLint::Unicode => {
-            b"\\u is the letter u; write the character itself, or its bytes, as \\xc3\\xa9"
+            b"\\u is the letter u; write the character itself, or its bytes, as in \\xc3\\xa9"
         }
         PatternLint::Reluctant => {
-            b"this ? makes what stands before it optional: a match is the longest one always"
+            b"this ? makes the part before it optional: there are no lazy operators, and the longest match always wins"
         }
         PatternLint::ManyBytes => {
-            b"brackets hold single bytes, and this character has several; write it outside of them, with |"
+            b"brackets hold single bytes, and this character has several; write it outside them, with |"
         }
         PatternLint::Interval => {
-            b"the interval repeats all that stands before it, not its last piece alone, as POSIX has it; \
-            for that write parentheses around the piece and the interval, as in a(b{2})"
+            b"the interval repeats everything before it, not only the last part, as in POSIX; \
+            to repeat only that part, write parentheses around it and the interval, as in a(b{2})"
         }
         PatternLint::LineEnd => {
-            b"$ asks for a newline behind the match: at the end of a text without one the rule doesn't match"
+            b"$ needs a newline after the match: at the end of a text without one the rule doesn't match"
         }
         PatternLint::EndOfFile => {
-            b"<<EOF>> is these seven bytes: no rule matches the end of a text"
+            b"<<EOF>> matches these seven bytes: no rule matches the end of a text"
         }
     });
 }
@@ -38,7 +38,7 @@ fn write_letter(buffer: &mut TextBuffer, letter: u8) {
     buffer.push(&[letter]);
     buffer.push(b" is the letter ");
     buffer.push(&[letter]);
-    buffer.push(b" in a pattern; a class of bytes is written as ");
+    buffer.push(b" in a pattern; for the class write ");
     buffer.push(match letter {
         b'd' => b"[[:digit:]] or [0-9]".as_slice(),
         b'D' => b"[^[:digit:]] or [^0-9]",

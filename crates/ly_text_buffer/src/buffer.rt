@@ -88,7 +88,7 @@ impl TextBuffer {
     }
 
     /// Appends the text of another page. If an allocation failed there, it counts as failed here.
-    pub fn push_page(&mut self, buffer: TextBuffer)
+    pub fn push_buffer(&mut self, buffer: TextBuffer)
         ensures { SaysMore self.old self.new }
     {
         match buffer.finish() {

@@ -18,7 +18,7 @@ impl TextBuffer {
     {
         let mut lines = TextBuffer::new(self.allocator());
         push_lines(&mut lines, file, at);
-        self.push_page(lines);
+        self.push_buffer(lines);
     }
 }
 

@@ -9,7 +9,7 @@ use std::alloc::AllocError;
 
 impl TextBuffer {
     /// Appends the text of another page as a JSON string.
-    pub fn push_json_page(&mut self, buffer: TextBuffer)
+    pub fn push_json_buffer(&mut self, buffer: TextBuffer)
         ensures { SaysMore self.old self.new }
     {
         match buffer.finish() {

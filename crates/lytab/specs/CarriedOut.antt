@@ -89,17 +89,13 @@ abbrev pub version_number : Version → ℕ
 version_number V1 = 1
 version_number V2 = 2
 
--- the sizes as text, up to the number of the version
-abbrev pub counts_text : SetCounts → List ℕ
-counts_text counts = codes "tables: " ++ (decimal counts.terminals ++ codes " terminals, ")
+-- the line with the sizes of a table set
+abbrev pub set_line : SetCounts → List ℕ
+set_line counts = codes "tables: " ++ (decimal counts.terminals ++ codes " terminals, ")
     ++ (decimal counts.nonterminals ++ codes " nonterminals, ")
     ++ (decimal counts.scanner_rules ++ codes " scanner rules, ")
     ++ (decimal counts.scanner_states ++ codes " scanner states, ")
-    ++ (decimal counts.rules ++ codes " rules, ") ++ (decimal counts.parser_states ++ codes " parser states, version ")
-
--- the line with the sizes and the version of the file
-abbrev pub set_line : SetCounts → Version → List ℕ
-set_line counts version = counts_text counts ++ (decimal (version_number version) ++ codes "\n")
+    ++ (decimal counts.rules ++ codes " rules, ") ++ (decimal counts.parser_states ++ codes " parser states\n")
 
 -- the sizes as JSON, up to the number of the version
 abbrev pub counts_json : SetCounts → List ℕ
@@ -116,7 +112,7 @@ set_json counts version = counts_json counts ++ (decimal (version_number version
 
 -- the line in a form
 abbrev pub set_told : AnswerForm → SetCounts → Version → List ℕ
-set_told Plain counts version = set_line counts version
+set_told Plain counts version = set_line counts
 set_told Json counts version = set_json counts version
 
 -- that line was written

@@ -1,7 +1,7 @@
 //! The command `check`.
 ghost use Rattle.std.specs.Prelude.{◌≡◌, ◌++◌, IfErr, IfOk, OnOk, string_bytes};
 ghost use Rattle.std.specs.Fmt.{decimal};
-ghost use Rattle.lytab.specs.CarriedOut.{counts_json, counts_text, HasCounts, HasChecked, set_json, set_line};
+ghost use Rattle.lytab.specs.CarriedOut.{counts_json, HasCounts, HasChecked, set_json, set_line};
 ghost use Rattle.lytab.specs.CarriedOut.{set_told, version_number};
 ghost use Rattle.lytab.specs.Devices.{OutputFailuresReported, DoneOrUnchanged};
 ghost use Rattle.lytab.specs.Refusal.{IsRefusalOfCheck};
@@ -18,7 +18,7 @@ use std::alloc::{AllocError, Global};
 use std::fmt::Write;
 use std::rt::Files;
 
-/// Reads a table file, and writes its sizes and its version to standard output.
+/// Reads a table file, and writes its sizes to standard output; as JSON its version too.
 pub fn check_tables<'a, F: Files, W: Sink>(
     files: &F,
     alloc: Global,
@@ -50,7 +50,7 @@ fn counts_of(alloc: Global, bytes: &[u8]) -> Result<(SetCounts, Version), TableF
     Ok((counted, version))
 }
 
-/// The line with the sizes and the version of the file, in a form.
+/// The line with the sizes of the file, in a form. As JSON it has the version too.
 fn line_in(
     alloc: Global,
     form: AnswerForm,
@@ -60,23 +60,14 @@ fn line_in(
     ensures { IfOk result (λ line. string_bytes line ≡ set_told form counts.now version) }
 {
     match form {
-        AnswerForm::Plain => line_of(alloc, counts, version),
+        AnswerForm::Plain => line_of(alloc, counts),
         AnswerForm::Json => json_of(alloc, counts, version),
     }
 }
 
-/// The line with the sizes and the version of the file.
-fn line_of(alloc: Global, counts: &SetCounts, version: Version) -> Result<String, AllocError>
-    ensures { IfOk result (λ line. string_bytes line ≡ set_line counts.now version) }
-{
-    let mut line = text_of(alloc, counts)?;
-    push_count(&mut line, number_of(version), "\n")?;
-    Ok(line)
-}
-
-/// The same line up to the number of the version.
-fn text_of(alloc: Global, counts: &SetCounts) -> Result<String, AllocError>
-    ensures { IfOk result (λ line. string_bytes line ≡ counts_text counts.now) }
+/// The line with the sizes of the file.
+fn line_of(alloc: Global, counts: &SetCounts) -> Result<String, AllocError>
+    ensures { IfOk result (λ line. string_bytes line ≡ set_line counts.now) }
 {
     let mut line = String::from_str(alloc, "tables: ")?;
     push_count(&mut line, counts.terminals, " terminals, ")?;
@@ -84,7 +75,7 @@ fn text_of(alloc: Global, counts: &SetCounts) -> Result<String, AllocError>
     push_count(&mut line, counts.scanner_rules, " scanner rules, ")?;
     push_count(&mut line, counts.scanner_states, " scanner states, ")?;
     push_count(&mut line, counts.rules, " rules, ")?;
-    push_count(&mut line, counts.parser_states, " parser states, version ")?;
+    push_count(&mut line, counts.parser_states, " parser states\n")?;
     Ok(line)
 }
 

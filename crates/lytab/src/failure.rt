@@ -164,8 +164,11 @@ fn push_line(out: &mut Vec<u8>, failure: &Failure<'_>) -> io::Result<()> {
         Failure::Refused(fault, line) => push_refusal(out, fault, *line),
         Failure::Unexpected(counts, expected) => push_unexpected(out, counts, *expected),
         Failure::Tables(fault) => push_table_fault(out, fault),
-        Failure::FaultyTables => writeln!(out, "tables: fault 90 TableFault"),
-        Failure::TooLong => writeln!(out, "fault 92 TooLong"),
+        Failure::FaultyTables => {
+            out.write_all(b"tables: ")?;
+            push_text_fault(out, TextFault::FaultyTables)
+        }
+        Failure::TooLong => push_text_fault(out, TextFault::TooLong),
         Failure::OutOfMemory => writeln!(out, "out of memory"),
     }
 }
@@ -209,6 +212,12 @@ fn push_place(out: &mut Vec<u8>, file: &str, line: Option<u64>) -> io::Result<()
         Some(line) => write!(out, "{file}:{line}: "),
         None => Ok(()),
     }
+}
+
+/// Appends the number and the name of an error of a text.
+fn push_text_fault(out: &mut Vec<u8>, fault: TextFault) -> io::Result<()> {
+    push_fault(out, fault.number(), fault.name())?;
+    out.write_all(b"\n")
 }
 
 /// Appends the number and the name of an error. Out of memory has no number.

@@ -105,7 +105,7 @@ impl Notes {
             rest.push(b" can't stand here\n");
         }
         rest.push_excerpt(text, at);
-        self.buffer.push_page(rest);
+        self.buffer.push_buffer(rest);
     }
 
     /// A byte of a text at which no rule matches.
@@ -116,7 +116,7 @@ impl Notes {
         let at = locate(text.bytes, start);
         self.buffer.push_location_in(text, at);
         let rest = self.unmatched(text, start, at);
-        self.buffer.push_page(rest);
+        self.buffer.push_buffer(rest);
     }
 
     /// That no rule matches at an offset of a text, and the line at its location.
