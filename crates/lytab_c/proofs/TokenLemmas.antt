@@ -33,7 +33,7 @@ use Rattle.lytab_c.specs.Tokens.{given_over, placed_from, AreTokensParsed, IsFir
 use Rattle.lytab_c.specs.declared.report.Report.{Report}
 use Rattle.lytab_c.specs.declared.status.Status.{Status}
 use Rattle.lytab_c.specs.declared.status.Status.TheVariants.{Done, Fault, Memory, Misused, Refused, Short}
-use Rattle.lytab_c.specs.declared.token.Token.{Token}
+use Rattle.lytab_c.specs.declared.caller_token.CallerToken.{CallerToken}
 
 -- a fault that has a number is no want of memory
 not_memory : (fault : TableFault) (number : ℕ) → drive_number (Tables fault) ≡ Some number → fault ≢ file.OutOfMemory
@@ -41,7 +41,7 @@ not_memory fault number is same =
     let off : drive_number (Tables file.OutOfMemory) ≡ Some number
     = subst (λ f. drive_number (Tables f) ≡ Some number) same is in cc
 
-module _ (text : List ℕ) (tokens : List Token) (old new : ParseBlocks) (report : Report) where
+module _ (text : List ℕ) (tokens : List CallerToken) (old new : ParseBlocks) (report : Report) where
   -- a fault
   pub fault_said : (s : TableSet) (status : Status) (fault : TextFault) → IsFaultOver s text tokens fault
       → IsFaultTold (Text fault) report status → new ≡ old → AreTokensSaid s text tokens old new report status
@@ -87,7 +87,7 @@ module _ (text : List ℕ) (tokens : List Token) (old new : ParseBlocks) (report
   file_said tables s Short driven said = (said.0, (s, driven, said.1), said.2, said.3, said.4)
 
 -- what is found of tokens for a parser is found of the tokens that were given
-pub parsed_over : (s : TableSet) (text : List ℕ) (tokens : List Token) (placed : List PlacedToken)
+pub parsed_over : (s : TableSet) (text : List ℕ) (tokens : List CallerToken) (placed : List PlacedToken)
     (r : Result Parsed TextFault) → placed ≡ map placed_from tokens
     → IfOk r (λ p. (v : PlacedVerdict) × IsPlacedTokenVerdict s text (map (token_over text) placed) v
     × IsParsedAs text v p) → IfOk r (IsParsedOver s text tokens)
@@ -115,14 +115,14 @@ parsed_over s text tokens placed (Ok (parsed.Refused syntax_error)) same (v, is,
     by_verdict answer.faulty (syntax_errors.NoRule byte) is plain = absurd (let no : ⊥ = cc in no)
 
 -- The first wrong token, if there is one, stands among those from an index on.
-pub record IsWrongFrom (terminals count i : ℕ) (tokens : List Token) : Type 0 where
+pub record IsWrongFrom (terminals count i : ℕ) (tokens : List CallerToken) : Type 0 where
   pub wrong : (k : ℕ) → IsFirstWrong terminals count (drop i tokens) k → IsFirstWrong terminals count tokens (i + k)
   pub right : All (λ t. IsTokenOver terminals count (placed_from t)) (drop i tokens)
       → All (λ t. IsTokenOver terminals count (placed_from t)) tokens
 
-module _ (terminals count i : ℕ) (tokens : List Token) (d : Token) (inside : i + 1 ≤ length tokens)
+module _ (terminals count i : ℕ) (tokens : List CallerToken) (d : CallerToken) (inside : i + 1 ≤ length tokens)
     (so_far : IsWrongFrom terminals count i tokens) where
-  abbrev here : Token
+  abbrev here : CallerToken
   here = get_or tokens i d
 
   split : drop i tokens ≡ here ∷ drop (suc i) tokens
@@ -152,7 +152,7 @@ one_within : (count : ℕ) (before : List (lexed.Token ℕ)) (t : lexed.Token �
 one_within count [] t behind h = h.0
 one_within count (u ∷ us) t behind h = one_within count us t behind h.1
 
-given_within : (terminals : ℕ) (text : List ℕ) (tokens : List Token)
+given_within : (terminals : ℕ) (text : List ℕ) (tokens : List CallerToken)
     → All (λ t. IsTokenOver terminals (length text) (placed_from t)) tokens
     → AllEndWithin (length text) (given_over text tokens ++ end_of text ∷ [])
 given_within terminals text [] h = (omega arith, tt)
@@ -165,7 +165,7 @@ given_within terminals text (t ∷ ts) h =
     )
 
 -- so a refused one does
-pub token_syntax_error_fits : (s : TableSet) (text : List ℕ) (tokens : List Token) (syntax_error : SyntaxError)
+pub token_syntax_error_fits : (s : TableSet) (text : List ℕ) (tokens : List CallerToken) (syntax_error : SyntaxError)
     → length text < 2 ^ 64
     → All (λ t. IsTokenOver (length s.terminals) (length text) (placed_from t)) tokens
     → IsTokenVerdict s text (given_over text tokens) (verdict_of syntax_error) → FitsSyntaxError syntax_error

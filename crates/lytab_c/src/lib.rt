@@ -20,6 +20,7 @@ mod answering;
 mod block;
 mod build_report;
 mod building;
+mod caller_token;
 mod laws;
 mod locating;
 mod name_counts;
@@ -33,7 +34,6 @@ mod report;
 mod status;
 mod text_report;
 mod text_source;
-mod token;
 mod version;
 
 pub use laws::walks_meet_children;

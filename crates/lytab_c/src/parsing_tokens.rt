@@ -5,11 +5,11 @@ ghost use Rattle.lytab_c.specs.Statuses.{status_number};
 ghost use Rattle.lytab_c.specs.Tokens.{placed_from, AreTokensParsed, IsFirstWrong};
 ghost use Rattle.lytab_c.specs.declared.status.Status.{Status as Code};
 
+use crate::caller_token::CallerToken;
 use crate::parsing::{put_parts, put_syntax_error};
 use crate::part::Part;
 use crate::report::Report;
 use crate::status::Status;
-use crate::token::Token;
 use ly_base::OutOfMemory;
 use ly_drive::DriveFault;
 use ly_feed::TextFault;
@@ -25,7 +25,7 @@ pub extern "C" fn lytab_parse_tokens(
     alloc: Global,
     tables: &[u8],
     text: &[u8],
-    tokens: &[Token],
+    tokens: &[CallerToken],
     parts: &mut [Part],
     expected: &mut [u32],
     report: &mut Report,
@@ -45,7 +45,7 @@ fn parse_tokens_into(
     alloc: Global,
     tables: &[u8],
     text: &[u8],
-    tokens: &[Token],
+    tokens: &[CallerToken],
     parts: &mut [Part],
     expected: &mut [u32],
     report: &mut Report,
@@ -65,7 +65,7 @@ fn answer_tokens(
     alloc: Global,
     set: &TableSet,
     text: &[u8],
-    tokens: &[Token],
+    tokens: &[CallerToken],
     parts: &mut [Part],
     expected: &mut [u32],
     report: &mut Report,
@@ -86,7 +86,7 @@ fn answer_tokens(
 }
 
 /// The number of the first token that has no valid terminal or isn't within the text. The first token has number 1.
-fn wrong_token(tokens: &[Token], terminals: usize, count: usize) -> Option<u64>
+fn wrong_token(tokens: &[CallerToken], terminals: usize, count: usize) -> Option<u64>
     ensures wrong { IfSome result (IsFirstWrong terminals count tokens.now) }
     ensures right { result ≡ None → All (λ t. IsTokenOver terminals count (placed_from t)) tokens.now }
 {
@@ -100,7 +100,7 @@ fn wrong_token(tokens: &[Token], terminals: usize, count: usize) -> Option<u64>
 }
 
 /// Whether a token's terminal is below a count and isn't the end, and its span is within this many bytes.
-fn is_over(token: &Token, terminals: usize, count: usize) -> bool
+fn is_over(token: &CallerToken, terminals: usize, count: usize) -> bool
     ensures right { result ≡ true → IsTokenOver terminals count (placed_from token.now) }
     ensures wrong { result ≡ false → IsTokenOver terminals count (placed_from token.now) → ⊥ }
 {
@@ -115,7 +115,7 @@ fn parse_by<'t>(
     alloc: Global,
     set: &TableSet,
     text: &'t [u8],
-    tokens: &[Token],
+    tokens: &[CallerToken],
 ) -> Result<Parsed<'t>, TextFault>
     requires { All (λ t. IsTokenOver (length set.now.terminals) (length text.now) (placed_from t)) tokens.now }
     ensures parsed { IfOk result (IsParsedOver set.now text.now tokens.now) }
@@ -126,7 +126,7 @@ fn parse_by<'t>(
 }
 
 /// The same tokens as a parser takes them. Returns an error if memory runs out.
-fn placed_tokens(alloc: Global, tokens: &[Token]) -> Result<Vec<PlacedToken>, OutOfMemory>
+fn placed_tokens(alloc: Global, tokens: &[CallerToken]) -> Result<Vec<PlacedToken>, OutOfMemory>
     ensures { IfOk result (λ placed. placed.items ≡ map placed_from tokens.now) }
 {
     Ok(tokens.iter().map(|token| token.placed()).collect(alloc)?)

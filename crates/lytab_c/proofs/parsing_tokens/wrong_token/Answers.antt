@@ -1,9 +1,9 @@
 use Rattle.std.proofs.Common.{arith}
 use Rattle.lytab_c.proofs.TokenLemmas.{next_right}
-use Rattle.lytab_c.specs.declared.token.Token.{Token}
+use Rattle.lytab_c.specs.declared.caller_token.CallerToken.{CallerToken}
 use Rattle.lytab_c.proofs.parsing_tokens.wrong_token.Goals as goal
 
-abbrev none : Token
+abbrev none : CallerToken
 none = record { terminal = 0; unused = 0; start = 0; end = 0 }
 
 pub loop-index-preserved : goal.loop-index-preserved

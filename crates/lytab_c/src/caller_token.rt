@@ -7,7 +7,7 @@ use ly_places::{PlacedToken, Span};
 /// A token that the caller found in a text.
 #[repr(C)]
 #[derive(Clone, Copy)]
-pub struct Token {
+pub struct CallerToken {
     /// The number of its terminal.
     pub terminal: u32,
     /// Ignored.
@@ -18,7 +18,7 @@ pub struct Token {
     pub end: u64,
 }
 
-impl Token {
+impl CallerToken {
     /// The same token as a parser takes it.
     pub(crate) fn placed(&self) -> PlacedToken
         ensures { result ≡ placed_from self.now }
