@@ -202,7 +202,7 @@ fn push_unexpected(out: &mut Vec<u8>, counts: &ConflictCounts, expected: usize) 
     let (shifts, reductions) = (counts.shift_reduce, counts.reduce_reduce);
     writeln!(
         out,
-        "{shifts} shift/reduce and {reductions} reduce/reduce conflicts, where {expected} and 0 are expected"
+        "{shifts} shift/reduce and {reductions} reduce/reduce conflicts; expected {expected} and 0"
     )
 }
 

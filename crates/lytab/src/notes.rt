@@ -97,12 +97,12 @@ impl Notes {
         self.buffer.push_location_in(text, at);
         let mut rest = self.buffer.beside();
         if token.is_empty() {
-            rest.push(b"the text can't end here\n");
+            rest.push(b"unexpected end of the text\n");
         } else {
+            rest.push(b"unexpected ");
             rest.push_quoted(token.get(..LONGEST).unwrap_or(token));
             let is_cut = token.len() > LONGEST;
-            rest.push(if is_cut { b".." } else { b"" });
-            rest.push(b" can't stand here\n");
+            rest.push(if is_cut { b"..\n" } else { b"\n" });
         }
         rest.push_excerpt(text, at);
         self.buffer.push_buffer(rest);
