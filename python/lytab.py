@@ -312,8 +312,8 @@ class Tables:
         return self._tree(text, memoryview(parts)[: report.needed * _PART.size])
 
     def parse_all(self, texts: Iterable[bytes]) -> List[Union[Part, SyntaxFault, TableFault]]:
-        """Parses many texts, and reads the tables once for all of them. Returns for each its tree, or the exception that
-        parse would raise."""
+        """Parses many texts, and reads the tables once for all. Returns for each its tree, or the exception that parse
+        would raise."""
         texts = [bytes(text) for text in texts]
         ends = (ctypes.c_uint64 * len(texts))(*itertools.accumulate(map(len, texts)))
         joined, told = b"".join(texts), (_Text * len(texts))()
