@@ -1,4 +1,4 @@
-"""Trees of texts by lytab's driver, over its library for C.
+"""Parses texts with lytab, over its C library.
 
     import lytab
 
@@ -6,12 +6,12 @@
     tree = tables.parse(b"8 - 2 * 3")
     print(tree.name, [child.text for child in tree.walk() if isinstance(child, lytab.Token)])
 
-This file isn't proved. What it calls is, where liblytab.so was installed without `--quick`: the statuses, the faults
-and the lists of parts. What this file makes of them is only tested.
+This file isn't proved, only tested. The library that it calls is proved, if liblytab.so was installed without
+`--quick`: the statuses, the errors and the lists of parts.
 
-The library is the file that LYTAB_LIBRARY names in the environment, or the one of the installation in which this file
-lies, or the one that the system's loader finds. All bytes count from 0, tokens, rules, lines and columns from 1; a
-column counts bytes. Calls may be made by many threads at a time.
+The library is the file named by the environment variable LYTAB_LIBRARY, or that of the installation that contains this
+file, or the one that the system's loader finds. Bytes count from 0; tokens, rules, lines and columns count from 1;
+columns count bytes. Many threads may call at the same time.
 """
 from __future__ import annotations
 
@@ -53,9 +53,9 @@ class _Built(ctypes.Structure):
 
 
 class TableFault(ValueError):
-    """The bytes are no table file, or (90) one that is at fault on a text.
+    """The bytes aren't a valid table file, or (90) its tables are faulty on a text.
 
-    `number` is the fault's, 80 to 85 and 90, and `section` of fault 84 the section that is out of range, else 0.
+    `number` is the error code, 80 to 85 or 90. `section` is the section that is out of range for 84, and otherwise 0.
     """
 
     def __init__(self, number: int, section: int) -> None:
@@ -67,10 +67,10 @@ class TableFault(ValueError):
 
 
 class BuildFault(ValueError):
-    """A lex file, a yacc file, or both together are refused.
+    """A lex file, a yacc file, or both together are rejected.
 
-    `number` is the fault's. `file` is "lex" or "yacc", and `line` and `column` say where the fault stands in it; where
-    the fault is of both files together, or of all patterns together, they are None and 0.
+    `number` is the error code. `file` is "lex" or "yacc", and `line` and `column` are the location in it. For an error
+    in both files together, or in all patterns together, `file` is None, and `line` and `column` are 0.
     """
 
     def __init__(self, number: int, file: Optional[str], line: int, column: int) -> None:
@@ -83,12 +83,11 @@ class BuildFault(ValueError):
 
 
 class SyntaxFault(ValueError):
-    """A text has no tree.
+    """A syntax error: an unexpected token, an unexpected end of the text, or a byte that no rule matches.
 
-    A token is refused, or the end of the text, or no rule matches a byte; `number` is that of the token, and 0 where no
-    rule matches. `offset` is where it stands, on line `line` in column `column`. `name` is the token's, "$end" of the
-    end, and None where no rule matches; `text` are its bytes, or the byte that no rule matches. `expected` are the
-    names of what could have stood there.
+    `number` is that of the token, or 0 if no rule matches. `offset`, `line` and `column` are its location. `name` is
+    the name of the token, "$end" for the end, or None if no rule matches. `text` has its bytes, or the byte that no
+    rule matches. `expected` has the names of the expected tokens.
     """
 
     def __init__(
@@ -115,7 +114,7 @@ class SyntaxFault(ValueError):
 
 
 class Token:
-    """A token of a tree: the name of its terminal, its bytes, and that they are `text[start:end]` of the text."""
+    """A token of a tree: the name of its terminal, its bytes, and its span `text[start:end]` in the text."""
 
     __slots__ = ("name", "text", "start", "end")
 
@@ -127,8 +126,8 @@ class Token:
 
 
 class Node:
-    """A node of a tree: its constructor, its children, and that it is at `text[start:end]` of the text. A child that is
-    nothing is None."""
+    """A node of a tree: its constructor, its children, and its span `text[start:end]` in the text. A child that is an
+    empty tree is None."""
 
     __slots__ = ("name", "children", "start", "end")
 
@@ -139,7 +138,7 @@ class Node:
         return f"Node({self.name!r}, [{len(self.children)} children], {self.start}, {self.end})"
 
     def walk(self) -> Iterator[Part]:
-        """The node and all that it consists of, each in front of its own children."""
+        """Yields the node and everything in it, each parent before its children."""
         return walk(self)
 
 
@@ -147,7 +146,7 @@ Part = Union[Node, Token, None]
 
 
 def walk(part: Part) -> Iterator[Part]:
-    """A part of a tree and all that it consists of, each in front of its own children, without recursion."""
+    """Yields a part of a tree and everything in it, each parent before its children, without recursion."""
     waiting = [part]
     while waiting:
         next_ = waiting.pop()
@@ -185,14 +184,14 @@ def _library() -> ctypes.CDLL:
 
 
 def locate(text: bytes, byte: int) -> Tuple[int, int]:
-    """On which line of a text a byte is, and in which column of it; of a byte past the text, where the text ends."""
+    """Returns the line and the column of a byte of a text; for an offset after the text, those of its end."""
     line, column = ctypes.c_uint64(), ctypes.c_uint64()
     _library().lytab_locate(text, len(text), byte, ctypes.byref(line), ctypes.byref(column))
     return line.value, column.value
 
 
 def _wanted(status: int, fault: int, section: int) -> None:
-    """Raises what a status tells that isn't one of an answer."""
+    """Raises the exception of a status that isn't a result."""
     if status == _FAULT:
         raise TableFault(fault, section)
     if status == _MEMORY:
@@ -202,7 +201,7 @@ def _wanted(status: int, fault: int, section: int) -> None:
 
 
 def _build(lex: bytes, yacc: bytes) -> Tuple[bytes, Tuple[int, int]]:
-    """The table file of a lex file and a yacc file, and how many conflicts there are of each kind."""
+    """Builds the table file of a lex file and a yacc file. Returns it with the number of conflicts of each kind."""
     room = 64 * 1024
     while True:
         block, built = ctypes.create_string_buffer(room), _Built()
@@ -218,7 +217,7 @@ def _build(lex: bytes, yacc: bytes) -> Tuple[bytes, Tuple[int, int]]:
 
 
 def _names(tables: bytes) -> Tuple[Tuple[str, ...], Tuple[str, ...]]:
-    """The names of a table file: those of its terminals, and those of its rules."""
+    """Returns the names of the terminals and of the rules of a table file."""
     rooms = 256, 4096
     while True:
         ends, names, counts = (ctypes.c_uint64 * rooms[0])(), ctypes.create_string_buffer(rooms[1]), _Counts()
@@ -235,33 +234,33 @@ def _names(tables: bytes) -> Tuple[Tuple[str, ...], Tuple[str, ...]]:
 
 
 class Tables:
-    """A table file, by which texts are answered.
+    """A table file, with which texts are parsed.
 
-    `bytes` is the file, as `lytab build` writes it. `terminals` are the names of terminals 0, 1, ..; `rules` are the
-    constructors of rules 1, 2, .., empty for rules that make no node. `conflicts`, of tables that were built here, says
-    how many there are between a shift and a reduction, and between two reductions.
+    `bytes` is the file, as `lytab build` writes it. `terminals` has the names of terminals 0, 1, ..; `rules` has the
+    constructors of rules 1, 2, .., empty for rules that make no node. `conflicts` has the number of shift/reduce and of
+    reduce/reduce conflicts of tables that were built here, and is otherwise None.
     """
 
     def __init__(self, tables: bytes) -> None:
-        """Takes the bytes of a table file. Raises TableFault where they are none."""
+        """Takes the bytes of a table file. Raises TableFault if they aren't valid."""
         self.bytes = bytes(tables)
         self.terminals, self.rules = _names(self.bytes)
         self.conflicts: Optional[Tuple[int, int]] = None
 
     @classmethod
     def build(cls, lex: bytes, yacc: bytes) -> Tables:
-        """Makes the tables of a lex file and a yacc file. Raises BuildFault where these are refused."""
+        """Builds the tables of a lex file and a yacc file. Raises BuildFault if these are rejected."""
         tables, conflicts = _build(bytes(lex), bytes(yacc))
         made = cls(tables)
         made.conflicts = conflicts
         return made
 
     def answer(self, text: bytes) -> bytes:
-        """What `lytab run` writes for a text: a line for its tree, or why there is none."""
+        """Returns what `lytab run` prints for a text: a line with its tree, or the syntax error."""
         return self._said(_library().lytab_answer, bytes(text))
 
     def json(self, text: bytes) -> bytes:
-        """What `lytab run --json` writes for a text: a line of JSON."""
+        """Returns what `lytab run --json` prints for a text: a line of JSON."""
         return self._said(_library().lytab_json, bytes(text))
 
     def _said(self, call: Callable[..., int], text: bytes) -> bytes:
@@ -276,16 +275,16 @@ class Tables:
         return block.raw[: report.needed]
 
     def parse(self, text: bytes) -> Part:
-        """The tree of a text: a node, a token, or None for nothing. Raises SyntaxFault where it has none."""
+        """Returns the tree of a text: a node, a token, or None for an empty tree. Raises SyntaxFault if it has none."""
         text = bytes(text)
         return self._parsed(_library().lytab_parse, text, [text, len(text)])
 
     def parse_tokens(self, text: bytes, tokens: Iterable[Tuple[Union[int, str], int, int]]) -> Part:
-        """The tree of tokens over a text, that the caller has found: what the parser says of just these, in this order.
+        """Parses tokens of a text that the caller has found, in this order. Returns their tree.
 
-        A token is the name or the number of its terminal, and where it starts and ends in the text. Raises SyntaxFault
-        where they have no tree, and ValueError where one has no terminal of the tables, or that of the end, or doesn't
-        stand in the text.
+        A token is the name or the number of its terminal, and its start and end in the text. Raises SyntaxFault if they
+        have no tree, and ValueError if a token is invalid: its terminal doesn't exist or is that of the end, or its
+        span isn't in the text.
         """
         text = bytes(text)
         number = {name: number for number, name in enumerate(self.terminals)}
@@ -297,7 +296,7 @@ class Tables:
         return self._parsed(_library().lytab_parse_tokens, text, [text, len(text), packed, len(given)])
 
     def _parsed(self, call: Callable[..., int], text: bytes, what: List[object]) -> Part:
-        """The tree of what a call is asked of, which stands in a text."""
+        """Returns the tree that a call finds for its input in a text."""
         expected = (ctypes.c_uint32 * len(self.terminals))()
         room = len(text) // 4 + 64
         while True:
@@ -313,8 +312,8 @@ class Tables:
         return self._tree(text, memoryview(parts)[: report.needed * _PART.size])
 
     def parse_all(self, texts: Iterable[bytes]) -> List[Union[Part, SyntaxFault, TableFault]]:
-        """What parse says of each of many texts, for which the tables are read once: the tree of the text, or what
-        parse raises of it."""
+        """Parses many texts, and reads the tables once for all. Returns for each its tree, or the exception that parse
+        would raise."""
         texts = [bytes(text) for text in texts]
         ends = (ctypes.c_uint64 * len(texts))(*itertools.accumulate(map(len, texts)))
         joined, told = b"".join(texts), (_Text * len(texts))()
@@ -342,14 +341,14 @@ class Tables:
         return said
 
     def _refused(self, text: bytes, report: _Report, expected: List[int]) -> SyntaxFault:
-        """What is said of a text that is refused."""
+        """Returns the exception for a syntax error in a text."""
         names = tuple(self.terminals[terminal] for terminal in expected)
         name = self.terminals[report.terminal] if report.number else None
         bytes_ = text[report.start : report.end if report.number else report.start + 1]
         return SyntaxFault(report.number, report.start, *locate(text, report.start), name, bytes_, names)
 
     def _tree(self, text: bytes, parts: memoryview) -> Part:
-        """The tree of a list of parts, each of which stands in front of those that it consists of."""
+        """Returns the tree of a list of parts, in which each part precedes its children."""
         whole: List[Part] = []
         children, behind = whole, len(parts)
         around: List[Tuple[List[Part], int]] = []
