@@ -83,6 +83,12 @@ fn form_of_others(kind: LexFaultKind, line: &[u8], before: usize) -> Option<&'st
                 "write a byte with two digits and no braces, as in `\\x41`, and a character of several bytes as itself",
             )
         }
+        LexFaultKind::Pattern(EreFaultKind::UnclosedBracket)
+            if opens_collating(from_offset(line, before.saturating_add(1))) => {
+            Some(
+                "in a set `[.`, `[=` and `[:` begin a symbol that ends with `.]`, `=]` or `:]`: to match `[`, write it last",
+            )
+        }
         LexFaultKind::UnknownCondition if before == 0 => {
             Some(
                 "a list of start conditions is `<NAME>` or `<NAME,NAME>`: for the byte write `\\<` or `\"<\"`",
@@ -90,6 +96,14 @@ fn form_of_others(kind: LexFaultKind, line: &[u8], before: usize) -> Option<&'st
         }
         _ => None,
     }
+}
+
+/// Whether a collating symbol, an equivalence class or a character class begins in a text.
+fn opens_collating(text: &[u8]) -> bool {
+    let openings: [&[u8]; 3] = [b"[.", b"[=", b"[:"];
+    openings
+        .iter()
+        .any(|opening| offset_of(text, opening).is_some())
 }
 
 /// Whether a text ends with an escaped letter that begins a number: an unescaped backslash and the letter.
