@@ -28,6 +28,9 @@ pub(crate) fn yacc_advice(
         YaccFaultKind::BadRule => rule_advice(before, rest),
         YaccFaultKind::BadLiteral => literal_advice(rest),
         YaccFaultKind::BadAction => action_advice(before, rest),
+        YaccFaultKind::DollarRange if rest.starts_with(b"0") => {
+            "there is no `$0`: `$1` is the first symbol of the body"
+        }
         YaccFaultKind::DollarRange => {
             "`$1` is the first symbol of the body, which has fewer symbols than that"
         }

@@ -164,11 +164,11 @@ impl<'a> Finder<'a> {
             Err(EreFault::Refused { .. }) => return Ok(()),
         };
         let before = line.len().saturating_sub(end.len());
-        for lintful in &pattern_lints(alloc, names, end.get(..length).unwrap_or_default())? {
-            let offset = before.saturating_add(lintful.offset);
+        for found_lint in &pattern_lints(alloc, names, end.get(..length).unwrap_or_default())? {
+            let offset = before.saturating_add(found_lint.offset);
             let column = start.column.saturating_add(offset as u64);
             let kind = LintKind::PatternLint {
-                pattern_lint: lintful.pattern_lint,
+                pattern_lint: found_lint.pattern_lint,
                 line,
                 offset,
             };

@@ -2,7 +2,7 @@
 //! far it reads a prefix shows which construct is at an offset, and reading the pattern as it may be meant shows
 //! whether that is another pattern. Expressions don't record whether `(ab){2}` had parentheses, and a second reader
 //! could disagree with the first.
-use ly_base::{Limits, OutOfMemory};
+use ly_base::{Limits, OutOfMemory, escape};
 use ly_ere::{EreFault, EreFaultKind, Names, Pattern, Re, read_pattern};
 use std::alloc::Global;
 
@@ -37,7 +37,7 @@ pub enum PatternLint {
 
 /// A warning about a pattern.
 #[derive(Clone, Copy, Debug)]
-pub(crate) struct Lintful {
+pub(crate) struct Found {
     /// The construct.
     pub(crate) pattern_lint: PatternLint,
     /// The offset of the construct in the pattern.
@@ -65,7 +65,7 @@ struct Linting<'a> {
     /// The text of the pattern.
     text: &'a [u8],
     /// The warnings found so far.
-    found: Vec<Lintful>,
+    found: Vec<Found>,
     /// The number of bytes that may still be read.
     bytes: usize,
 }
@@ -75,7 +75,7 @@ pub(crate) fn pattern_lints(
     alloc: Global,
     names: &Names,
     text: &[u8],
-) -> Result<Vec<Lintful>, OutOfMemory> {
+) -> Result<Vec<Found>, OutOfMemory> {
     let mut linting = Linting {
         names,
         limits: Limits::version_2(),
@@ -171,7 +171,10 @@ impl Linting<'_> {
         };
         let end = offset.saturating_add(length).saturating_add(1);
         for start in (0..offset).rev() {
-            if self.stand(alloc, start)? == Stand::Piece && self.is_pattern(alloc, start, offset)? {
+            if !self.is_inside(start)
+                && self.stand(alloc, start)? == Stand::Piece
+                && self.is_pattern(alloc, start, offset)?
+            {
                 if !self.is_same(alloc, &self.parenthesised(alloc, start, end)?)? {
                     self.note(PatternLint::Interval, offset)?;
                 }
@@ -179,6 +182,26 @@ impl Linting<'_> {
             }
         }
         Ok(())
+    }
+
+    /// Whether an offset is inside an escape or inside a character of several bytes.
+    fn is_inside(&self, offset: usize) -> bool {
+        let mut next = 0;
+        for at in 0..offset {
+            if at >= next {
+                next = at.saturating_add(self.length_at(at));
+            }
+        }
+        next > offset || matches!(self.byte(offset), Some(0x80..=0xBF))
+    }
+
+    /// The number of bytes of the escape at an offset, or 1 if there is none.
+    fn length_at(&self, offset: usize) -> usize {
+        let text = self.text.get(offset..).unwrap_or_default();
+        match escape(text) {
+            Ok((_, length)) if text.first() == Some(&b'\\') => length,
+            _ => 1,
+        }
     }
 
     /// The pattern with parentheses around a part of it.
@@ -290,7 +313,7 @@ impl Linting<'_> {
     /// Adds a warning at an offset.
     fn note(&mut self, pattern_lint: PatternLint, offset: usize) -> Result<(), OutOfMemory> {
         Ok(
-            self.found.push(Lintful {
+            self.found.push(Found {
                 pattern_lint,
                 offset,
             })?,
