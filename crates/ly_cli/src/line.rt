@@ -316,24 +316,22 @@ fn strict<'a>(alloc: Global) -> Arg<'a>
         .help("Exit with 1 if there is a warning, or a conflict that --expect doesn't allow")
 }
 
-/// `--states FILE`.
+/// `--states STATES`.
 fn states<'a>(alloc: Global) -> Arg<'a>
     ensures rule { rule_of result ≡ states_rule }
     ensures local { result.global ≡ false }
 {
     Arg::new(alloc, "STATES")
         .long("states")
-        .value_name("FILE")
-        .help("Write the states of the parser to FILE")
+        .help("Write the states of the parser to STATES")
 }
 
-/// `--graph FILE`.
+/// `--graph GRAPH`.
 fn graph<'a>(alloc: Global) -> Arg<'a>
     ensures rule { rule_of result ≡ graph_rule }
     ensures local { result.global ≡ false }
 {
     Arg::new(alloc, "GRAPH")
         .long("graph")
-        .value_name("FILE")
-        .help("Write the states as a graph for Graphviz's dot to FILE")
+        .help("Write the states as a graph for Graphviz's dot to GRAPH")
 }
