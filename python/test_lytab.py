@@ -72,7 +72,7 @@ class Calculator(unittest.TestCase):
         fault = raised.exception
         self.assertEqual((fault.number, fault.offset, fault.line, fault.column), (5, 7, 2, 5))
         self.assertEqual((fault.name, fault.text, fault.expected), ("'*'", b"*", ("NUMBER", "'-'", "'('")))
-        self.assertEqual(str(fault), "2:5: '*' b'*' can't stand here; expected: NUMBER '-' '('")
+        self.assertEqual(str(fault), "2:5: unexpected '*' b'*'; expected: NUMBER '-' '('")
 
     def test_a_refused_end(self):
         with self.assertRaises(lytab.SyntaxFault) as raised:
@@ -80,6 +80,7 @@ class Calculator(unittest.TestCase):
         fault = raised.exception
         self.assertEqual((fault.number, fault.offset, fault.line, fault.column), (3, 3, 1, 4))
         self.assertEqual((fault.name, fault.text, fault.expected), ("$end", b"", ("NUMBER", "'-'", "'('")))
+        self.assertEqual(str(fault), "1:4: unexpected end of the text; expected: NUMBER '-' '('")
 
     def test_an_unmatched_byte(self):
         with self.assertRaises(lytab.SyntaxFault) as raised:
