@@ -108,7 +108,7 @@ class SyntaxFault(ValueError):
         if self.name is None:
             what = f"no rule matches {self.text!r}"
         else:
-            what = "unexpected " + (f"{self.name} {self.text!r}" if self.text else "end of the text")
+            what = "unexpected " + ("end of the text" if self.name == "$end" else f"{self.name} {self.text!r}")
         expected = f"; expected: {' '.join(self.expected)}" if self.expected else ""
         return f"{self.line}:{self.column}: {what}{expected}"
 

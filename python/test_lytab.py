@@ -166,6 +166,11 @@ class ManyTexts(unittest.TestCase):
         self.assertEqual((fault.number, fault.offset, fault.column, fault.text), (3, 9, 10, b"times"))
         self.assertEqual(fault.expected, ("NUMBER", "'-'", "'('"))
 
+    def test_a_refused_token_without_bytes(self):
+        with self.assertRaises(lytab.SyntaxFault) as raised:
+            self.tables.parse_tokens(b"one plus ", [("NUMBER", 0, 3), ("'+'", 4, 8), ("'*'", 9, 9)])
+        self.assertEqual(str(raised.exception), "1:10: unexpected '*' b''; expected: NUMBER '-' '('")
+
     def test_no_tokens(self):
         for token in (("WORD", 0, 1), (0, 0, 1), (12, 0, 1), ("NUMBER", 1, 0), ("NUMBER", 0, 4), (-1, 0, 1)):
             with self.assertRaises(ValueError) as raised:
