@@ -108,7 +108,7 @@ class SyntaxFault(ValueError):
         if self.name is None:
             what = f"no rule matches {self.text!r}"
         else:
-            what = "the text can't end here" if not self.text else f"{self.name} {self.text!r} can't stand here"
+            what = "unexpected " + ("end of the text" if self.name == "$end" else f"{self.name} {self.text!r}")
         expected = f"; expected: {' '.join(self.expected)}" if self.expected else ""
         return f"{self.line}:{self.column}: {what}{expected}"
 

@@ -72,7 +72,7 @@ class Calculator(unittest.TestCase):
         fault = raised.exception
         self.assertEqual((fault.number, fault.offset, fault.line, fault.column), (5, 7, 2, 5))
         self.assertEqual((fault.name, fault.text, fault.expected), ("'*'", b"*", ("NUMBER", "'-'", "'('")))
-        self.assertEqual(str(fault), "2:5: '*' b'*' can't stand here; expected: NUMBER '-' '('")
+        self.assertEqual(str(fault), "2:5: unexpected '*' b'*'; expected: NUMBER '-' '('")
 
     def test_a_refused_end(self):
         with self.assertRaises(lytab.SyntaxFault) as raised:
@@ -80,6 +80,7 @@ class Calculator(unittest.TestCase):
         fault = raised.exception
         self.assertEqual((fault.number, fault.offset, fault.line, fault.column), (3, 3, 1, 4))
         self.assertEqual((fault.name, fault.text, fault.expected), ("$end", b"", ("NUMBER", "'-'", "'('")))
+        self.assertEqual(str(fault), "1:4: unexpected end of the text; expected: NUMBER '-' '('")
 
     def test_an_unmatched_byte(self):
         with self.assertRaises(lytab.SyntaxFault) as raised:
@@ -164,6 +165,11 @@ class ManyTexts(unittest.TestCase):
         fault = raised.exception
         self.assertEqual((fault.number, fault.offset, fault.column, fault.text), (3, 9, 10, b"times"))
         self.assertEqual(fault.expected, ("NUMBER", "'-'", "'('"))
+
+    def test_a_refused_token_without_bytes(self):
+        with self.assertRaises(lytab.SyntaxFault) as raised:
+            self.tables.parse_tokens(b"one plus ", [("NUMBER", 0, 3), ("'+'", 4, 8), ("'*'", 9, 9)])
+        self.assertEqual(str(raised.exception), "1:10: unexpected '*' b''; expected: NUMBER '-' '('")
 
     def test_no_tokens(self):
         for token in (("WORD", 0, 1), (0, 0, 1), (12, 0, 1), ("NUMBER", 1, 0), ("NUMBER", 0, 4), (-1, 0, 1)):

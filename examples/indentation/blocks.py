@@ -1,10 +1,10 @@
 #!/usr/bin/env python3
-"""Runs programs of a small language whose blocks are indented: a tokenizer of its own, and lytab's parser.
+"""Runs programs of a small language with indented blocks, with a tokenizer of its own and lytab's parser.
 
     blocks.py FILE
 
-The tokenizer is a function of some twenty lines; the tables are made of blocks.l and blocks.y beside this file, and
-lytab.py has to be on Python's path. The status is 1 where the program is wrong.
+The tables are built from blocks.l and blocks.y beside this file, and lytab.py must be on Python's path. The status is 1
+if the program has a syntax error.
 """
 import pathlib
 import re
@@ -20,7 +20,7 @@ Token = Tuple[str, int, int]
 
 
 class Unreadable(ValueError):
-    """What stands at a byte is no token, or no block ends there."""
+    """No token begins at this byte, or the indentation ends no block."""
 
 
 def words(text: bytes, at: int, end: int) -> Iterator[Token]:
@@ -36,8 +36,8 @@ def words(text: bytes, at: int, end: int) -> Iterator[Token]:
 
 
 def tokens(text: bytes) -> Iterator[Token]:
-    """The tokens of a program. INDENT is the blanks that are more than those of the block around; DEDENT has no bytes,
-    and stands where the first line behind the block begins, or at the end."""
+    """The tokens of a program. INDENT has the additional blanks of its line. DEDENT has no bytes: it is at the start of
+    the first line after the block, or at the end of the text."""
     blocks = [0]
     for line in re.finditer(rb"( *)([^\n#]*)[^\n]*", text):
         indent, behind = len(line[1]), line.end(2)
@@ -57,7 +57,7 @@ def tokens(text: bytes) -> Iterator[Token]:
 
 
 def value(part: lytab.Part, names: Dict[bytes, int]) -> int:
-    """What an expression comes to."""
+    """The value of an expression."""
     if isinstance(part, lytab.Token):
         return int(part.text) if part.name == "NUMBER" else names.get(part.text, 0)
     left, right = (value(it, names) for it in part.children)
@@ -65,7 +65,7 @@ def value(part: lytab.Part, names: Dict[bytes, int]) -> int:
 
 
 def run(part: lytab.Part, names: Dict[bytes, int]) -> None:
-    """Does what statements say."""
+    """Executes statements."""
     if part is None:
         return
     first, second = part.children if len(part.children) == 2 else (part.children[0], None)
@@ -90,11 +90,11 @@ def main(path: str) -> int:
         run(tables.parse_tokens(text, tokens(text)), {})
     except Unreadable as fault:
         line, column = lytab.locate(text, fault.args[0])
-        print(f"{path}:{line}:{column}: no token begins here, or no block ends", file=sys.stderr)
+        print(f"{path}:{line}:{column}: no token begins here, or the indentation ends no block", file=sys.stderr)
         return 1
     except lytab.SyntaxFault as fault:
         wanted = " ".join(fault.expected)
-        print(f"{path}:{fault.line}:{fault.column}: {fault.name} can't stand here; expected: {wanted}", file=sys.stderr)
+        print(f"{path}:{fault.line}:{fault.column}: unexpected {fault.name}; expected: {wanted}", file=sys.stderr)
         print(f"    {text.splitlines()[fault.line - 1].decode()}\n    {' ' * (fault.column - 1)}^", file=sys.stderr)
         return 1
     return 0

@@ -1,9 +1,9 @@
-/* Reads a configuration file by liblytab, and prints its settings, each with the sections that it stands in:
+/* Reads a configuration file with liblytab, and prints its settings, each after the sections that contain it:
  *
  *     lytab build config.l config.y config.tables
  *     config config.tables server.conf
  *
- * Where the file is wrong it says so as compilers do, with the line and a caret. The status is that of the library.
+ * Errors are printed in the format of compilers, with the line and a caret. The exit status is that of the library.
  */
 #include <lytab.h>
 #include <stdio.h>
@@ -12,20 +12,20 @@
 
 enum { DEEPEST = 100 };
 
-/* Bytes, and how many. */
+/* Bytes and their number. */
 typedef struct {
     uint8_t *bytes;
     size_t length;
 } file_bytes;
 
-/* What a table file calls its terminals and rules. */
+/* The names of the terminals and rules of a table file. */
 typedef struct {
     uint64_t *ends;
     char *bytes;
     uint64_t terminals;
 } table_names;
 
-/* A name, which ends where the next one begins. */
+/* A name. It isn't terminated by a zero byte. */
 typedef struct {
     const char *begin;
     int length;
@@ -54,7 +54,7 @@ static file_bytes read_file(const char *path) {
     return read;
 }
 
-/* The names of a table file. It is asked twice: first how many there are. */
+/* The names of a table file. The first call returns only their sizes. */
 static table_names names_of(const char *path, file_bytes tables) {
     lytab_counts counts;
     table_names names = {NULL, NULL, 0};
@@ -86,7 +86,7 @@ static int is_node(table_names names, const lytab_part *part, const char *constr
     return strlen(constructor) == (size_t)found.length && !memcmp(constructor, found.begin, (size_t)found.length);
 }
 
-/* Shows the line of a text that a byte stands on, with a caret under the byte. */
+/* Prints the line of a byte, with a caret under the byte. */
 static void show_line(file_bytes text, size_t at, uint64_t column) {
     size_t begin = at - (size_t)(column - 1), end = begin;
     while (end < text.length && text.bytes[end] != '\n') end++;
@@ -96,19 +96,19 @@ static void show_line(file_bytes text, size_t at, uint64_t column) {
     fputs("^\n", stderr);
 }
 
-/* Says why a text is refused. */
-static void say_refused(const char *path, file_bytes text, table_names names, const lytab_report *report,
+/* Prints the error of a rejected text. */
+static void print_error(const char *path, file_bytes text, table_names names, const lytab_report *report,
                         const uint32_t *expected) {
     uint64_t line, column;
     lytab_locate(text.bytes, text.length, report->start, &line, &column);
     fprintf(stderr, "%s:%llu:%llu: ", path, (unsigned long long)line, (unsigned long long)column);
     if (!report->number) {
-        fputs("no word begins with this byte\n", stderr);
+        fputs("no token begins with this byte\n", stderr);
     } else {
         if (!report->terminal)
-            fputs("the file can't end here; expected:", stderr);
+            fputs("unexpected end of the text; expected:", stderr);
         else
-            fprintf(stderr, "'%.*s' can't stand here; expected:", (int)(report->end - report->start),
+            fprintf(stderr, "unexpected '%.*s'; expected:", (int)(report->end - report->start),
                     (const char *)text.bytes + report->start);
         for (uint64_t i = 0; i < report->expected; i++) {
             name of = name_at(names, expected[i]);
@@ -123,8 +123,8 @@ static void print_part(file_bytes text, const lytab_part *part) {
     printf("%.*s", (int)(part->end - part->start), (const char *)text.bytes + part->start);
 }
 
-/* Prints the settings. Parts stand in the order of the text, each in front of its children, so one walk over the list
- * will do; the sections round a part are those whose own last part isn't reached. */
+/* Prints the settings. Parts are in the order of the text, and each precedes its children, so one loop over the list is
+ * enough. A part is in the sections whose last part isn't reached yet. */
 static void print_settings(file_bytes text, table_names names, const lytab_part *parts, uint64_t count) {
     uint64_t sections[DEEPEST];
     size_t depth = 0;
@@ -132,12 +132,12 @@ static void print_settings(file_bytes text, table_names names, const lytab_part 
         while (depth && parts[sections[depth - 1]].next <= i) depth--;
         if (is_node(names, &parts[i], "Section")) {
             if (depth == DEEPEST) {
-                fputs("config: too many sections in one another\n", stderr);
+                fputs("config: sections are nested too deeply\n", stderr);
                 exit(LYTAB_REFUSED);
             }
             sections[depth++] = i;
         } else if (is_node(names, &parts[i], "Setting")) {
-            /* the children of a section and of a setting begin with their names */
+            /* the first child of a section and of a setting is its name */
             for (size_t k = 0; k < depth; k++) {
                 print_part(text, &parts[sections[k] + 1]);
                 putchar('.');
@@ -170,7 +170,7 @@ int main(int count, char **words) {
     if (status == LYTAB_DONE)
         print_settings(text, names, parts, report.needed);
     else if (status == LYTAB_REFUSED)
-        say_refused(words[2], text, names, &report, expected);
+        print_error(words[2], text, names, &report, expected);
     else
         fprintf(stderr, "config: status %u, fault %u\n", (unsigned)status, (unsigned)report.fault);
     free(parts);

@@ -1,11 +1,11 @@
 #!/usr/bin/env python3
-"""Looks through configuration files for what is allowed and yet hardly meant: what is said twice in one section, empty
-sections, and lists of values of different kinds.
+"""Finds probable mistakes in configuration files: duplicate names in a section, empty sections, and lists with values
+of different kinds.
 
     lint.py FILE..
 
-It reads config.l and config.y beside itself, and needs lytab.py on Python's path. The status is 1 where something was
-found, or a file is wrong.
+It reads config.l and config.y beside itself, and needs lytab.py on Python's path. The status is 1 if it found
+something, or if a file has a syntax error.
 """
 import pathlib
 import sys
@@ -18,7 +18,7 @@ Found = Tuple[int, str]
 
 
 def items(part: lytab.Part, list_: str) -> List[lytab.Part]:
-    """The items of a list by left recursion, whose nodes have this name, in their order."""
+    """The items of a left-recursive list whose nodes have this name, in order."""
     found = []
     while isinstance(part, lytab.Node) and part.name == list_:
         part, item = part.children
@@ -26,18 +26,19 @@ def items(part: lytab.Part, list_: str) -> List[lytab.Part]:
     return [part] * (part is not None) + found[::-1]
 
 
-def lines_of(text: bytes, byte: int) -> int:
+def line_of(text: bytes, byte: int) -> int:
+    """The line of a byte."""
     return lytab.locate(text, byte)[0]
 
 
-def doubled(text: bytes, entries: lytab.Part) -> Iterator[Found]:
-    """What is said again in a section."""
+def duplicates(text: bytes, entries: lytab.Part) -> Iterator[Found]:
+    """The names that a section has more than once."""
     first = {}
     for entry in items(entries, "Entries"):
         name = entry.children[0]
         if name.text in first:
-            line = lines_of(text, first[name.text].start)
-            yield name.start, f"{name.text.decode()} is said again; it was said on line {line}"
+            line = line_of(text, first[name.text].start)
+            yield name.start, f"duplicate name {name.text.decode()}; first used on line {line}"
         first.setdefault(name.text, name)
 
 
@@ -48,17 +49,17 @@ def is_mixed(list_: lytab.Node) -> bool:
 
 
 def findings(text: bytes, tree: lytab.Node) -> Iterator[Found]:
-    """All that is found in a file, by where it stands."""
-    yield from doubled(text, tree.children[0])
+    """The findings in a file, each with its offset."""
+    yield from duplicates(text, tree.children[0])
     for part in tree.walk():
         if not isinstance(part, lytab.Node):
             continue
         if part.name == "Section":
-            yield from doubled(text, part.children[1])
+            yield from duplicates(text, part.children[1])
             if part.children[1] is None:
-                yield part.start, f"an empty section {part.children[0].text.decode()}"
+                yield part.start, f"empty section {part.children[0].text.decode()}"
         elif part.name == "List" and is_mixed(part):
-            yield part.start, "a list of values of different kinds"
+            yield part.start, "list with values of different kinds"
 
 
 def main(paths: List[str]) -> int:
