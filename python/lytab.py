@@ -158,9 +158,9 @@ def walk(part: Part) -> Iterator[Part]:
 @functools.lru_cache(maxsize=None)
 def _library() -> ctypes.CDLL:
     """The library, with the types of its functions."""
-    here = pathlib.Path(__file__).resolve()
-    installed = here.parents[3] / "lib/liblytab.so" if len(here.parents) > 3 else here
-    path = os.environ.get("LYTAB_LIBRARY") or (str(installed) if installed.is_file() else "liblytab.so")
+    name = "liblytab.so.1"
+    installed = [above / "lib" / name for above in pathlib.Path(__file__).resolve().parents]
+    path = os.environ.get("LYTAB_LIBRARY") or next((str(it) for it in installed if it.is_file()), name)
     library = ctypes.CDLL(path)
     size, u32, u64 = ctypes.c_size_t, ctypes.POINTER(ctypes.c_uint32), ctypes.POINTER(ctypes.c_uint64)
     bytes_, block = [ctypes.c_char_p, size], [ctypes.c_void_p, size]
