@@ -3,9 +3,10 @@ import re
 
 from .bison import BYTE_0, LITERAL
 from .names import plain
-from .text import CHANGE, HARMLESS, LOST, without_comments, without_strings
+from .text import C_PIECE, CHANGE, HARMLESS, LOST, without_comments, without_strings
 
-RETURN = re.compile(r"\breturn\b([^;}]*);?")
+# a word, a space, or a part of C as text.py has it
+C_WORD = re.compile(rf"\w+|\s+|{C_PIECE.pattern}", re.DOTALL)
 BEGIN = re.compile(r"\bBEGIN\b\s*\(?\s*(\w+)")
 PUSH = re.compile(r"\byy_push_state\s*\(\s*(\w+)")
 POP = re.compile(r"\byy_pop_state\b")
@@ -18,12 +19,61 @@ ENDS = {"EOF", "YYEOF", "YY_NULL"}
 # tokens that are returned for errors
 BAD = re.compile(r"err(?!no)|invalid|illegal|bad(?![a-z])|unknown|nomatch|unexpected|unrecognized", re.IGNORECASE)
 LOOKS_LOST = re.compile(r"\b[A-Za-z_]\w*\s*\(|\b[A-Z][A-Z0-9_]+\b")
-CALL = re.compile(r"\b(?!(?:if|while|for|switch|sizeof|BEGIN|yy_push_state)\b)[A-Za-z_]\w*\s*\(((?:[^()]|\((?:[^()]|\([^()]*\))*\))*)\)")
+NO_CALLS = {"if", "while", "for", "switch", "sizeof", "return", "BEGIN", "yy_push_state"}
 DEFINE = re.compile(r"^[ \t]*#[ \t]*define[ \t]+(\w+)(\([^()\n]*\))?((?:[^\n\\]|\\.|\\\n)*)", re.MULTILINE | re.DOTALL)
 LEADS = re.compile(r"\breturn\b|\bBEGIN\b|\byy_push_state\b|\byy_pop_state\b")
 YYLESS = re.compile(r"\byyless\s*\(\s*(?:\(int\)\s*)?(?:(\d+)|yyleng\s*-\s*(\d+))\s*\)")
 CONDITIONAL = re.compile(r"\bif\b|\bswitch\b|\?")
 DEPTH = 6
+
+
+def parts_of(code):
+    """The words, spaces, strings, characters and single bytes of C code."""
+    return [it[0] for it in C_WORD.finditer(code)]
+
+
+def arguments_at(parts, at):
+    """The arguments between parentheses that begin at a part, after spaces, and the number of the part after them; None
+    if there are none."""
+    while at < len(parts) and parts[at].isspace():
+        at += 1
+    if at == len(parts) or parts[at] != "(":
+        return None
+    found, depth = [""], 0
+    for number in range(at, len(parts)):
+        it = parts[number]
+        depth += (it == "(") - (it == ")")
+        if depth == 0:
+            return [one.strip() for one in found], number + 1
+        if it == "," and depth == 1:
+            found.append("")
+        elif number > at:
+            found[-1] += it
+    return None
+
+
+def returned_in(code):
+    """What stands after each `return`, up to the semicolon or the brace."""
+    found, inside = [], False
+    for it in parts_of(code):
+        if it == "return":
+            found.append("")
+            inside = True
+        elif it in ";}":
+            inside = False
+        elif inside:
+            found[-1] += it
+    return found
+
+
+def called_in(code):
+    """The arguments of calls, those within others too."""
+    parts, found = parts_of(code), []
+    for at, it in enumerate(parts):
+        if re.fullmatch(r"[A-Za-z_]\w*", it) and it not in NO_CALLS:
+            given = arguments_at(parts, at + 1)
+            found += given[0] if given else []
+    return found
 
 
 class Macros:
@@ -35,8 +85,6 @@ class Macros:
             parameters = [one.strip() for one in (it[2] or "")[1:-1].split(",")] if it[2] else None
             self.found[it[1]] = (parameters, without_comments(it[3].replace("\\\n", " ")))
         self.leading = {name for name in self.found if self.leads(name, set())}
-        names = "|".join(map(re.escape, sorted(self.leading, key=len, reverse=True)))
-        self.uses = re.compile(rf"\b({names})\b(?:\s*\(((?:[^()]|\((?:[^()]|\([^()]*\))*\))*)\))?") if names else None
 
     def leads(self, name, seen):
         """Whether a macro leads to a `return` or to a start condition, by others too."""
@@ -49,21 +97,28 @@ class Macros:
 
     def expand(self, code, depth=0):
         """The code with these macros written out."""
-        if self.uses is None or depth > DEPTH:
+        if not self.leading or depth > DEPTH:
             return code
-        return self.uses.sub(lambda it: self.expand(self.written_out(it[1], it[2]), depth + 1), code)
+        parts, out, at = parts_of(code), [], 0
+        while at < len(parts):
+            name = parts[at]
+            at += 1
+            if name not in self.leading:
+                out.append(name)
+                continue
+            parameters, body = self.found[name]
+            given = arguments_at(parts, at) if parameters is not None else None
+            if given:
+                at = given[1]
+            out.append(self.expand(written_out(parameters or [], given[0] if given else [], body), depth + 1))
+        return "".join(out)
 
-    def written_out(self, name, arguments):
-        """A use of a macro. `##` joins words, `#` makes a string."""
-        parameters, body = self.found[name]
-        body = re.sub(r"\s*##\s*", "\x01", body)
-        given = [it.strip() for it in re.split(r",(?![^()]*\))", arguments or "")]
-        for parameter, argument in zip(parameters or [], given):
-            if parameter and parameter != "...":
-                body = re.sub(rf"(?<!\x01)#\s*{re.escape(parameter)}\b", '""', body)
-                body = re.sub(rf"\b{re.escape(parameter)}\b", lambda _, it=argument: it, body)
-        rest = "" if parameters is not None or arguments is None else f"({arguments})"
-        return f" {body} ".replace("\x01", "") + rest
+
+def written_out(parameters, given, body):
+    """The body of a macro with its arguments. `##` joins words, `#` makes a string."""
+    values = dict(zip(parameters, given))
+    body = re.sub(r"(?<!#)#\s*(\w+)\b", lambda it: '""' if it[1] in values else it[0], re.sub(r"\s*##\s*", "##", body))
+    return f" {''.join(values.get(it, it) for it in parts_of(body))} ".replace("##", "")
 
 
 class Actions:
@@ -73,14 +128,14 @@ class Actions:
         self.macros, self.trees, self.grammar = Macros(text), trees, trees.grammar
         self.conditions, self.notes, self.returned = conditions, notes, []
 
-    def read(self, code, line):
-        """The action as lytab has it."""
+    def read(self, code, line, is_known=False):
+        """The action as lytab has it. `is_known` says that the pattern has what the action does beside returning."""
         code = self.macros.expand(without_comments(code))
-        for word in dict.fromkeys(NOT_KEPT.findall(without_strings(code))):
+        for word in dict.fromkeys([] if is_known else NOT_KEPT.findall(without_strings(code))):
             rank = LOST if word in ("ECHO", "yyterminate") else CHANGE
             self.notes.add(line, f"{word} is dropped", rank)
         begins = self.begins(code, line)
-        expressions = RETURN.findall(code)
+        expressions = returned_in(code)
         returns = list(dict.fromkeys(it for one in expressions for it in self.returned_by(one, line)))
         if not expressions:
             returns = self.named_by_call(code, line)
@@ -88,7 +143,7 @@ class Actions:
             sound = [it for it in returns if not BAD.search(it)] or returns
             self.notes.add(line, f"of several tokens one is returned, {sound[0]}: {', '.join(returns)}", CHANGE)
             returns = sound
-        if not begins and not returns:
+        if not begins and not returns and not is_known and not any(map(self.is_end, expressions)):
             self.note_lost(code, line)
         words = [f"BEGIN({begins[0]});"] if begins else []
         words += [f"return {returns[0]};"] if returns else []
@@ -118,7 +173,7 @@ class Actions:
 
     def named_by_call(self, code, line):
         """The one token that the arguments of calls name."""
-        found = [it for arguments in CALL.findall(without_strings(code)) for it in self.tokens(arguments)]
+        found = [it for argument in called_in(code) for it in self.tokens(argument)]
         found = list(dict.fromkeys(found))
         if len(found) != 1:
             return []
@@ -136,6 +191,12 @@ class Actions:
         shorter = name.removeprefix(self.grammar.prefix)
         return [shorter] if shorter in self.trees.tokens | self.grammar.ends else [name]
 
+    def is_end(self, expression):
+        """Whether the end of the input is returned, and no token."""
+        names = re.findall(r"[A-Za-z_]\w*", without_strings(expression))
+        has_end = any(one in self.grammar.ends for name in names for one in self.in_c(name)) or ENDS & set(names)
+        return not self.tokens(expression) and bool(has_end or expression.strip(" ()") == "0")
+
     def returned_by(self, expression, line):
         """What a `return` has: tokens, a literal or the first byte; nothing if it is none of them."""
         declared = list(dict.fromkeys(self.tokens(expression)))
@@ -150,12 +211,10 @@ class Actions:
             return ["yytext[0]"]
         if literals and not declared:
             return literals[:1]
-        names = re.findall(r"[A-Za-z_]\w*", without_strings(expression))
-        if any(one in self.grammar.ends for name in names for one in self.in_c(name)) or ENDS & set(names) \
-                or expression.strip(" ()") == "0":
+        if self.is_end(expression):
             self.notes.add(line, "the end of the input is returned: the match is skipped here", CHANGE)
             return []
-        names = [one for name in names for one in self.in_c(name)]
+        names = [one for name in re.findall(r"[A-Za-z_]\w*", without_strings(expression)) for one in self.in_c(name)]
         capitals = [it for it in names if CAPITALS.fullmatch(it) and it not in NO_TOKENS]
         if not declared and capitals:
             self.returned.append(capitals[0])

@@ -13,7 +13,7 @@ DEFINITION = re.compile(r"([A-Za-z_][\w-]*)\s+(\S.*)", re.DOTALL)
 CONDITIONS = re.compile(r"<([A-Za-z_0-9, \t\r\n*]+)>")
 BETWEEN_RULES = re.compile(
     r"\s*\n|[ \t]*/\*.*?\*/[ \t\r]*\n|%\{[^\n]*%\}[ \t]*\n|%\{.*?\n[ \t]*%\}[^\n]*\n?|//[^\n]*\n", re.DOTALL)
-CASELESS = re.compile(r"%option\b[^\n]*\b(?:case-insensitive|caseless)\b")
+CASELESS = re.compile(r"^%option\b[^\n]*\b(?:case-insensitive|caseless)\b", re.MULTILINE)
 CALLED = re.compile(r"\b([A-Za-z_]\w*)\s*\(")
 COMMENT = '"/*"([^*]|\\*+[^*/])*\\*+"/"'
 
@@ -25,7 +25,8 @@ class Scanner:
         self.file, self.notes = Text(path), Notes(path)
         self.definitions, self.rules, self.conditions = [], [], ["INITIAL"]
         self.actions = Actions(self.file.text, trees, self.conditions, self.notes)
-        self.writer = Writer({})
+        # (the option holds for the definitions before it too)
+        self.writer = Writer({}, bool(CASELESS.search(self.file.text.split("\n%%")[0])))
         # the texts of definitions that are written where they are used
         self.inlined = {}
         # what patterns return, by the patterns
@@ -64,7 +65,6 @@ class Scanner:
             self.definitions.append(f"%{named[1].lower()} {' '.join(map(plain, names))}")
         elif text.startswith("%"):
             if CASELESS.match(text):
-                self.writer.has_both_cases = True
                 self.notes.add(line, f"both cases of letters are written out: {text}")
             else:
                 self.notes.add(line, f"{text.split()[0]} is dropped: {text}")
@@ -145,32 +145,43 @@ class Scanner:
             return
         if self.file.match(re.compile(r"<<EOF>>")):
             self.notes.add(line, "a rule for <<EOF>> is dropped")
-            self.action_code()
+            self.end_bars(self.action_code(), line)
             return
         text = self.file.match(WHOLE)[0]
         code = self.action_code()
         try:
             pattern = Reader(self.with_inlined(text)).pattern()
             self.check_names(pattern)
-            shown = self.shown(pattern, "" if code == "|" else without_comments(code), line)
+            shown, is_known = self.shown(pattern, "" if code == "|" else without_comments(code), line)
         except Unreadable as why:
             self.notes.add(line, f"a rule is dropped: {why}", CHANGE)
+            self.end_bars(code, line)
             return
-        action = "|" if code == "|" else self.actions.read(code, line)
+        action = "|" if code == "|" else self.actions.read(code, line, is_known)
         returned = re.search(r"return (\w+);", action)
         if returned:
             self.returned_for.setdefault(shown, returned[1])
         before = f"<{','.join(dict.fromkeys(plain(it) for it in here))}>" if here else ""
         self.rules.append(f"{before}{shown}  {action}")
 
+    def end_bars(self, code, line):
+        """Gives the rules before a dropped one, which have its action, this action."""
+        if code == "|" or not (self.rules and self.rules[-1].endswith("  |")):
+            return
+        action = self.actions.read(code, line)
+        at = len(self.rules) - 1
+        while at >= 0 and self.rules[at].endswith("  |"):
+            self.rules[at] = self.rules[at][:-1] + action
+            at -= 1
+
     def shown(self, pattern, code, line):
-        """The pattern as lytab has it, by what the action does with the match."""
+        """The pattern as lytab has it, by what the action does with the match, and whether it has that."""
         code = self.actions.macros.expand(code)
         comment = self.comment(pattern, code, line)
         if comment:
-            return comment
-        pattern = self.less(pattern, code, line)
-        return self.writer.pattern(self.trailing(pattern, line))
+            return comment, True
+        less = self.less(pattern, code, line)
+        return self.writer.pattern(self.trailing(less, line)), less is not pattern
 
     def comment(self, pattern, code, line):
         """The pattern of a comment whose rest the action reads by `input()`, or by a function that does; None if it

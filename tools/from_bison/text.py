@@ -92,5 +92,5 @@ def without_comments(code):
 
 
 def without_strings(code):
-    """C code without the content of its strings."""
-    return "".join('""' if it[0].startswith('"') else it[0] for it in C_PIECE.finditer(code))
+    """C code without the content of its strings and characters."""
+    return "".join(it[0][0] * 2 if it[0][0] in "\"'" else it[0] for it in C_PIECE.finditer(code))

@@ -65,6 +65,10 @@ class Trees:
                 if it.word in self.grammar.ends:
                     self.notes.add(line, f"{it.word} is the end of the input, which lytab has built in")
 
+    def start(self):
+        """The start symbol."""
+        return self.grammar.start.word if self.grammar.start else self.grammar.rules[0].left
+
     # ---- bodies
 
     def body(self, rule):
@@ -85,8 +89,8 @@ class Trees:
                 return None
             else:
                 body.add(it)
-        if ends and not body.symbols and sum(it.left == rule.left for it in grammar.rules) > 1:
-            self.notes.add(line, f"a rule of {rule.left} is dropped: it is only {ends[0].word}, the end of the input", CHANGE)
+        if ends and rule.left != self.start() and sum(it.left == rule.left for it in grammar.rules) > 1:
+            self.notes.add(line, f"a rule of {rule.left} with {ends[0].word}, the end of the input, is dropped", CHANGE)
             return None
         if ends:
             self.notes.add(line, f"{ends[0].word}, the end of the input, is left out of a rule of {rule.left}", CHANGE)
