@@ -21,7 +21,7 @@ TABLES = re.compile(r"\s*lr\.type\s+[\"{]?\s*([\w().-]+)")
 PREDICATE = re.compile(r"%\?\s*(?=\{)")
 OF_GLR = re.compile(r"%dprec\s+\d+|%merge\s*<[^>]*>|%expect(?:-rr)?\s+\d+")
 # what only a template has where a word of the grammar is expected
-TEMPLATE = re.compile(r"#|@\w+@|[A-Z_][A-Z0-9_]*\(")
+TEMPLATE = re.compile(r"#[^\n]*|@\w+@|[A-Z_][A-Z0-9_]*\(")
 TOKEN_KINDS = {"%token": "%token", "%term": "%token", "%left": "%left", "%<": "%left", "%right": "%right",
                "%>": "%right", "%nonassoc": "%nonassoc", "%binary": "%nonassoc", "%precedence": "%precedence"}
 # directives without which a grammar has the same automaton and trees, and that are too common for a note
@@ -93,8 +93,9 @@ class Grammar:
     def wrong(self, what):
         """An error about the position."""
         rest = self.file.text[self.file.at :].split("\n")[0].strip()
-        if TEMPLATE.match(rest):
-            return self.file.error(f"the file is a template: its build replaces {rest[:40]!r}, so check the result of that")
+        found = TEMPLATE.match(rest)
+        if found:
+            return self.file.error(f"the file is a template: its build replaces {found[0][:40]!r}, so use the result of that")
         return self.file.error(f"{what}: {rest[:20]!r}")
 
     def symbol(self):

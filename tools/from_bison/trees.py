@@ -93,7 +93,9 @@ class Trees:
             self.notes.add(line, f"a rule of {rule.left} with {ends[0].word}, the end of the input, is dropped", CHANGE)
             return None
         if ends:
-            self.notes.add(line, f"{ends[0].word}, the end of the input, is left out of a rule of {rule.left}", CHANGE)
+            is_last = rule.left == self.start() and rule.symbols()[-1] is ends[0]
+            what = f"{ends[0].word}, the end of the input, is left out of a rule of {rule.left}"
+            self.notes.add(line, what, HARMLESS if is_last else CHANGE)
         return body
 
     def without_errors(self, bodies):
