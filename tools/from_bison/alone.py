@@ -58,10 +58,10 @@ class Alone:
         for rule in grammar.rules:
             for it in rule.symbols():
                 if grammar.aliases.get(it.word, it.word) in grammar.ends:
-                    grammar.notes.add(grammar.line_of(it), f"{it.word} is the end of the input, but an ordinary token here",
-                                      CHANGE)
+                    what = f"{it.word} is the end of the input, but an ordinary token here"
+                    grammar.notes.add(grammar.line_of(it), what, CHANGE)
         for made in grammar.declarations:
-            if made.kind == "%precedence":
+            if made.kind == "%precedence" and grammar.may_tie(made):
                 what = "%precedence is written %nonassoc: a tie that bison counts as a conflict isn't one here"
                 grammar.notes.add(grammar.line_of(made), what, CHANGE)
 

@@ -95,7 +95,8 @@ class Grammar:
         rest = self.file.text[self.file.at :].split("\n")[0].strip()
         found = TEMPLATE.match(rest)
         if found:
-            return self.file.error(f"the file is a template: its build replaces {found[0][:40]!r}, so use the result of that")
+            what = f"the file is a template: its build replaces {found[0][:40]!r}, so use the result of that"
+            return self.file.error(what)
         return self.file.error(f"{what}: {rest[:20]!r}")
 
     def symbol(self):
@@ -284,6 +285,16 @@ class Grammar:
                 if symbol is None:
                     raise self.wrong("not a symbol")
                 rule.parts.append(symbol)
+
+    def may_tie(self, made):
+        """Whether a rule and a token after it may both have the precedence of a declaration."""
+        level = {self.aliases.get(it.word, it.word) for it in made.symbols}
+        bodies = [[self.aliases.get(it.word, it.word) for it in rule.symbols()] for rule in self.rules]
+        lefts = {rule.left for rule in self.rules}
+        lasts = [[it for it in body if it not in lefts][-1:] for body in bodies]
+        given = [[self.aliases.get(rule.precedence.word, rule.precedence.word)] if rule.precedence else last
+                 for rule, last in zip(self.rules, lasts)]
+        return any(level & set(it) for it in given) and any(level & set(it) for it in bodies)
 
     def line_of(self, it):
         """The line of a symbol, an action, a declaration or a rule."""

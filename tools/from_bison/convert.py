@@ -20,8 +20,9 @@ def unmatched(trees, scanner):
 def summary(trees, scanner, found):
     """The line at the end of the notes."""
     counts = [sum(rank == it for rank, _, _, _ in dict.fromkeys(found)) for it in (CHANGE, LOST, HARMLESS)]
-    return (f"from-bison: changes of the language: {counts[0]}; tokens without a pattern: {len(unmatched(trees, scanner))}; "
-            f"actions lost: {counts[1]}; harmless: {counts[2]}")
+    tokens = len(unmatched(trees, scanner))
+    return (f"from-bison: changes of the language: {counts[0]}; tokens without a pattern: {tokens}; actions lost: "
+            f"{counts[1]}; harmless: {counts[2]}")
 
 
 def convert(lex_path, yacc_path, lex_out, yacc_out):

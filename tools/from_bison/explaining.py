@@ -92,8 +92,9 @@ def explain(tool, grammar, alone, options):
     if wanted and wanted[1] == 0:
         options = [*options, "--expect", str(wanted[0])]
     elif wanted:
-        print(f"{path}:{grammar.expected['%expect-rr'][1]}: explain has no option for %expect-rr {wanted[1]}: the sum of "
-              f"the conflicts is compared with {sum(wanted)}", file=sys.stderr)
+        line = grammar.expected["%expect-rr"][1]
+        print(f"{path}:{line}: explain has no option for %expect-rr {wanted[1]}: the sum of the conflicts is compared "
+              f"with {sum(wanted)}", file=sys.stderr)
     with tempfile.TemporaryDirectory(prefix="from-bison-") as folder:
         made = os.path.join(folder, "grammar.y")
         with open(made, "w", encoding="latin-1", newline="") as file:

@@ -3,16 +3,17 @@ import re
 
 from .actions import CONDITIONAL, READS, YYLESS, Actions
 from .names import plain
-from .patterns import NAME, WHOLE, Node, Pattern, Reader, Writer
+from .patterns import NAME, PIECE, WHOLE, Node, Pattern, Reader, Writer
 from .text import C_COMMENT, C_PIECE, CHANGE, Notes, Text, Unreadable, without_comments
 
 NOT_DEFINED = re.compile(
-    r"%\{[^\n]*%\}[ \t]*\n|%\{.*?\n[ \t]*%\}[^\n]*\n?|[ \t][^\n]*\n|\r?\n|/\*.*?\*/[^\n]*\n?|//[^\n]*\n|#(?:[^\\\n]|\\.)*\n",
-    re.DOTALL)
+    r"%\{[^\n]*%\}[ \t]*\n|%\{.*?\n[ \t]*%\}[^\n]*\n?|[ \t][^\n]*\n|\r?\n|/\*.*?\*/[^\n]*\n?|//[^\n]*\n"
+    r"|#(?:[^\\\n]|\\.)*\n", re.DOTALL)
 DEFINITION = re.compile(r"([A-Za-z_][\w-]*)\s+(\S.*)", re.DOTALL)
 CONDITIONS = re.compile(r"<([A-Za-z_0-9, \t\r\n*]+)>")
 BETWEEN_RULES = re.compile(
     r"\s*\n|[ \t]*/\*.*?\*/[ \t\r]*\n|%\{[^\n]*%\}[ \t]*\n|%\{.*?\n[ \t]*%\}[^\n]*\n?|//[^\n]*\n", re.DOTALL)
+PIECE_OR_NAME = re.compile(r"\{[A-Za-z_][\w-]*\}|" + PIECE.pattern, re.DOTALL)
 CASELESS = re.compile(r"^%option\b[^\n]*\b(?:case-insensitive|caseless)\b", re.MULTILINE)
 CALLED = re.compile(r"\b([A-Za-z_]\w*)\s*\(")
 COMMENT = '"/*"([^*]|\\*+[^*/])*\\*+"/"'
@@ -97,13 +98,12 @@ class Scanner:
         """A pattern with the texts of the definitions that are written where they are used."""
         if not self.inlined:
             return text
-        pieces = re.compile(r'"(?:\\.|[^"\\\n])*"|\[\^?\]?(?:\[:\^?\w+:\]|\\.|[^\]\\\n])*\]|\\.|\{[A-Za-z_][\w-]*\}|.', re.DOTALL)
 
         def text_of(piece):
             named = NAME.fullmatch(piece)
             return self.inlined.get(named[1], piece) if named else piece
 
-        return "".join(map(text_of, pieces.findall(text)))
+        return "".join(map(text_of, PIECE_OR_NAME.findall(text)))
 
     def check_names(self, pattern):
         """Rejects a pattern with a name that has no definition."""

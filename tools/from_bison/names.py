@@ -18,7 +18,8 @@ def plain(name):
 
 def of_string(word):
     """A name for the token of a string: its words in capitals, and a name for each sign."""
-    parts = [SIGNS.get(it, it.upper() if it[0].isascii() else f"X{ord(it):X}") for it in WORD_OR_SIGN.findall(word[1:-1])]
+    words = WORD_OR_SIGN.findall(word[1:-1])
+    parts = [SIGNS.get(it, it.upper() if it[0].isascii() else f"X{ord(it):X}") for it in words]
     name = "_".join(parts).strip("_") or "BLANK"
     return name if name[0].isalpha() else f"T_{name}"
 
@@ -49,5 +50,6 @@ class Names:
         if word.startswith("'"):
             return word
         if word not in self.given:
-            self.given[word] = self.new("error_" if word == "error" else of_string(word) if word[0] == '"' else plain(word))
+            name = "error_" if word == "error" else of_string(word) if word[0] == '"' else plain(word)
+            self.given[word] = self.new(name)
         return self.given[word]

@@ -192,7 +192,8 @@ class Writer:
         units = UNIT.findall(text)
         if not self.has_both_cases or all(other_case(value(it)) is None for it in units):
             return f'"{text}"'
-        return "(" + "".join(self.byte(it) if it[-1].isalnum() and len(it) == 1 else f'"{it}"' for it in units) + ")"
+        shown = [self.byte(it) if it.isalnum() and len(it) == 1 else f'"{it}"' for it in units]
+        return f"({''.join(shown)})"
 
     def set(self, text):
         if not self.has_both_cases:
@@ -207,7 +208,7 @@ class Writer:
             ends = UNIT.findall(item)
             members.update(range(value(ends[0]), value(ends[-1]) + 1) if len(ends) == 3 else map(value, ends))
         members |= {other_case(it) for it in members} - {None}
-        return text[:start] + "".join(ranges(sorted(members))) + "".join(dict.fromkeys(classes)) + "]"
+        return text[:start] + "".join([*ranges(sorted(members)), *dict.fromkeys(classes)]) + "]"
 
     # ---- lengths
 
@@ -255,7 +256,8 @@ class Writer:
         return node
 
     def split(self, node, count):
-        """A part in two, the first of so many bytes; from the end if the count is negative. None if that isn't known."""
+        """A part in two, the first of so many bytes, or the second if the count is negative; None if that isn't
+        possible."""
         parts = node.parts if node.kind == "cat" else [node]
         units = []
         for it in parts:

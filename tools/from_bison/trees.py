@@ -59,8 +59,10 @@ class Trees:
         for made in self.grammar.declarations:
             line = self.grammar.line_of(made)
             if made.kind == "%precedence":
-                self.notes.add(line, "%precedence is written %nonassoc: of equal precedence, lytab reports a syntax error "
-                               "where bison shifts", CHANGE)
+                what = "%precedence is written %nonassoc"
+                if self.grammar.may_tie(made):
+                    what += ": of equal precedence, lytab reports a syntax error where bison shifts"
+                self.notes.add(line, what, CHANGE if self.grammar.may_tie(made) else HARMLESS)
             for it in made.symbols:
                 if it.word in self.grammar.ends:
                     self.notes.add(line, f"{it.word} is the end of the input, which lytab has built in")
