@@ -1,0 +1,4 @@
+%token LESS LABEL COLON X
+%%
+all : one | all one ;
+one : LESS { first(); } LABEL COLON { $$ = $3; } | X ;

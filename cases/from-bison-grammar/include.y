@@ -1,0 +1,5 @@
+%token A
+%%
+s : A
+#include "more.y"
+  ;

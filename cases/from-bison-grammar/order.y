@@ -1,0 +1,5 @@
+%start last
+%%
+first: { begin(); } 'a' { end(); }
+last: first | last first %prec 'a'
+    ;

@@ -1,0 +1,4 @@
+%token A
+VERSION(3, %define x)
+%%
+s : A ;
