@@ -145,6 +145,7 @@ class Written(unittest.TestCase):
             (lytab.TableFault(82, 0), "tables: fault 82", "TableFault(82, 0)"),
             (lytab.BuildFault(35, "yacc", 4, 17), "yacc:4:17: fault 35", "BuildFault(35, 'yacc', 4, 17)"),
             (lytab.BuildFault(24, "lex", 3, 10), "lex:3:10: fault 24", "BuildFault(24, 'lex', 3, 10)"),
+            (lytab.BuildFault(46, "yacc", 1, 1), "yacc:1:1: fault 46", "BuildFault(46, 'yacc', 1, 1)"),
             (lytab.BuildFault(40, None, 0, 0), "fault 40", "BuildFault(40, None, 0, 0)"),
             (lytab.SyntaxFault(0, 3, 2, 2, None, b"@", ()), "2:2: no rule matches b'@'",
              "SyntaxFault(0, 3, 2, 2, None, b'@', ())"),
