@@ -172,7 +172,7 @@ def explained(value):
     counts = value["counts"]
     sizes = [counted(counts[name], name[:-1]) for name in ("rules", "terminals", "nonterminals", "states")]
     lines = [f"accepted: {', '.join(sizes)}."]
-    lines += [placed(warning) + warning["text"] for warning in value["warnings"]]
+    lines += [f"{placed(warning)}warning: {warning['text']}" for warning in value["warnings"]]
     if not value["warnings"] and not value["conflicts"]:
         lines.append("No warnings.")
     lines += ["", f"Conflicts: {counts['shift_reduce']} shift/reduce, {counts['reduce_reduce']} reduce/reduce."]
@@ -213,13 +213,13 @@ def fault_lines(fault):
     advice = [] if fault["advice"] is None else [f"    {fault['advice']}"]
     what = "" if fault["what"] is None else f" {fault['what']}"
     number = "" if fault["number"] is None else f"{fault['number']} "
-    return [f"{placed(fault)}{number}{fault['name']}{what}: {fault['text']}"] + advice
+    return [f"{placed(fault)}error: {number}{fault['name']}{what}: {fault['text']}"] + advice
 
 
 def exchanged_lines(faults):
     """Both files, or one, and behind them what each is told."""
     advice = {fault["advice"] for fault in faults}
-    return [placed(fault) + fault["text"] for fault in faults] + [f"    {it}" for it in advice]
+    return [f"{placed(fault)}error: {fault['text']}" for fault in faults] + [f"    {it}" for it in advice]
 
 
 def row(names):
@@ -233,7 +233,8 @@ def group_lines(group):
     after = f"after{row(group['after'])}" if group["after"] else "at the start"
     count = sum(1 if isinstance(it, str) else it for it in group["before"])
     before = row(group["before"][:12]) + (f" and {count - 12} more" if count > 12 else "")
-    state = f"{placed(group['rules'][-1])}in state {group['state']}, {after}, before{before}"
+    kind = f"warning: {group['kind']} conflict"
+    state = f"{placed(group['rules'][-1])}{kind} in state {group['state']}, {after}, before{before}"
     lines = ["", f"{state}: resolved as {chosen[group['taken']]}, not rule {rule}."]
     lines += [f"    Rule {it['number']} is {placed(it)}{it['text']}" for it in group["rules"]]
     if group["reason"] is not None:

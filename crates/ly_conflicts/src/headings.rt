@@ -45,9 +45,13 @@ fn write_rule_of(buffer: &mut TextBuffer, files: &Analysis<'_>, places: &Places,
     buffer.push(b"\n");
 }
 
-/// Prints the state of a group: its number and its prefix.
+/// Prints the kind of a group's conflicts and its state: the number and the prefix.
 fn write_place(buffer: &mut TextBuffer, spec: &Spec, told: &GroupReport<'_>) {
-    write_numbered(buffer, b"in state ", told.conflict.state.0 as u64, b"");
+    buffer.push(match told.conflict.kind {
+        ConflictKind::ShiftReduce => b"warning: shift/reduce conflict".as_slice(),
+        ConflictKind::ReduceReduce => b"warning: reduce/reduce conflict",
+    });
+    write_numbered(buffer, b" in state ", told.conflict.state.0 as u64, b"");
     if told.prefix.front.is_empty() {
         buffer.push(b", at the start");
     } else {

@@ -20,6 +20,6 @@ abbrev pub number_words : Option ℕ → List ℕ
 number_words None = []
 number_words (Some n) = decimal n ++ codes " "
 
--- the number of an error and its name
+-- that it is an error, its number and its name
 abbrev pub fault_words : GenFault → List ℕ
-fault_words fault = number_words (gen_number fault) ++ gen_name fault
+fault_words fault = codes "error: " ++ (number_words (gen_number fault) ++ gen_name fault)

@@ -73,7 +73,7 @@ pub(crate) fn write_exchange(
 /// Appends a message about a file on its own line.
 fn write_of_file(buffer: &mut TextBuffer, file: NamedFile<'_>, words: &[u8]) {
     buffer.push(file.name.as_bytes());
-    buffer.push(b": ");
+    buffer.push(b": error: ");
     buffer.push(words);
     buffer.push(b"\n");
 }

@@ -86,10 +86,11 @@ fn write_place(buffer: &mut TextBuffer, file: NamedFile<'_>, at: Option<Location
     }
 }
 
-/// Appends the number of an error, if it has one, and its name.
+/// Appends `error: `, the number of an error, if it has one, and its name.
 fn write_number_and_name(buffer: &mut TextBuffer, fault: &GenFault)
     ensures { Says buffer.old (fault_words fault.now) buffer.new }
 {
+    buffer.push(b"error: ");
     if let Some(number) = fault.number() {
         buffer.push_number(u64::from(number));
         buffer.push(b" ");

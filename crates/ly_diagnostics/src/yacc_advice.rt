@@ -28,12 +28,7 @@ pub(crate) fn yacc_advice(
         YaccFaultKind::BadRule => rule_advice(before, rest),
         YaccFaultKind::BadLiteral => literal_advice(rest),
         YaccFaultKind::BadAction => action_advice(before, rest),
-        YaccFaultKind::DollarRange if rest.starts_with(b"0") => {
-            "there is no `$0`: `$1` is the first symbol of the body"
-        }
-        YaccFaultKind::DollarRange => {
-            "`$1` is the first symbol of the body, which has fewer symbols than that"
-        }
+        YaccFaultKind::DollarRange => dollar_advice(rest),
         YaccFaultKind::DollarTwice => "use each `$` once: a subtree has one place in the tree",
         YaccFaultKind::ErrorToken => { "there is no error recovery: remove the body with `error`" }
         YaccFaultKind::MidRuleAction => {
@@ -41,6 +36,15 @@ pub(crate) fn yacc_advice(
         }
         YaccFaultKind::UnclosedComment => unclosed_advice(rest),
     }))
+}
+
+/// The suggestion for a number that no symbol of the body has.
+fn dollar_advice(rest: &[u8]) -> &'static str {
+    if rest.starts_with(b"0") {
+        "there is no `$0`: `$1` is the first symbol of the body"
+    } else {
+        "`$1` is the first symbol of the body, which has fewer symbols than that"
+    }
 }
 
 /// The name of the directive at the start, if it is unknown.

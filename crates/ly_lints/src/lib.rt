@@ -12,8 +12,9 @@ mod lint_messages;
 mod lints;
 mod pattern_lint_messages;
 mod patterns;
+mod useless;
 
-pub use lint::{Hiding, Lint, LintKind, Side};
+pub use lint::{Hiding, Lint, LintKind, Side, Uselessness};
 pub use lint_messages::{file_of, name_of, write_kind, write_lint};
 pub use lints::lints_of;
 pub use patterns::PatternLint;

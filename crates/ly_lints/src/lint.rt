@@ -46,7 +46,7 @@ pub enum LintKind<'a> {
     /// This literal is returned, but the yacc file doesn't name it.
     UnnamedLiteral(u8),
     /// This rule occurs in no tree of the start symbol.
-    UselessRule(usize),
+    UselessRule(usize, Uselessness),
     /// This rule is never reduced.
     UnreducedRule(usize),
     /// This rule has no action, so the trees of its other symbols are lost.
@@ -81,4 +81,13 @@ pub enum Hiding {
     EmptyAlone,
     /// The rules on these lines match its strings. The lines ascend.
     Lines(Vec<u64>),
+}
+
+/// Why a rule is useless.
+#[derive(Clone, Copy, Debug, PartialEq, Eq)]
+pub enum Uselessness {
+    /// This nonterminal of its body derives no string of tokens.
+    DerivesNothing(Sym),
+    /// The start symbol never leads to its left side.
+    Unreached(Sym),
 }

@@ -1,5 +1,5 @@
 //! Warnings as text, and their names.
-use crate::lint::{Hiding, Lint, LintKind, Side};
+use crate::lint::{Hiding, Lint, LintKind, Side, Uselessness};
 use crate::pattern_lint_messages::write_pattern_lint;
 use crate::patterns::PatternLint;
 use ly_analysis::{Analysis, body_of, first_of, write_numbered};
@@ -19,7 +19,7 @@ pub fn file_of<'a>(files: &Analysis<'a>, side: Side) -> NamedFile<'a> {
     }
 }
 
-/// Prints a warning on a line: the file, the location, and the message. For a pattern its line follows.
+/// Prints a warning on a line: the file, the location, `warning: `, and the message. For a pattern its line follows.
 pub fn write_lint(buffer: &mut TextBuffer, files: &Analysis<'_>, lint: &Lint<'_>) {
     let file = file_of(files, lint.side);
     match lint.at {
@@ -29,6 +29,7 @@ pub fn write_lint(buffer: &mut TextBuffer, files: &Analysis<'_>, lint: &Lint<'_>
             buffer.push(b": ");
         }
     }
+    buffer.push(b"warning: ");
     write_kind(buffer, files, &lint.kind);
     buffer.push(b"\n");
     if let LintKind::PatternLint { line, offset, .. } = &lint.kind {
@@ -59,7 +60,7 @@ pub fn write_kind(buffer: &mut TextBuffer, files: &Analysis<'_>, kind: &LintKind
             buffer.push(files.yacc.name.as_bytes());
             buffer.push(b" doesn't name it");
         }
-        LintKind::UselessRule(_)
+        LintKind::UselessRule(..)
         | LintKind::UnreducedRule(_)
         | LintKind::LosingRule(_)
         | LintKind::IdlePrec(_) => write_of_rule(buffer, files, kind),
@@ -76,13 +77,9 @@ fn write_about(buffer: &mut TextBuffer, words: &[u8], name: &[u8]) {
 /// Prints the message of a warning about a rule of the grammar.
 fn write_of_rule(buffer: &mut TextBuffer, files: &Analysis<'_>, kind: &LintKind<'_>) {
     match kind {
-        LintKind::UselessRule(rule) => {
-            write_numbered(
-                buffer,
-                b"rule ",
-                *rule as u64,
-                b" is useless: no sentence needs it",
-            );
+        LintKind::UselessRule(rule, reason) => {
+            write_numbered(buffer, b"rule ", *rule as u64, b" is useless: ");
+            write_uselessness(buffer, files, *reason);
         }
         LintKind::UnreducedRule(rule) => {
             let words = if is_roundabout(files.spec.grammar(), *rule) {
@@ -109,6 +106,20 @@ fn write_of_rule(buffer: &mut TextBuffer, files: &Analysis<'_>, kind: &LintKind<
             );
         }
         _ => {}
+    }
+}
+
+/// Prints why a rule is useless.
+fn write_uselessness(buffer: &mut TextBuffer, files: &Analysis<'_>, reason: Uselessness) {
+    match reason {
+        Uselessness::DerivesNothing(number) => {
+            buffer.push_symbol(files.spec, Symbol::Nonterminal(number));
+            buffer.push(b" derives no string of tokens");
+        }
+        Uselessness::Unreached(number) => {
+            buffer.push(b"the start symbol never leads to ");
+            buffer.push_symbol(files.spec, Symbol::Nonterminal(number));
+        }
     }
 }
 
@@ -215,7 +226,7 @@ pub fn name_of(kind: &LintKind<'_>) -> &'static [u8] {
         LintKind::IndentedLine => b"IndentedLine",
         LintKind::UnmatchedRule(_) => b"UnmatchedRule",
         LintKind::UnnamedLiteral(_) => b"UnnamedLiteral",
-        LintKind::UselessRule(_) => b"UselessRule",
+        LintKind::UselessRule(..) => b"UselessRule",
         LintKind::UnreducedRule(_) => b"UnreducedRule",
         LintKind::LosingRule(_) => b"LosingRule",
         LintKind::UnusedTerminal(_) | LintKind::MoreUnused(_) => b"UnusedTerminal",

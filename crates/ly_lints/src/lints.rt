@@ -4,6 +4,7 @@ ghost use Rattle.ly_subset.specs.Automaton.{IsBreadthFirst};
 
 use crate::lex_lints::lex_lints;
 use crate::lint::{Lint, LintKind, Side};
+use crate::useless::Derived;
 use ly_analysis::{Analysis, Decided, Options, Places, first_of};
 use ly_base::{Location, OutOfMemory, Sym, locate};
 use ly_counterexamples::{unreduced_rules, unreturned_terminals, unused_terminals};
@@ -85,17 +86,31 @@ impl<'a> Finder<'a> {
 
     /// Finds the rules of the grammar that are removed, are never reduced, or lose trees.
     fn find_rules(&mut self, alloc: Global) -> Result<(), OutOfMemory> {
-        let reduced = self.files.resolved.lr0().reduced();
-        for rule in 0..reduced.grammar().rules().len() {
-            if !reduced.is_kept(rule) {
-                self.add_of_rule(rule, LintKind::UselessRule(rule))?;
-            }
-        }
+        self.find_useless(alloc)?;
         for rule in &unreduced_rules(alloc, self.files.resolved)? {
             self.add_of_rule(*rule, LintKind::UnreducedRule(*rule))?;
         }
         for rule in first_of(&self.places.losing_rules(alloc)?, MOST) {
             self.add_of_rule(*rule, LintKind::LosingRule(*rule))?;
+        }
+        Ok(())
+    }
+
+    /// Finds the useless rules, with the reasons.
+    fn find_useless(&mut self, alloc: Global) -> Result<(), OutOfMemory> {
+        let reduced = self.files.resolved.lr0().reduced();
+        let grammar = self.files.spec.grammar();
+        let mut derived = None;
+        for rule in 0..grammar.rules().len() {
+            if rule >= reduced.grammar().rules().len() || reduced.is_kept(rule) {
+                continue;
+            }
+            if derived.is_none() {
+                derived = Some(Derived::of(alloc, grammar)?);
+            }
+            if let Some(derived) = &derived {
+                self.add_of_rule(rule, LintKind::UselessRule(rule, derived.reason(rule)))?;
+            }
         }
         Ok(())
     }

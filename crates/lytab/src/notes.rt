@@ -97,9 +97,9 @@ impl Notes {
         self.buffer.push_location_in(text, at);
         let mut rest = self.buffer.beside();
         if token.is_empty() {
-            rest.push(b"unexpected end of the text\n");
+            rest.push(b"error: unexpected end of the text\n");
         } else {
-            rest.push(b"unexpected ");
+            rest.push(b"error: unexpected ");
             rest.push_quoted(token.get(..LONGEST).unwrap_or(token));
             let is_cut = token.len() > LONGEST;
             rest.push(if is_cut { b"..\n" } else { b"\n" });
@@ -122,7 +122,7 @@ impl Notes {
     /// That no rule matches at an offset of a text, and the line at its location.
     fn unmatched(&self, text: NamedFile<'_>, start: usize, at: Location) -> TextBuffer {
         let mut buffer = self.buffer.beside();
-        buffer.push(b"no rule matches ");
+        buffer.push(b"error: no rule matches ");
         buffer.push_byte(text.bytes.get(start).copied().unwrap_or(0));
         buffer.push(b"\n");
         buffer.push_excerpt(text, at);
@@ -199,6 +199,7 @@ impl Notes {
             return;
         };
         self.write_file(path);
+        self.buffer.push(b"error: ");
         self.buffer.push_number(u64::from(number));
         self.buffer.push(b" ");
         self.buffer.push(name.as_bytes());
@@ -211,6 +212,7 @@ impl Notes {
     pub fn write_reason(&mut self, path: &str, reason: &io::Error) {
         if self.are_wanted {
             self.write_file(path);
+            self.buffer.push(b"error: ");
             self.buffer.push_words(reason);
             self.buffer.push(b"\n");
         }
