@@ -88,34 +88,36 @@ def extent(text, start, end):
     return b',"start":' + location(text, start) + b',"end":' + location(text, end)
 
 
-def tokens(plain, text, starts):
-    """The lines of tokens as JSON, which begin at these bytes of a text."""
+def tokens(plain, text):
+    """The lines of tokens as JSON. Where each token is follows from the plain lines and the text."""
+    lines = plain.splitlines()
+    stuck = NO_RULE.fullmatch(lines[-1] + b"\n") if lines else None
+    end = int(stuck[1]) if stuck else len(text)
+    found = [LEAF.fullmatch(line) for line in (lines[:-1] if stuck else lines)]
+    lexemes = [unescaped(it[2]) for it in found]
     out = []
-    for line, start in zip(plain.splitlines(), starts):
-        stuck = NO_RULE.fullmatch(line + b"\n")
-        if stuck:
-            byte = int(stuck[1])
-            out.append(b'{"error":"unmatched","byte":%d' % byte + extent(text, byte, byte) + b"}\n")
-        else:
-            found = LEAF.fullmatch(line)
-            bytes_ = unescaped(found[2])
-            end = start + len(bytes_)
-            if text[start:end] != bytes_:
-                raise ValueError(f"no {bytes_} at {start}")
-            out.append(b'{"token":' + name(found[1]) + extent(text, start, end) + b"," + content(bytes_) + b"}\n")
+    for leaf_, bytes_, start in zip(found, lexemes, starts(lexemes, text[:end])):
+        place = extent(text, start, start + len(bytes_))
+        out.append(b'{"token":' + name(leaf_[1]) + place + b"," + content(bytes_) + b"}\n")
+    if stuck:
+        out.append(b'{"error":"unmatched","byte":%d' % end + extent(text, end, end) + b"}\n")
     return b"".join(out)
 
 
-def starts(lines):
-    """Where tokens begin by their lines of JSON; they have to follow one another."""
-    found, behind = [], 0
-    for line in lines.splitlines():
-        said = json.loads(line)
-        if said["start"][0] < behind:
-            raise ValueError(f"a token before the end of the one before it: {said}")
-        found.append(said["start"][0])
-        behind = said["end"][0]
-    return found
+def starts(lexemes, text):
+    """Where lexemes begin in a text, in their order. A text in which they may be in more than one way is no text for
+    such a comparison."""
+    first, at = [], 0
+    for lexeme in lexemes:
+        first.append(text.index(lexeme, at))
+        at = first[-1] + len(lexeme)
+    last, at = [], len(text)
+    for lexeme in reversed(lexemes):
+        at = text.rindex(lexeme, 0, at)
+        last.insert(0, at)
+    if first != last:
+        raise ValueError(f"the tokens could begin at {first} or at {last}: change the text")
+    return first
 
 
 def expected(line):
