@@ -13,7 +13,7 @@ ghost use Rattle.ly_feed.specs.TextFault as text;
 
 use crate::fault::DriveFault;
 use crate::reading::read_into;
-use ly_feed::{Feed, Need, Outcome, TextFault};
+use ly_feed::{Feed, Need, Outcome, Prepared, TextFault};
 use ly_print::{AnswerForm, Sink, Source, write_whole};
 use ly_tables::{TableSet, a_file_has_one_set, read_tables};
 use std::alloc::Global;
@@ -97,9 +97,11 @@ pub fn run<R: Source, W: Sink>(
     ensures untouched { IfErr result (λ e. WroteNothing (text.failed_write e) → writer.new ≡ writer.old) }
 {
     let mut room = vec![in alloc; 0u8; PIECE]?;
-    let mut feed = Feed::new(alloc, set, form)?;
+    let prepared = Prepared::new(alloc, set)?;
+    let mut feed = Feed::new(&prepared, form);
     let answered = feed_all(&mut feed, &mut room, reader, writer);
     drop(feed);
+    drop(prepared);
     answered
 }
 

@@ -25,7 +25,7 @@ pub use fault::DriveFault;
 pub use lines::{drive_lines, run_lines};
 pub use lines_outcome::LinesOutcome;
 pub use ly_feed::{
-    Feed, FeedFault, Need, Outcome, TextFault, a_beginning_says_it, a_text_has_a_verdict,
+    Feed, FeedFault, Need, Outcome, Prepared, TextFault, a_beginning_says_it, a_text_has_a_verdict,
     a_text_has_one_verdict, decided_matches_change_nothing,
 };
 pub use ly_print::AnswerForm;

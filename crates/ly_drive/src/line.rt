@@ -4,29 +4,26 @@ ghost use Rattle.ly_feed.specs.Held.{nothing_read};
 ghost use Rattle.ly_feed.specs.TextFault.{failed_write};
 ghost use Rattle.ly_print.specs.Device.{next_count, IsFailedWrite, WroteNothing};
 
-use ly_feed::{Feed, FeedFault, Need, Outcome, TextFault};
+use ly_feed::{Feed, FeedFault, Need, Outcome, Prepared, TextFault};
 use ly_print::{AnswerForm, Sink, write_whole};
-use ly_tables::TableSet;
-use std::alloc::Global;
 
-/// Parses a line as a text of its own, and writes the result in a form.
+/// Parses a line as a text of its own with a prepared table set, and writes the result in a form.
 pub(crate) fn answer_line<W: Sink>(
-    alloc: Global,
-    set: &TableSet,
+    prepared: &Prepared<'_>,
     form: AnswerForm,
     line: &[u8],
     writer: &mut W,
 ) -> Result<Outcome, TextFault>
-    ensures answered { IfOk result (IsLineAnswered form set.now line.now (W.contents writer.old)
+    ensures answered { IfOk result (IsLineAnswered form prepared.now line.now (W.contents writer.old)
         (W.contents writer.new)) }
-    ensures stopped { IfErr result (IsLineStopped form set.now line.now (W.contents writer.old)
+    ensures stopped { IfErr result (IsLineStopped form prepared.now line.now (W.contents writer.old)
         (W.contents writer.new)) }
     ensures write { IfErr result (λ e. IsFailedWrite (failed_write e)
         → W.failures writer.new ≡ next_count (W.failures writer.old)) }
     ensures writer_held { OnOk result (W.failures writer.new ≡ W.failures writer.old) }
     ensures kept { IfErr result (λ e. WroteNothing (failed_write e) → W.failures writer.new ≡ W.failures writer.old) }
 {
-    let mut feed = Feed::new(alloc, set, form)?;
+    let mut feed = Feed::new(prepared, form);
     let answered = feed_whole(&mut feed, line, writer);
     drop(feed);
     answered

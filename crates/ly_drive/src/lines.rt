@@ -20,7 +20,7 @@ use crate::driving::PIECE;
 use crate::fault::DriveFault;
 use crate::line::answer_line;
 use crate::lines_outcome::LinesOutcome;
-use ly_feed::TextFault;
+use ly_feed::{Prepared, TextFault};
 use ly_print::{AnswerForm, Sink, Source};
 use ly_tables::{TableSet, a_file_has_one_set, read_tables};
 use std::alloc::Global;
@@ -97,26 +97,29 @@ pub fn run_lines<R: Source, W: Sink>(
     ensures kept { IfErr result (λ e. WroteNothing (failed_write e) → W.failures writer.new ≡ W.failures writer.old) }
 {
     let mut room = vec![in alloc; 0u8; PIECE]?;
-    answer_all(alloc, set, form, &mut room, reader, writer)
+    let prepared = Prepared::new(alloc, set)?;
+    let answered = answer_all(&prepared, form, &mut room, reader, writer);
+    drop(prepared);
+    answered
 }
 
-/// Parses the lines from a reader, at most the size of the buffer at a time, until the text ends.
+/// Parses the lines from a reader with a prepared table set, at most the size of the buffer at a time, until the text
+/// ends.
 fn answer_all<R: Source, W: Sink>(
-    alloc: Global,
-    set: &TableSet,
+    prepared: &Prepared<'_>,
     form: AnswerForm,
     room: &mut [u8],
     reader: &mut R,
     writer: &mut W,
 ) -> Result<LinesOutcome, TextFault>
     requires { 0 < length room.old }
-    ensures answered { IfOk result (AreLinesAnswered form set.now (R.remaining reader.old) (W.contents writer.old)
+    ensures answered { IfOk result (AreLinesAnswered form prepared.now (R.remaining reader.old) (W.contents writer.old)
         (W.contents writer.new)) }
     ensures ended { OnOk result (IsAtEnd (R.remaining reader.new)) }
-    ensures stopped { IfErr result (AreLinesStopped form set.now (R.remaining reader.old) (W.contents writer.old)
+    ensures stopped { IfErr result (AreLinesStopped form prepared.now (R.remaining reader.old) (W.contents writer.old)
         (W.contents writer.new)) }
     ensures long { result ≡ Err TextFault.TooLong → IsTooLong (R.remaining reader.old) }
-    ensures asked { IsErrOf result TextFault.Read → AreAnsweredBehind form set.now (R.remaining reader.old)
+    ensures asked { IsErrOf result TextFault.Read → AreAnsweredBehind form prepared.now (R.remaining reader.old)
         (R.remaining reader.new) (W.contents writer.old) (W.contents writer.new) }
     ensures read { IsErrOf result TextFault.Read → R.failures reader.new ≡ next_count (R.failures reader.old) }
     ensures reader_held { (IsErrOf result TextFault.Read → ⊥) → R.failures reader.new ≡ R.failures reader.old }
@@ -125,11 +128,11 @@ fn answer_all<R: Source, W: Sink>(
     ensures writer_held { OnOk result (W.failures writer.new ≡ W.failures writer.old) }
     ensures kept { IfErr result (λ e. WroteNothing (failed_write e) → W.failures writer.new ≡ W.failures writer.old) }
 {
-    let mut lines = Lines::new(alloc);
+    let mut lines = Lines::new(prepared.alloc());
     let mut seen = 0u64;
     loop {
         let count = match reader.pull(room) {
-            Ok(0) => return lines.end(alloc, set, form, writer),
+            Ok(0) => return lines.end(prepared, form, writer),
             Ok(count) => count,
             Err(_) => return Err(TextFault::Read),
         };
@@ -137,7 +140,7 @@ fn answer_all<R: Source, W: Sink>(
             Some(seen) => seen,
             None => return Err(TextFault::TooLong),
         };
-        lines.take(alloc, set, form, &room[..count], writer)?;
+        lines.take(prepared, form, &room[..count], writer)?;
     }
 }
 
@@ -165,15 +168,14 @@ impl Lines {
     /// Takes the next bytes of the text, and parses each line that ends in them.
     fn take<W: Sink>(
         &mut self,
-        alloc: Global,
-        set: &TableSet,
+        prepared: &Prepared<'_>,
         form: AnswerForm,
         bytes: &[u8],
         writer: &mut W,
     ) -> Result<(), TextFault>
         ensures taken { (front : List ℕ) (before : Option (List ℕ))
-            → IsAnsweredSoFar form set.now front before (W.contents writer.old) self.old.part.items self.old.outcome
-            → AreTaken form set.now (front ++ bytes.now) before (W.contents writer.new) self.new.part.items
+            → IsAnsweredSoFar form prepared.now front before (W.contents writer.old) self.old.part.items self.old.outcome
+            → AreTaken form prepared.now (front ++ bytes.now) before (W.contents writer.new) self.new.part.items
             self.new.outcome result }
         ensures ending { IfErr result IsOfEnding }
         ensures write { IfErr result (λ e. IsFailedWrite (failed_write e)
@@ -183,7 +185,7 @@ impl Lines {
             → W.failures writer.new ≡ W.failures writer.old) }
     {
         for &byte in bytes {
-            self.take_byte(alloc, set, form, byte, writer)?;
+            self.take_byte(prepared, form, byte, writer)?;
         }
         Ok(())
     }
@@ -191,15 +193,14 @@ impl Lines {
     /// Takes the next byte of the text. A newline ends the line, which is parsed.
     fn take_byte<W: Sink>(
         &mut self,
-        alloc: Global,
-        set: &TableSet,
+        prepared: &Prepared<'_>,
         form: AnswerForm,
         byte: u8,
         writer: &mut W,
     ) -> Result<(), TextFault>
         ensures taken { (front : List ℕ) (before : Option (List ℕ))
-            → IsAnsweredSoFar form set.now front before (W.contents writer.old) self.old.part.items self.old.outcome
-            → AreTaken form set.now (front ++ byte ∷ []) before (W.contents writer.new) self.new.part.items
+            → IsAnsweredSoFar form prepared.now front before (W.contents writer.old) self.old.part.items self.old.outcome
+            → AreTaken form prepared.now (front ++ byte ∷ []) before (W.contents writer.new) self.new.part.items
             self.new.outcome result }
         ensures ending { IfErr result IsOfEnding }
         ensures write { IfErr result (λ e. IsFailedWrite (failed_write e)
@@ -214,7 +215,7 @@ impl Lines {
                 Err(_) => Err(TextFault::OutOfMemory),
             };
         }
-        let outcome = answer_line(alloc, set, form, &self.part, writer)?;
+        let outcome = answer_line(prepared, form, &self.part, writer)?;
         self.outcome = self.outcome.with(&outcome);
         self.part.clear();
         Ok(())
@@ -223,14 +224,13 @@ impl Lines {
     /// Ends the text. The bytes after the last newline are a line unless they are empty.
     fn end<W: Sink>(
         self,
-        alloc: Global,
-        set: &TableSet,
+        prepared: &Prepared<'_>,
         form: AnswerForm,
         writer: &mut W,
     ) -> Result<LinesOutcome, TextFault>
         ensures ended { (text : List ℕ) (before : Option (List ℕ))
-            → IsAnsweredSoFar form set.now text before (W.contents writer.old) self.part.items self.outcome
-            → AreEnded form set.now text before (W.contents writer.new) result }
+            → IsAnsweredSoFar form prepared.now text before (W.contents writer.old) self.part.items self.outcome
+            → AreEnded form prepared.now text before (W.contents writer.new) result }
         ensures ending { IfErr result IsOfEnding }
         ensures write { IfErr result (λ e. IsFailedWrite (failed_write e)
             → W.failures writer.new ≡ next_count (W.failures writer.old)) }
@@ -241,7 +241,7 @@ impl Lines {
         if self.part.is_empty() {
             return Ok(self.outcome);
         }
-        let outcome = answer_line(alloc, set, form, &self.part, writer)?;
+        let outcome = answer_line(prepared, form, &self.part, writer)?;
         Ok(self.outcome.with(&outcome))
     }
 }

@@ -11,16 +11,19 @@ use Rattle.ly_pack.specs.Machine.{Machine}
 use Rattle.ly_pack.specs.Steady.{IsSteady}
 use Rattle.ly_pack.specs.SteadyLaws.{IsStack}
 use Rattle.ly_parse.specs.Expected.{IsExpected}
-use Rattle.ly_parse.specs.Feeding.{Fed, Feeds, Level, done, faulty, pushed, refused, states_on}
+use Rattle.ly_parse.specs.Deriving.{FeedsTree, TreeFed, TreeLevel, done, faulty, fed_by, levels_by, pushed, refused}
+use Rattle.ly_parse.specs.Deriving.{shape_of_rule, states_below}
+use Rattle.ly_parse.specs.Feeding.{Fed, states_on}
 use Rattle.ly_parse.proofs.ExpectedFedLemmas.{IsTaken, expected_is_taken, taken_is_expected}
-use Rattle.ly_parse.proofs.SettlingLemmas.{settles_on_steady}
+use Rattle.ly_parse.proofs.TreeFeeding.{done_with_terms, same_states}
+use Rattle.ly_parse.proofs.TreeSettlingLemmas.{settles_on_steady}
 use Rattle.ly_relate.proofs.LeaveLemmas.{symbol_within}
 use Rattle.ly_resolve.specs.Machine.{Next, Pushed}
 use Rattle.ly_resolve.specs.Precedence.{judge_of}
 use Rattle.ly_resolve.proofs.NextLemmas.{one_token_tells}
 use Rattle.ly_emit.specs.Following.{Simulates, Mirrors}
 use Rattle.ly_emit.specs.Laws.{ExpectedFollow}
-use Rattle.ly_emit.specs.Tables.{IsMachineOf, shape_in}
+use Rattle.ly_emit.specs.Tables.{IsMachineOf}
 use Rattle.ly_emit.proofs.FollowLemmas.{tables_follow}
 
 -- a terminal behind the dot of an item is one of the grammar's
@@ -40,40 +43,44 @@ next_within {G} {t = t} augmented (suc p, before, after, (u, v)) =
     within.1
 
 module _ (s : Spec) (M : Lr0Automaton) (n : Machine) (is : IsLr0Automaton M) (useful : KeepsUseful s.grammar M.grammar)
-    (of : IsMachineOf s M n) (calm : IsSteady n) (stack : List Pushed) (levels : List Level)
-    (mirrors : Mirrors M (shape_in s) stack levels) (edges : IsStack n (states_on levels)) where
+    (of : IsMachineOf s M n) (calm : IsSteady n) (stack : List Pushed) (levels : List TreeLevel)
+    (mirrors : Mirrors M stack levels) (edges : IsStack n (states_below levels)) where
+  -- the outcome with terms
+  abbrev by_rules : TreeFed → Fed
+  by_rules = fed_by (shape_of_rule n.rules)
+
   -- a token of a terminal
   probe : ℕ → Token ℕ
   probe t = record { terminal = t; at = 0; bytes = [] }
 
-  fed : (t : ℕ) → t < n.terminals → (out : Fed) × Feeds n (probe t) levels out
+  fed : (t : ℕ) → t < n.terminals → (out : TreeFed) × FeedsTree n (probe t) levels out
   unfolding probe
   fed t within = settles_on_steady n (probe t) levels calm within edges
 
   same_terminals : n.terminals ≡ M.grammar.terminals
   same_terminals = of.2.terminals ∙ of.1.terminals
 
-  follows : (t : ℕ) (out : Fed) → t < n.terminals → Feeds n (probe t) levels out
-      → Simulates M (shape_in s) (judge_of s) stack (probe t) [] out
+  follows : (t : ℕ) (out : TreeFed) → t < n.terminals → FeedsTree n (probe t) levels out
+      → Simulates M (judge_of s) stack (probe t) [] out
   unfolding probe
   follows t out within feeds = tables_follow s M n is useful of stack levels (probe t) [] out
       (subst (λ k. t < k) same_terminals within) mirrors feeds
 
   -- the reference machine reads what the tables take
-  taken_next : (t : ℕ) (out : Fed) → IsTaken out → Simulates M (shape_in s) (judge_of s) stack (probe t) [] out
+  taken_next : (t : ℕ) (out : TreeFed) → IsTaken (by_rules out) → Simulates M (judge_of s) stack (probe t) [] out
       → Next M.grammar (judge_of s) stack t
   unfolding probe
   taken_next t (pushed next) taken f = (one_token_tells M.grammar (judge_of s) stack (probe t)).read f.0 f.1
-  taken_next t (done term) taken f = (one_token_tells M.grammar (judge_of s) stack (probe t)).accepted f.0 f.1 f.2 f.3
+  taken_next t (done tree) taken f = (one_token_tells M.grammar (judge_of s) stack (probe t)).accepted f.0 f.1 f.2 f.3
   taken_next t refused taken f = absurd taken
   taken_next t faulty taken f = absurd taken
 
   -- and the tables take what it reads
-  next_taken : (t : ℕ) (out : Fed) → Next M.grammar (judge_of s) stack t
-      → Simulates M (shape_in s) (judge_of s) stack (probe t) [] out → IsTaken out
+  next_taken : (t : ℕ) (out : TreeFed) → Next M.grammar (judge_of s) stack t
+      → Simulates M (judge_of s) stack (probe t) [] out → IsTaken (by_rules out)
   unfolding probe
   next_taken t (pushed levels) next f = tt
-  next_taken t (done term) next f = tt
+  next_taken t (done tree) next f = tt
   next_taken t refused next f = (one_token_tells M.grammar (judge_of s) stack (probe t)).refused f.0 f.1 f.2 next
   next_taken t faulty next f = f
 
@@ -81,18 +88,25 @@ module _ (s : Spec) (M : Lr0Automaton) (n : Machine) (is : IsLr0Automaton M) (us
   next_terminal t (token, same, c, l, rest, action) =
       subst (λ k. t < k) (sym same_terminals) (next_within is.augmented action.0)
 
-  expected_next : (t : ℕ) → t < n.terminals → IsExpected n t (states_on levels) → Next M.grammar (judge_of s) stack t
+  -- the states are those with terms
+  as_terms : states_on (levels_by (shape_of_rule n.rules) levels) ≡ states_below levels
+  as_terms = same_states (shape_of_rule n.rules) levels
+
+  expected_next : (t : ℕ) → t < n.terminals → IsExpected n t (states_below levels)
+      → Next M.grammar (judge_of s) stack t
   unfolding probe
   expected_next t within x =
       let f = fed t within in
-      taken_next t f.0 (expected_is_taken n (probe t) f.1 x) (follows t f.0 within f.1)
+      taken_next t f.0 (expected_is_taken n (probe t) (done_with_terms n (probe t) f.1)
+      (subst (IsExpected n t) (sym as_terms) x)) (follows t f.0 within f.1)
 
-  next_expected : (t : ℕ) → Next M.grammar (judge_of s) stack t → IsExpected n t (states_on levels)
+  next_expected : (t : ℕ) → Next M.grammar (judge_of s) stack t → IsExpected n t (states_below levels)
   unfolding probe
   next_expected t next =
       let within = next_terminal t next in
       let f = fed t within in
-      taken_is_expected n (probe t) f.1 (next_taken t f.0 next (follows t f.0 within f.1))
+      subst (IsExpected n t) as_terms (taken_is_expected n (probe t) (done_with_terms n (probe t) f.1)
+      (next_taken t f.0 next (follows t f.0 within f.1)))
 
 pub expected_follow : ExpectedFollow
 expected_follow s M n is useful of calm stack levels mirrors edges ts are t = (

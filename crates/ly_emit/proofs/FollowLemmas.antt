@@ -6,7 +6,6 @@ use Rattle.std.proofs.lemmas.Bool.{eqb-true}
 use Rattle.std.proofs.lemmas.Option.{slice_get-get_or}
 use Rattle.std.specs.Prelude.{slice_index_or}
 use Rattle.ly_base.specs.Lexed.{Token}
-use Rattle.ly_base.specs.Shape.{Shape}
 use Rattle.ly_base.specs.Trees.{Trees, leaf, node, none, more}
 use Rattle.ly_join.specs.Grammar.{Grammar, IsRule, GrammarRule, Symbol, nonterminal, terminal}
 use Rattle.ly_join.specs.Joined.{Spec}
@@ -20,8 +19,9 @@ use Rattle.ly_pack.specs.Defaults.{HasDefaultsOf, IsDefaultOf, is_by, without}
 use Rattle.ly_pack.specs.Machine.{Machine, TableAction, TableRule, action_of, entry_at, goto_at, or_default, states_of}
 use Rattle.ly_pack.specs.Machine as table
 use Rattle.ly_pack.specs.Steady.{rule_at}
-use Rattle.ly_parse.specs.Feeding.{Fed, Feeds, Level, done, faulty, go_to, goes_on, onward, perform, pop, pushed}
-use Rattle.ly_parse.specs.Feeding.{reduce_by, refused, settled, settles, top_of, turn, uncover}
+use Rattle.ly_parse.specs.Deriving.{FeedsTree, TreeFed, TreeLevel, done, faulty, go_to_state, goes_on, onward}
+use Rattle.ly_parse.specs.Deriving.{perform_trees, pop_trees, pushed, reduce_trees, refused, settled, settles}
+use Rattle.ly_parse.specs.Deriving.{top_state, turn_trees, uncover_trees}
 use Rattle.ly_resolve.specs.Actions.{Action, IsAction, IsDone, IsRaw, IsTerminalRefused, PrecedenceVerdict, error}
 use Rattle.ly_resolve.specs.Actions.{reduce, shift}
 use Rattle.ly_resolve.specs.Laws.{Reduces}
@@ -34,7 +34,6 @@ use Rattle.ly_resolve.proofs.DefaultLemmas.{never_mislead}
 use Rattle.ly_resolve.proofs.RawLemmas.{merges_back, raw_too, reached_merges}
 use Rattle.ly_resolve.proofs.RefuseLemmas.{HasNoEnd-under, unread, waits}
 use Rattle.ly_resolve.proofs.StackLemmas.{ends_with_read, length-symbols_of, symbols_of-append}
-use Rattle.ly_tree.specs.Term.{Term, Terms, build, builds, made}
 use Rattle.ly_emit.specs.Following.{Simulates, Mirrors, above, bottom}
 use Rattle.ly_emit.specs.Laws.{TablesFollow}
 use Rattle.ly_emit.specs.Tables.{AreTables, IsEntryFor, shape_in}
@@ -107,21 +106,21 @@ split_stack (x ∷ stack) (X ∷ before) under e =
       parts.4,
     )
 
-module _ (M : Lr0Automaton) (shape : ℕ → Shape) where
-  -- the terms that are popped off are built of the trees
-  popped_terms : (popped below : List Pushed) {levels : List Level} (us : Trees)
-      → Mirrors M shape (popped ++ below) levels
-      → (ks : List Level)
-      × (pop (length popped) levels (builds shape us) ≡ Some (builds shape (trees_onto popped us), ks))
-      × Mirrors M shape below ks
-  popped_terms [] below {levels = levels} us mirrors = (levels, refl, mirrors)
-  popped_terms (x ∷ popped) below us (above mirrors e) = popped_terms popped below (more x.tree us) mirrors
+module _ (M : Lr0Automaton) where
+  -- the trees that are popped off are those of the stack
+  popped_trees : (popped below : List Pushed) {levels : List TreeLevel} (us : Trees)
+      → Mirrors M (popped ++ below) levels
+      → (ks : List TreeLevel)
+      × (pop_trees (length popped) levels us ≡ Some (trees_onto popped us, ks))
+      × Mirrors M below ks
+  popped_trees [] below {levels = levels} us mirrors = (levels, refl, mirrors)
+  popped_trees (x ∷ popped) below us (above mirrors e) = popped_trees popped below (more x.tree us) mirrors
 
   -- the symbols of a stack lead to the state on top
-  reached : {stack : List Pushed} {levels : List Level} → Mirrors M shape stack levels
-      → Reaches (goto_of M) 0 (symbols_of stack) (top_of levels)
+  reached : {stack : List Pushed} {levels : List TreeLevel} → Mirrors M stack levels
+      → Reaches (goto_of M) 0 (symbols_of stack) (top_state levels)
   reached bottom = refl
-  reached (above {levels = levels} mirrors e) = (top_of levels, reached mirrors, e)
+  reached (above {levels = levels} mirrors e) = (top_state levels, reached mirrors, e)
 
 Reduces-last : {G : Grammar} {g h : List Symbol} {q t : ℕ} {r : GrammarRule} {before under : List Symbol}
     → Reduces G g h
@@ -136,7 +135,7 @@ module _ (s : Spec) (M : Lr0Automaton) (m n : Machine) (is : IsLr0Automaton M)
   states = has.states ∙ are.states
 
   -- A reduction that the tables make is one of the reference machine.
-  record Made (stack : List Pushed) (levels : List Level) (p : ℕ) (before : List Symbol) : Type 0 where
+  record Made (stack : List Pushed) (levels : List TreeLevel) (p : ℕ) (before : List Symbol) : Type 0 where
     rule : GrammarRule
     is_rule : IsRule M.grammar p rule
     popped : List Pushed
@@ -144,12 +143,12 @@ module _ (s : Spec) (M : Lr0Automaton) (m n : Machine) (is : IsLr0Automaton M)
     split : stack ≡ popped ++ below
     is_before : symbols_of popped ≡ before
     is_body : onto (symbols_of popped) [] ≡ rule.body
-    next : List Level
-    turns : reduce_by n p levels (rule_at n p) ≡ goes_on next
-    mirrors : Mirrors M (shape_in s)
+    next : List TreeLevel
+    turns : reduce_trees n p levels (rule_at n p) ≡ goes_on next
+    mirrors : Mirrors M
         (record { symbol = nonterminal rule.left; tree = node p (trees_onto popped none) } ∷ below) next
 
-  makes : {stack : List Pushed} {levels : List Level} → Mirrors M (shape_in s) stack levels → (p k : ℕ)
+  makes : {stack : List Pushed} {levels : List TreeLevel} → Mirrors M stack levels → (p k : ℕ)
       (before : List Symbol) → 1 ≤ p → Valid M.grammar (symbols_of stack) p before [] k → Made stack levels p before
   makes {stack = stack} {levels = levels} mirrors p k before some v =
       let body = body_of v in
@@ -158,27 +157,27 @@ module _ (s : Spec) (M : Lr0Automaton) (m n : Machine) (is : IsLr0Automaton M)
       let parts = split_stack stack before end.0 end.1 in
       let popped = parts.0 in
       let below = parts.1 in
-      let pops = popped_terms M (shape_in s) popped below {levels = levels} none
-      (subst (λ w. Mirrors M (shape_in s) w levels) parts.2 mirrors) in
+      let pops = popped_trees M popped below {levels = levels} none
+      (subst (λ w. Mirrors M w levels) parts.2 mirrors) in
       let ks = pops.0 in
       let whole : Valid M.grammar (before ++ symbols_of below) p before [] k
       = subst (λ w. Valid M.grammar w p before [] k) (end.1 ∙ ap (λ w. before ++ w) (sym parts.4)) v in
       let w = waits (unread before (symbols_of below) [] whole) some rule body.1 in
       let ends = HasNoEnd-under before (symbols_of below)
       (subst Rattle.ly_grammar.specs.Items.HasNoEnd (end.1 ∙ ap (λ w. before ++ w) (sym parts.4))
-      (is.cores.only (symbols_of stack) (top_of levels) (reached M (shape_in s) mirrors)).0) in
+      (is.cores.only (symbols_of stack) (top_state levels) (reached M mirrors)).0) in
       let viable : IsViable M.grammar (nonterminal rule.left ∷ symbols_of below)
       = ((λ e. cc, ends), w.0, nonterminal rule.left ∷ w.1, w.2, (w.3.0, moved w.3.1)) in
       let to = is.cores.has (nonterminal rule.left ∷ symbols_of below) viable in
-      let same : to.1.0 ≡ top_of ks
-      = Reaches_one (goto_of M) 0 (symbols_of below) to.1.0 (top_of ks) to.1.1 (reached M (shape_in s) pops.2) in
-      let goes : goto_of M (top_of ks) (nonterminal rule.left) ≡ Some to.0
+      let same : to.1.0 ≡ top_state ks
+      = Reaches_one (goto_of M) 0 (symbols_of below) to.1.0 (top_state ks) to.1.1 (reached M pops.2) in
+      let goes : goto_of M (top_state ks) (nonterminal rule.left) ≡ Some to.0
       = subst (λ q. goto_of M q (nonterminal rule.left) ≡ Some to.0) same to.1.2 in
-      let within = reached_within M is (symbols_of below) (top_of ks) (reached M (shape_in s) pops.2) in
+      let within = reached_within M is (symbols_of below) (top_state ks) (reached M pops.2) in
       let left = (is.augmented.within p rule body.1 some).left in
-      let there : goto_at n (top_of ks) rule.left ≡ Some to.0
-      = ap (λ g. Rattle.ly_pack.specs.Rows.cell g (top_of ks) rule.left) has.gotos
-      ∙ (are.gotos (top_of ks) rule.left within left ∙ goes) in
+      let there : goto_at n (top_state ks) rule.left ≡ Some to.0
+      = ap (λ g. Rattle.ly_pack.specs.Rows.cell g (top_state ks) rule.left) has.gotos
+      ∙ (are.gotos (top_state ks) rule.left within left ∙ goes) in
       let numbered : rule_at n p
       ≡ Some (record { left = rule.left; body_length = length rule.body; shape = shape_in s p })
       = ap (λ rs. slice_get rs (p - 1)) has.rules
@@ -193,64 +192,60 @@ module _ (s : Spec) (M : Lr0Automaton) (m n : Machine) (is : IsLr0Automaton M)
         split = parts.2;
         is_before = parts.3;
         is_body = ap (λ w. onto w []) parts.3 ∙ body.2;
-        next = record {
-          state = to.0;
-          term = build (shape_in s) (node p (trees_onto popped none));
-        } ∷ ks;
-        turns = ap (reduce_by n p levels) numbered
-            ∙ (ap (λ k. uncover n p (record { left = rule.left; body_length = length rule.body; shape = shape_in s p })
-            (pop k levels Rattle.ly_tree.specs.Term.none)) long
-            ∙ (ap (uncover n p (record { left = rule.left; body_length = length rule.body; shape = shape_in s p }))
+        next = record { state = to.0; tree = node p (trees_onto popped none) } ∷ ks;
+        turns = ap (reduce_trees n p levels) numbered
+            ∙ (ap (λ k. uncover_trees n p (record { left = rule.left; body_length = length rule.body; shape = shape_in s p })
+            (pop_trees k levels none)) long
+            ∙ (ap (uncover_trees n p (record { left = rule.left; body_length = length rule.body; shape = shape_in s p }))
             pops.1
-            ∙ ap (go_to p (record { left = rule.left; body_length = length rule.body; shape = shape_in s p })
-            (builds (shape_in s) (trees_onto popped none)) ks) there));
+            ∙ ap (go_to_state p (trees_onto popped none) ks) there));
         mirrors = above pops.2 goes;
       }
 
   module _ (token : Token ℕ) (within : token.terminal < M.grammar.terminals) where
     -- what the tables do where the entry is known
-    turns_by : (levels : List Level) (a : TableAction) → action_of n (top_of levels) token.terminal ≡ a
-        → turn n token levels ≡ perform n token levels a
-    turns_by levels a e = ap (perform n token levels) e
+    turns_by : (levels : List TreeLevel) (a : TableAction) → action_of n (top_state levels) token.terminal ≡ a
+        → turn_trees n token levels ≡ perform_trees n token levels a
+    turns_by levels a e = ap (perform_trees n token levels) e
 
-    module _ {stack : List Pushed} {levels : List Level} (mirrors : Mirrors M (shape_in s) stack levels) where
-      there : top_of levels < length M.states
-      there = reached_within M is (symbols_of stack) (top_of levels) (reached M (shape_in s) mirrors)
+    module _ {stack : List Pushed} {levels : List TreeLevel} (mirrors : Mirrors M stack levels) where
+      there : top_state levels < length M.states
+      there = reached_within M is (symbols_of stack) (top_state levels) (reached M mirrors)
 
-      merges : Merges M.grammar (prefix_of M (top_of levels)) (symbols_of stack)
-      merges = reached_merges M is (symbols_of stack) (top_of levels) there (reached M (shape_in s) mirrors)
+      merges : Merges M.grammar (prefix_of M (top_state levels)) (symbols_of stack)
+      merges = reached_merges M is (symbols_of stack) (top_state levels) there (reached M mirrors)
 
-      default_there : (d : Option ℕ) × (slice_get n.defaults (top_of levels) ≡ Some d)
+      default_there : (d : Option ℕ) × (slice_get n.defaults (top_state levels) ≡ Some d)
       default_there = (
-        slice_index_or n.defaults (top_of levels) None,
-        slice_get-get_or n.defaults (top_of levels) None (subst (λ k. top_of levels < k) (sym states) there),
+        slice_index_or n.defaults (top_state levels) None,
+        slice_get-get_or n.defaults (top_state levels) None (subst (λ k. top_state levels < k) (sym states) there),
       )
 
       -- what is taken at the prefix of the state is taken at the stack's symbols
-      action_here : (a : Action) → IsAction M.grammar (judge_of s) (prefix_of M (top_of levels)) token.terminal a
+      action_here : (a : Action) → IsAction M.grammar (judge_of s) (prefix_of M (top_state levels)) token.terminal a
           → IsAction M.grammar (judge_of s) (symbols_of stack) token.terminal a
-      action_here a taken = done_too (IsRaw M.grammar (prefix_of M (top_of levels)) token.terminal)
+      action_here a taken = done_too (IsRaw M.grammar (prefix_of M (top_state levels)) token.terminal)
           (IsRaw M.grammar (symbols_of stack) token.terminal) (λ p. judge_of s p token.terminal)
           (raw_too merges token.terminal) (raw_too (merges_back merges) token.terminal) a taken
 
-      refused_here : IsTerminalRefused M.grammar (prefix_of M (top_of levels)) token.terminal
+      refused_here : IsTerminalRefused M.grammar (prefix_of M (top_state levels)) token.terminal
           → IsTerminalRefused M.grammar (symbols_of stack) token.terminal
       refused_here nothing a raw = nothing a (raw_too (merges_back merges) token.terminal a raw)
 
       -- an entry is taken, also where the default stands for it
-      action_kept : (a : TableAction) → entry_at m (top_of levels) token.terminal ≡ Some a
-          → action_of n (top_of levels) token.terminal ≡ a
+      action_kept : (a : TableAction) → entry_at m (top_state levels) token.terminal ≡ Some a
+          → action_of n (top_state levels) token.terminal ≡ a
       action_kept a e = let d = default_there in
-          ap (λ o. or_default o (slice_get n.defaults (top_of levels)))
-          (has.actions (top_of levels) token.terminal d.0 d.1 ∙ ap (without d.0) e)
+          ap (λ o. or_default o (slice_get n.defaults (top_state levels)))
+          (has.actions (top_state levels) token.terminal d.0 d.1 ∙ ap (without d.0) e)
           ∙ (ap (or_default (without d.0 (Some a))) d.1 ∙ kept d.0 a)
 
-      action_lost : (d : Option ℕ) → slice_get n.defaults (top_of levels) ≡ Some d
-          → entry_at m (top_of levels) token.terminal ≡ None
-          → action_of n (top_of levels) token.terminal ≡ or_default None (Some d)
+      action_lost : (d : Option ℕ) → slice_get n.defaults (top_state levels) ≡ Some d
+          → entry_at m (top_state levels) token.terminal ≡ None
+          → action_of n (top_state levels) token.terminal ≡ or_default None (Some d)
       action_lost d at e =
-          ap (λ o. or_default o (slice_get n.defaults (top_of levels)))
-          (has.actions (top_of levels) token.terminal d at ∙ ap (without d) e)
+          ap (λ o. or_default o (slice_get n.defaults (top_state levels)))
+          (has.actions (top_state levels) token.terminal d at ∙ ap (without d) e)
           ∙ (ap (or_default (without d None)) at ∙ lost d)
 
       -- a reduction that is asked for before some terminal is by a complete rule
@@ -268,10 +263,10 @@ module _ (s : Spec) (M : Lr0Automaton) (m n : Machine) (is : IsLr0Automaton M)
         before : List Symbol
         valid : Valid M.grammar (symbols_of stack) number before [] lookahead
         made : Made stack levels number before
-        turns : turn n token levels ≡ goes_on made.next
+        turns : turn_trees n token levels ≡ goes_on made.next
 
       reduced_by : (p t : ℕ) → IsRaw M.grammar (symbols_of stack) t (reduce p)
-          → action_of n (top_of levels) token.terminal ≡ table.reduce p → Reduced
+          → action_of n (top_state levels) token.terminal ≡ table.reduce p → Reduced
       reduced_by p t raw e = let c = complete_here p t raw in
           let made = makes mirrors p c.0 c.1 raw.0 c.2 in
           record {
@@ -284,36 +279,36 @@ module _ (s : Spec) (M : Lr0Automaton) (m n : Machine) (is : IsLr0Automaton M)
             turns = turns_by levels (table.reduce p) e ∙ made.turns;
           }
 
-      default_reduces : (p : ℕ) → IsDefaultOf m (top_of levels) (Some p)
-          → action_of n (top_of levels) token.terminal ≡ table.reduce p → Reduced
+      default_reduces : (p : ℕ) → IsDefaultOf m (top_state levels) (Some p)
+          → action_of n (top_state levels) token.terminal ≡ table.reduce p → Reduced
       default_reduces p most e =
-          let t = some_passes (λ t. is_by p (entry_at m (top_of levels) t))
+          let t = some_passes (λ t. is_by p (entry_at m (top_state levels) t))
           (Rattle.std.specs.List.range_with_len 0 m.terminals) most.some in
-          let taken = are.some (top_of levels) t.0 (table.reduce p) there
-          (is_that p (entry_at m (top_of levels) t.0) t.1) in
+          let taken = are.some (top_state levels) t.0 (table.reduce p) there
+          (is_that p (entry_at m (top_state levels) t.0) t.1) in
           reduced_by p t.0 (raw_too merges t.0 (reduce p) (by_action t.0 taken.0 taken.1 taken.2)) e
         where
-          by_action : (t : ℕ) (b : Action) → IsAction M.grammar (judge_of s) (prefix_of M (top_of levels)) t b
-              → IsEntryFor M (top_of levels) t b (table.reduce p)
-              → IsRaw M.grammar (prefix_of M (top_of levels)) t (reduce p)
+          by_action : (t : ℕ) (b : Action) → IsAction M.grammar (judge_of s) (prefix_of M (top_state levels)) t b
+              → IsEntryFor M (top_state levels) t b (table.reduce p)
+              → IsRaw M.grammar (prefix_of M (top_state levels)) t (reduce p)
           by_action t shift taken is' = absurd is'
           by_action t (reduce q) taken is'
-              = subst (λ k. IsRaw M.grammar (prefix_of M (top_of levels)) t (reduce k)) is' taken.0.0
+              = subst (λ k. IsRaw M.grammar (prefix_of M (top_state levels)) t (reduce k)) is' taken.0.0
           by_action t error taken is' = absurd is'
 
       -- where no token can be shifted, it is refused, or a reduction is made
       without_shift : (IsRaw M.grammar (symbols_of stack) token.terminal shift → ⊥)
-          → (turn n token levels ≡ settles refused) ⊎ Reduced
-      without_shift no_shift = by_entry (entry_at m (top_of levels) token.terminal) refl where
-        by_default : (d : Option ℕ) → slice_get n.defaults (top_of levels) ≡ Some d
-            → entry_at m (top_of levels) token.terminal ≡ None → (turn n token levels ≡ settles refused) ⊎ Reduced
+          → (turn_trees n token levels ≡ settles refused) ⊎ Reduced
+      without_shift no_shift = by_entry (entry_at m (top_state levels) token.terminal) refl where
+        by_default : (d : Option ℕ) → slice_get n.defaults (top_state levels) ≡ Some d
+            → entry_at m (top_state levels) token.terminal ≡ None → (turn_trees n token levels ≡ settles refused) ⊎ Reduced
         by_default None at e = inl (turns_by levels table.error (action_lost None at e))
-        by_default (Some p) at e = inr (default_reduces p (has.defaults (top_of levels) (Some p) at)
+        by_default (Some p) at e = inr (default_reduces p (has.defaults (top_state levels) (Some p) at)
             (action_lost (Some p) at e))
 
-        by_action : (a : TableAction) (b : Action) → entry_at m (top_of levels) token.terminal ≡ Some a
+        by_action : (a : TableAction) (b : Action) → entry_at m (top_state levels) token.terminal ≡ Some a
             → IsAction M.grammar (judge_of s) (symbols_of stack) token.terminal b
-            → IsEntryFor M (top_of levels) token.terminal b a → (turn n token levels ≡ settles refused) ⊎ Reduced
+            → IsEntryFor M (top_state levels) token.terminal b a → (turn_trees n token levels ≡ settles refused) ⊎ Reduced
         by_action a shift e taken is = absurd (no_shift taken.0)
         by_action a error e taken is = absurd (no_shift taken.0)
         by_action (table.shift k) (reduce p) e taken is = absurd is
@@ -322,10 +317,10 @@ module _ (s : Spec) (M : Lr0Automaton) (m n : Machine) (is : IsLr0Automaton M)
         by_action (table.reduce q) (reduce p) e taken is = inr (reduced_by p token.terminal taken.0.0
             (action_kept (table.reduce q) e ∙ ap table.reduce (sym is)))
 
-        by_entry : (o : Option TableAction) → entry_at m (top_of levels) token.terminal ≡ o
-            → (turn n token levels ≡ settles refused) ⊎ Reduced
+        by_entry : (o : Option TableAction) → entry_at m (top_state levels) token.terminal ≡ o
+            → (turn_trees n token levels ≡ settles refused) ⊎ Reduced
         by_entry None e = let d = default_there in by_default d.0 d.1 e
-        by_entry (Some a) e = let taken = are.some (top_of levels) token.terminal a there e in
+        by_entry (Some a) e = let taken = are.some (top_state levels) token.terminal a there e in
             by_action a taken.0 e (action_here taken.0 taken.1) taken.2
 
     -- A run by defaults: it began with a reduction that isn't asked for before the token.
@@ -350,14 +345,14 @@ module _ (s : Spec) (M : Lr0Automaton) (m n : Machine) (is : IsLr0Automaton M)
         x.leads raw)
 
     -- the symbols of a stack of which a reduction pops some
-    symbols_split : {stack : List Pushed} {levels : List Level} {mirrors : Mirrors M (shape_in s) stack levels}
+    symbols_split : {stack : List Pushed} {levels : List TreeLevel} {mirrors : Mirrors M stack levels}
         (r : Reduced mirrors) → symbols_of stack ≡ r.before ++ symbols_of r.made.below
     symbols_split r = ap symbols_of r.made.split
         ∙ (symbols_of-append r.made.popped r.made.below
         ∙ ap (λ w. w ++ symbols_of r.made.below) r.made.is_before)
 
     -- a reduction of the tables leads on
-    strays_on : {stack : List Pushed} {levels : List Level} (mirrors : Mirrors M (shape_in s) stack levels)
+    strays_on : {stack : List Pushed} {levels : List TreeLevel} (mirrors : Mirrors M stack levels)
         → Strays stack → (r : Reduced mirrors)
         → Strays (record {
           symbol = nonterminal r.made.rule.left;
@@ -379,8 +374,8 @@ module _ (s : Spec) (M : Lr0Automaton) (m n : Machine) (is : IsLr0Automaton M)
     }
 
     -- a token that strays is refused
-    refused_late : {levels : List Level} {out : Fed} → Feeds n token levels out → (stack : List Pushed)
-        → Mirrors M (shape_in s) stack levels → Strays stack → out ≡ refused
+    refused_late : {levels : List TreeLevel} {out : TreeFed} → FeedsTree n token levels out → (stack : List Pushed)
+        → Mirrors M stack levels → Strays stack → out ≡ refused
     refused_late {levels} (settled {out = out} e) stack mirrors x = elim (without_shift mirrors (no_shift x)) [
       | inl r ↦ let same : settles out ≡ settles refused = sym e ∙ r in cc
       | inr r ↦ absurd (let off : settles out ≡ goes_on r.made.next = sym e ∙ r.turns in cc)
@@ -391,10 +386,10 @@ module _ (s : Spec) (M : Lr0Automaton) (m n : Machine) (is : IsLr0Automaton M)
           | inr r ↦
               let one : goes_on r.made.next ≡ goes_on next = sym r.turns ∙ e in
               let same : r.made.next ≡ next = cc in
-              refused_late rest _ (subst (Mirrors M (shape_in s) _) same r.made.mirrors) (strays_on mirrors x r)
+              refused_late rest _ (subst (Mirrors M _) same r.made.mirrors) (strays_on mirrors x r)
         ]
 
-    strays_from : {stack : List Pushed} {levels : List Level} (mirrors : Mirrors M (shape_in s) stack levels)
+    strays_from : {stack : List Pushed} {levels : List TreeLevel} (mirrors : Mirrors M stack levels)
         → IsTerminalRefused M.grammar (symbols_of stack) token.terminal → (r : Reduced mirrors)
         → Strays (record {
           symbol = nonterminal r.made.rule.left;
@@ -408,7 +403,7 @@ module _ (s : Spec) (M : Lr0Automaton) (m n : Machine) (is : IsLr0Automaton M)
       lookahead = r.lookahead;
       rule = r.made.rule;
       is_rule = r.made.is_rule;
-      viable = is.cores.only (symbols_of stack) (top_of levels) (reached M (shape_in s) mirrors);
+      viable = is.cores.only (symbols_of stack) (top_state levels) (reached M mirrors);
       valid = r.valid;
       split = symbols_split r;
       leads = default.here;
@@ -416,8 +411,8 @@ module _ (s : Spec) (M : Lr0Automaton) (m n : Machine) (is : IsLr0Automaton M)
     }
 
     -- a token before which nothing is asked for is refused
-    refused_first : {levels : List Level} {out : Fed} → Feeds n token levels out → (stack : List Pushed)
-        → Mirrors M (shape_in s) stack levels → IsTerminalRefused M.grammar (symbols_of stack) token.terminal → out
+    refused_first : {levels : List TreeLevel} {out : TreeFed} → FeedsTree n token levels out → (stack : List Pushed)
+        → Mirrors M stack levels → IsTerminalRefused M.grammar (symbols_of stack) token.terminal → out
         ≡ refused
     refused_first (settled {out = out} e) stack mirrors nothing = elim (without_shift mirrors (nothing shift)) [
       | inl r ↦ let same : settles out ≡ settles refused = sym e ∙ r in cc
@@ -429,7 +424,7 @@ module _ (s : Spec) (M : Lr0Automaton) (m n : Machine) (is : IsLr0Automaton M)
           | inr r ↦
               let one : goes_on r.made.next ≡ goes_on next = sym r.turns ∙ e in
               let same : r.made.next ≡ next = cc in
-              refused_late rest _ (subst (Mirrors M (shape_in s) _) same r.made.mirrors) (strays_from mirrors nothing r)
+              refused_late rest _ (subst (Mirrors M _) same r.made.mirrors) (strays_from mirrors nothing r)
         ]
 
     module _ (behind : List (Token ℕ)) where
@@ -437,20 +432,20 @@ module _ (s : Spec) (M : Lr0Automaton) (m n : Machine) (is : IsLr0Automaton M)
       at stack = record { stack = stack; rest = token ∷ behind }
 
       -- what becomes of the token behind a move becomes of it
-      before_move : (stack next : List Pushed) (out : Fed) → Moves M.grammar (judge_of s)
+      before_move : (stack next : List Pushed) (out : TreeFed) → Moves M.grammar (judge_of s)
           (record { stack = stack; rest = token ∷ behind }) (record { stack = next; rest = token ∷ behind })
-          → Simulates M (shape_in s) (judge_of s) next token behind out
-          → Simulates M (shape_in s) (judge_of s) stack token behind out
+          → Simulates M (judge_of s) next token behind out
+          → Simulates M (judge_of s) stack token behind out
       before_move stack next (pushed levels) mv f = (f.0, machine.onward mv f.1, f.2)
-      before_move stack next (done term) mv f = (f.0, f.1, machine.onward mv f.2, f.3, f.4)
+      before_move stack next (done tree) mv f = (f.0, f.1, machine.onward mv f.2, f.3, f.4)
       before_move stack next refused mv f = (f.0, machine.onward mv f.1, f.2, f.3)
       before_move stack next faulty mv f = f
 
       -- one turn of the tables: the token is settled, a reduction is a move, or nothing is asked for
-      data Step {stack : List Pushed} {levels : List Level} (mirrors : Mirrors M (shape_in s) stack levels)
+      data Step {stack : List Pushed} {levels : List TreeLevel} (mirrors : Mirrors M stack levels)
           : Type 0 where
-        as_settled : (out : Fed) → turn n token levels ≡ settles out
-            → Simulates M (shape_in s) (judge_of s) stack token behind out → Step mirrors
+        as_settled : (out : TreeFed) → turn_trees n token levels ≡ settles out
+            → Simulates M (judge_of s) stack token behind out → Step mirrors
         as_moved : (r : Reduced mirrors) → Moves M.grammar (judge_of s)
             (record { stack = stack; rest = token ∷ behind })
             (record {
@@ -463,42 +458,42 @@ module _ (s : Spec) (M : Lr0Automaton) (m n : Machine) (is : IsLr0Automaton M)
         as_refused : IsTerminalRefused M.grammar (symbols_of stack) token.terminal → Step mirrors
 
       -- what is on top of a stack of one symbol
-      record Topped (stack : List Pushed) (levels : List Level) : Type 0 where
+      record Topped (stack : List Pushed) (levels : List TreeLevel) : Type 0 where
         x : Pushed
         below : List Pushed
-        l : Level
-        ls : List Level
+        l : TreeLevel
+        ls : List TreeLevel
         is_stack : stack ≡ x ∷ below
         is_levels : levels ≡ l ∷ ls
-        is_term : l.term ≡ build (shape_in s) x.tree
+        is_tree : l.tree ≡ x.tree
 
-      topped : {stack : List Pushed} {levels : List Level} (X : Symbol) → Mirrors M (shape_in s) stack levels
+      topped : {stack : List Pushed} {levels : List TreeLevel} (X : Symbol) → Mirrors M stack levels
           → symbols_of stack ≡ X ∷ [] → Topped stack levels
       topped X bottom e = absurd (let off : [] ≡ X ∷ [] → ⊥ = λ z. cc in off e)
       topped X (above {x = x} {state = state} {stack = stack} {levels = levels} mirrors e) same = record {
         x = x;
         below = stack;
-        l = record { state = state; term = build (shape_in s) x.tree };
+        l = record { state = state; tree = x.tree };
         ls = levels;
         is_stack = refl;
         is_levels = refl;
-        is_term = refl;
+        is_tree = refl;
       }
 
-      step : {stack : List Pushed} {levels : List Level} (mirrors : Mirrors M (shape_in s) stack levels) → Step mirrors
+      step : {stack : List Pushed} {levels : List TreeLevel} (mirrors : Mirrors M stack levels) → Step mirrors
       unfolding reduced_by
       step {stack = stack} {levels = levels} mirrors
-          = by_entry (entry_at m (top_of levels) token.terminal) refl
+          = by_entry (entry_at m (top_state levels) token.terminal) refl
         where
           accepting : token.terminal ≡ 0
               → IsAction M.grammar (judge_of s) (symbols_of stack) token.terminal shift
-              → action_of n (top_of levels) token.terminal ≡ table.accept → Step mirrors
+              → action_of n (top_state levels) token.terminal ≡ table.accept → Step mirrors
           accepting end taken e =
               let zero_done : IsAction M.grammar (judge_of s) (symbols_of stack) 0 shift
               = subst (λ t. IsAction M.grammar (judge_of s) (symbols_of stack) t shift) end taken in
               let top = topped (nonterminal M.grammar.start) mirrors (behind_start is.augmented zero_done.0) in
-              as_settled (done top.l.term)
-              (turns_by levels table.accept e ∙ ap Rattle.ly_parse.specs.Feeding.accept_with top.is_levels) (
+              as_settled (done top.l.tree)
+              (turns_by levels table.accept e ∙ ap Rattle.ly_parse.specs.Deriving.accept_tree top.is_levels) (
                 record { stack = stack; rest = token ∷ behind },
                 top.x.tree,
                 machine.here,
@@ -512,14 +507,14 @@ module _ (s : Spec) (M : Lr0Automaton) (m n : Machine) (is : IsLr0Automaton M)
                   below = top.below;
                   is_top = top.is_stack;
                 },
-                top.is_term,
+                top.is_tree,
               )
 
-          by_action : (a : TableAction) (b : Action) → entry_at m (top_of levels) token.terminal ≡ Some a
+          by_action : (a : TableAction) (b : Action) → entry_at m (top_state levels) token.terminal ≡ Some a
               → IsAction M.grammar (judge_of s) (symbols_of stack) token.terminal b
-              → IsEntryFor M (top_of levels) token.terminal b a → Step mirrors
+              → IsEntryFor M (top_state levels) token.terminal b a → Step mirrors
           by_action (table.shift k) shift e taken is' = as_settled
-              (pushed (record { state = k; term = build (shape_in s) (leaf token) } ∷ levels))
+              (pushed (record { state = k; tree = leaf token } ∷ levels))
               (turns_by levels (table.shift k) (action_kept mirrors (table.shift k) e)) (
                 record { symbol = terminal token.terminal; tree = leaf token } ∷ stack,
                 machine.onward (inl (record {
@@ -566,22 +561,22 @@ module _ (s : Spec) (M : Lr0Automaton) (m n : Machine) (is : IsLr0Automaton M)
                 refl,
               )
 
-          by_entry : (o : Option TableAction) → entry_at m (top_of levels) token.terminal ≡ o → Step mirrors
+          by_entry : (o : Option TableAction) → entry_at m (top_state levels) token.terminal ≡ o → Step mirrors
           by_entry None e = as_refused (refused_here mirrors
-              (are.none (top_of levels) token.terminal (there mirrors) within e))
-          by_entry (Some a) e = let taken = are.some (top_of levels) token.terminal a (there mirrors) e in
+              (are.none (top_state levels) token.terminal (there mirrors) within e))
+          by_entry (Some a) e = let taken = are.some (top_state levels) token.terminal a (there mirrors) e in
               by_action a taken.0 e (action_here mirrors taken.0 taken.1) taken.2
 
-      follow : {levels : List Level} {out : Fed} → Feeds n token levels out → (stack : List Pushed)
-          → Mirrors M (shape_in s) stack levels → Simulates M (shape_in s) (judge_of s) stack token behind out
+      follow : {levels : List TreeLevel} {out : TreeFed} → FeedsTree n token levels out → (stack : List Pushed)
+          → Mirrors M stack levels → Simulates M (judge_of s) stack token behind out
       follow (settled {out = out} e) stack mirrors = by_step (step mirrors) where
-        by_step : Step mirrors → Simulates M (shape_in s) (judge_of s) stack token behind out
+        by_step : Step mirrors → Simulates M (judge_of s) stack token behind out
         by_step (as_settled other e' f) =
             let one : settles other ≡ settles out = sym e' ∙ e in
             let same : other ≡ out = cc in
-            subst (Simulates M (shape_in s) (judge_of s) stack token behind) same f
+            subst (Simulates M (judge_of s) stack token behind) same f
         by_step (as_moved r mv) = absurd (let off : settles out ≡ goes_on r.made.next = sym e ∙ r.turns in cc)
-        by_step (as_refused nothing) = subst (Simulates M (shape_in s) (judge_of s) stack token behind)
+        by_step (as_refused nothing) = subst (Simulates M (judge_of s) stack token behind)
             (sym (refused_first (settled e) stack mirrors nothing)) (
               record { stack = stack; rest = token ∷ behind },
               machine.here,
@@ -591,15 +586,15 @@ module _ (s : Spec) (M : Lr0Automaton) (m n : Machine) (is : IsLr0Automaton M)
       follow {out = out} (onward {next = next} e rest) stack mirrors
           = by_step (step mirrors) (λ st ms. follow rest st ms)
         where
-          by_step : Step mirrors → ((st : List Pushed) → Mirrors M (shape_in s) st next
-              → Simulates M (shape_in s) (judge_of s) st token behind out)
-              → Simulates M (shape_in s) (judge_of s) stack token behind out
+          by_step : Step mirrors → ((st : List Pushed) → Mirrors M st next
+              → Simulates M (judge_of s) st token behind out)
+              → Simulates M (judge_of s) stack token behind out
           by_step (as_settled other e' f) later = absurd (let off : settles other ≡ goes_on next = sym e' ∙ e in cc)
           by_step (as_moved r mv) later =
               let one : goes_on r.made.next ≡ goes_on next = sym r.turns ∙ e in
               let same : r.made.next ≡ next = cc in
-              before_move stack _ out mv (later _ (subst (Mirrors M (shape_in s) _) same r.made.mirrors))
-          by_step (as_refused nothing) later = subst (Simulates M (shape_in s) (judge_of s) stack token behind)
+              before_move stack _ out mv (later _ (subst (Mirrors M _) same r.made.mirrors))
+          by_step (as_refused nothing) later = subst (Simulates M (judge_of s) stack token behind)
               (sym (refused_first (onward e rest) stack mirrors nothing)) (
                 record { stack = stack; rest = token ∷ behind },
                 machine.here,

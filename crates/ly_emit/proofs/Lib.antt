@@ -7,6 +7,7 @@ pub mod ListingLemmas
 pub mod OneLemmas
 pub mod RangeLemmas
 pub mod RowLemmas
+pub mod RuleShapeLemmas
 pub mod RunLemmas
 pub mod SetLemmas
 pub mod ShapeLemmas

@@ -1,8 +1,9 @@
 -- Laws of tables.
 use Rattle.std.specs.Prelude.{◌≡◌, ◌↔◌, ℕ, ◌<◌, ◌≤◌, List, [], ◌∷◌, ◌++◌, All, Contains, length}
 use Rattle.ly_base.specs.Lexed.{Token}
+use Rattle.ly_grammar.specs.Derivations.{IsTree}
 use Rattle.ly_grammar.specs.Reduction.{KeepsUseful}
-use Rattle.ly_join.specs.Grammar.{IsRule, GrammarRule}
+use Rattle.ly_join.specs.Grammar.{IsRule, GrammarRule, nonterminal}
 use Rattle.ly_join.specs.Joined.{Joined, Spec}
 use Rattle.ly_join.specs.Scanning.{Scanning}
 use Rattle.ly_loop.specs.Endless.{IsFirstEndless}
@@ -10,13 +11,12 @@ use Rattle.ly_lr0.specs.Automaton.{Lr0Automaton, IsLr0Automaton}
 use Rattle.ly_pack.specs.Machine.{Machine, IsMachine, AreEntriesWithin, entry_at, goto_at, states_of}
 use Rattle.ly_pack.specs.Steady.{IsSteady, rule_at}
 use Rattle.ly_pack.specs.SteadyLaws.{IsStack}
-use Rattle.ly_base.specs.Trees.{Tree}
+use Rattle.ly_base.specs.Trees.{Occurs, Tree}
 use Rattle.ly_parse.specs.Expected.{AreExpected}
-use Rattle.ly_parse.specs.Feeding.{Fed, Feeds, Level, done, refused, states_on}
-use Rattle.ly_parse.specs.Reading.{ReadsTokens}
+use Rattle.ly_parse.specs.Deriving.{Derives, FeedsTree, ReadsTrees, TreeFed, TreeLevel, refused, shape_of_rule}
+use Rattle.ly_parse.specs.Deriving.{states_below}
 use Rattle.ly_resolve.specs.Machine.{AcceptsWith, Ends, Next, Pushed, RefusesAfter}
 use Rattle.ly_resolve.specs.Precedence.{judge_of}
-use Rattle.ly_tree.specs.Term.{Term, build}
 use Rattle.ly_yaccread.specs.File.{Written}
 use Rattle.ly_yaccread.specs.YaccText.{YaccText}
 use Rattle.ly_emit.specs.Following.{Simulates, Mirrors}
@@ -26,27 +26,31 @@ use Rattle.ly_emit.specs.Tables.{AreShapesWithin, IsMachineOf, shape_in}
 -- leads to no token.
 abbrev pub TablesFollow : Type 0
 TablesFollow = (s : Spec) (M : Lr0Automaton) (n : Machine) → IsLr0Automaton M → KeepsUseful s.grammar M.grammar
-    → IsMachineOf s M n → (stack : List Pushed) (levels : List Level) (token : Token ℕ) (behind : List (Token ℕ))
-    (out : Fed) → token.terminal < M.grammar.terminals → Mirrors M (shape_in s) stack levels → Feeds n token levels out
-    → Simulates M (shape_in s) (judge_of s) stack token behind out
+    → IsMachineOf s M n → (stack : List Pushed) (levels : List TreeLevel) (token : Token ℕ) (behind : List (Token ℕ))
+    (out : TreeFed) → token.terminal < M.grammar.terminals → Mirrors M stack levels → FeedsTree n token levels out
+    → Simulates M (judge_of s) stack token behind out
 
 -- the terminal of each token is one of the grammar's
 abbrev pub AreOf : Lr0Automaton → List (Token ℕ) → Type 0
 AreOf M tokens = All (λ t. t.terminal < M.grammar.terminals) tokens
 
--- If tables read all tokens and then accept the end with a term, the reference machine accepts them with a tree from
--- which that term is built.
+-- If tables accept tokens with a derivation tree, the reference machine accepts them with the same tree.
 abbrev pub AcceptedFollow : Type 0
 AcceptedFollow = (s : Spec) (M : Lr0Automaton) (n : Machine) → IsLr0Automaton M → KeepsUseful s.grammar M.grammar
-    → IsMachineOf s M n → (tokens : List (Token ℕ)) (end : Token ℕ) (last : List Level) (term : Term)
-    → AreOf M (tokens ++ end ∷ []) → ReadsTokens n [] tokens last → Feeds n end last (done term)
-    → (d : Tree) × AcceptsWith M.grammar (judge_of s) (tokens ++ end ∷ []) d × (term ≡ build (shape_in s) d)
+    → IsMachineOf s M n → (tokens : List (Token ℕ)) (end : Token ℕ) (d : Tree) → AreOf M (tokens ++ end ∷ [])
+    → Derives n tokens end d → AcceptsWith M.grammar (judge_of s) (tokens ++ end ∷ []) d
+
+-- The rules in a derivation tree have the same shapes in the tables as in the specification.
+abbrev pub ShapesAreOfRules : Type 0
+ShapesAreOfRules = (s : Spec) (M : Lr0Automaton) (n : Machine) → IsLr0Automaton M → KeepsUseful s.grammar M.grammar
+    → IsMachineOf s M n → (d : Tree) → IsTree M.grammar (nonterminal M.grammar.start) d → (p : ℕ) → Occurs p d
+    → shape_of_rule n.rules p ≡ shape_in s p
 
 -- If tables read some tokens and reject the next, so does the reference machine, whatever follows it.
 abbrev pub RefusedFollow : Type 0
 RefusedFollow = (s : Spec) (M : Lr0Automaton) (n : Machine) → IsLr0Automaton M → KeepsUseful s.grammar M.grammar
-    → IsMachineOf s M n → (before behind : List (Token ℕ)) (t : Token ℕ) (last : List Level)
-    → AreOf M (before ++ t ∷ []) → ReadsTokens n [] before last → Feeds n t last refused
+    → IsMachineOf s M n → (before behind : List (Token ℕ)) (t : Token ℕ) (last : List TreeLevel)
+    → AreOf M (before ++ t ∷ []) → ReadsTrees n [] before last → FeedsTree n t last refused
     → RefusesAfter M.grammar (judge_of s) (before ++ t ∷ behind) before
 
 -- On steady tables each run of the reference machine on tokens followed by the end ends.
@@ -59,9 +63,8 @@ RunsEndOnSteady = (s : Spec) (M : Lr0Automaton) (n : Machine) → IsLr0Automaton
 -- read next.
 abbrev pub ExpectedFollow : Type 0
 ExpectedFollow = (s : Spec) (M : Lr0Automaton) (n : Machine) → IsLr0Automaton M → KeepsUseful s.grammar M.grammar
-    → IsMachineOf s M n → IsSteady n → (stack : List Pushed) (levels : List Level)
-    → Mirrors M (shape_in s) stack levels → IsStack n (states_on levels) → (ts : List ℕ)
-    → AreExpected n (states_on levels) ts → (t : ℕ) → Contains ts t ↔ Next M.grammar (judge_of s) stack t
+    → IsMachineOf s M n → IsSteady n → (stack : List Pushed) (levels : List TreeLevel) → Mirrors M stack levels
+    → IsStack n (states_below levels) → (ts : List ℕ) → AreExpected n (states_below levels) ts → (t : ℕ) → Contains ts t ↔ Next M.grammar (judge_of s) stack t
 
 -- The trees of a yacc file's rules use places of their bodies, each at most once.
 abbrev pub ShapesAreWithin : Type 0

@@ -1,8 +1,9 @@
 ghost use Rattle.ly_emit.specs.Laws.{AcceptedFollow, EndlessExcludesSteady, ExpectedFollow, RefusedFollow};
 ghost use Rattle.ly_emit.specs.Laws.{RunsEndOnSteady};
-ghost use Rattle.ly_emit.specs.Laws.{ShapesAreWithin, SteadyTogether, TablesAreOne, TablesFollow};
+ghost use Rattle.ly_emit.specs.Laws.{ShapesAreOfRules, ShapesAreWithin, SteadyTogether, TablesAreOne, TablesFollow};
 
-/// Theorem: the reference machine does to a token what tables with defaults do.
+/// Theorem: the reference machine does to a token what tables with defaults do, with the same derivation trees on its
+/// stack.
 pub fn tables_follow()
     ensures { TablesFollow }
 {}
@@ -18,6 +19,11 @@ pub fn runs_follow()
 /// Theorem: the terminals that steady tables with defaults expect are those that the reference machine would read next.
 pub fn expected_follow()
     ensures { ExpectedFollow }
+{}
+
+/// Theorem: the rules in a derivation tree have the same shapes in the tables as in the specification.
+pub fn shapes_are_of_rules()
+    ensures { ShapesAreOfRules }
 {}
 
 /// Theorem: the trees of a yacc file's rules use places of their bodies, each at most once.

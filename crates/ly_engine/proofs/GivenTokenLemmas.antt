@@ -22,13 +22,13 @@ use Rattle.ly_tables.specs.TableSet.{TableSet, machine_of}
 use Rattle.ly_tree.specs.Term.{Term}
 
 -- such tokens have terminals below the count
-below : (terminals : ℕ) (tokens : List (Token ℕ)) → HaveTerminals terminals tokens
+pub below : (terminals : ℕ) (tokens : List (Token ℕ)) → HaveTerminals terminals tokens
     → All (λ t. t.terminal < terminals) tokens
 below terminals tokens all = All-weaker (λ t. (1 ≤ t.terminal) × (t.terminal < terminals))
     (λ t. t.terminal < terminals) (λ t both. both.1) tokens all
 
 -- and none is the end
-no_end : (terminals : ℕ) (tokens : List (Token ℕ)) → HaveTerminals terminals tokens
+pub no_end : (terminals : ℕ) (tokens : List (Token ℕ)) → HaveTerminals terminals tokens
     → All (λ t. t.terminal ≢ 0) tokens
 no_end terminals tokens all = All-weaker (λ t. (1 ≤ t.terminal) × (t.terminal < terminals)) (λ t. t.terminal ≢ 0)
     (λ t both zero. let some = both.0 in omega (arith, some, zero)) tokens all

@@ -1,2 +1,3 @@
 pub mod AnswerFaultLemmas
 pub mod GivenTokenLemmas
+pub mod SpanLemmas

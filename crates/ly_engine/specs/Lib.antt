@@ -1,2 +1,3 @@
 pub mod AnswerFault
 pub mod GivenTokens
+pub mod Spans

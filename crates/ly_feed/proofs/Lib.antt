@@ -16,6 +16,7 @@ pub mod ReturnedLemmas
 pub mod RunLemmas
 pub mod SettledLemmas
 pub mod SomeVerdictLemmas
+pub mod SpanListLemmas
 pub mod StopLemmas
 pub mod TakingLemmas
 pub mod ToldLemmas

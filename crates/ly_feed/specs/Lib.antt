@@ -12,5 +12,6 @@ pub mod Private
 pub mod ScanPart
 pub mod TableAnswer
 pub mod TextFault
+pub mod TokenSpans
 pub mod Verdict
 pub mod Vocabularies

@@ -3,4 +3,5 @@ pub mod Labels
 pub mod Running
 pub mod ScannerOf
 pub mod Told
+pub mod TokenSpans
 pub mod Window

@@ -8,15 +8,13 @@ ghost use Rattle.ly_feed.specs.Verdict.{faulty};
 ghost use Rattle.ly_feed.specs.declared.outcome.Outcome.{Outcome as Answered};
 
 use crate::feed_fault::FeedFault;
-use crate::lexer_of_set::lexer_of;
 use crate::lines::{told, write_ended};
 use crate::need::Need;
 use crate::outcome::Outcome;
+use crate::prepared::Prepared;
 use crate::running::{Halt, TableParser, run_on, run_to_end};
 use crate::text_fault::TextFault;
-use crate::told::facts_of;
 use crate::window::Window;
-use ly_base::OutOfMemory;
 use ly_parse::Parser;
 use ly_print::{AnswerForm, MemSink, Sink};
 use ly_scan::{Lexer, Matcher, RowStart};
@@ -24,7 +22,7 @@ use ly_tables::TableSet;
 use std::alloc::Global;
 use std::marker::Model;
 
-/// A parser for a text that arrives in chunks, with a table set. Of the text it holds only the bytes of the match that
+/// A parser for a text that arrives in chunks, with a prepared table set. Of the text it holds only the bytes of the match that
 /// isn't decided yet; of the tree, what is on the parser's stack.
 ///
 /// The result doesn't depend on how the text is split into chunks.
@@ -36,10 +34,10 @@ pub struct Feed<'a> {
     set: &'a TableSet,
     /// The form of the result.
     form: AnswerForm,
-    /// The set's scanner.
-    lexer: Lexer,
-    /// The facts of its states: what they determine about the lexemes whose scan ends there.
-    facts: Vec<u32>,
+    /// The set's lexer.
+    lexer: &'a Lexer,
+    /// The facts of its states.
+    facts: &'a [u32],
     /// The set's parser, with what it has read.
     parser: TableParser<'a>,
     /// The bytes of the match that isn't decided, and its position.
@@ -66,25 +64,26 @@ impl<'a> Model for Feed<'a> {
 }
 
 impl<'a> Feed<'a> {
-    /// A feed without any text, whose result is written in this form. It fails if an allocation fails.
-    pub fn new(alloc: Global, set: &'a TableSet, form: AnswerForm) -> Result<Feed<'a>, OutOfMemory>
-        ensures { IfOk result (λ f. f ≡ nothing_read form set.now) }
+    /// A feed without any text, whose result is written in this form.
+    pub fn new(prepared: &'a Prepared<'a>, form: AnswerForm) -> Feed<'a>
+        ensures { result ≡ nothing_read form prepared.now }
     {
-        let lexer = lexer_of(alloc, set)?;
-        let facts = facts_of(alloc, set, &lexer)?;
+        let alloc = prepared.alloc;
+        let set = prepared.set;
+        let lexer = &prepared.lexer;
         let window = Window::new(alloc);
         let matcher = lexer.matcher_at(&window.place());
-        Ok(Feed {
+        Feed {
             alloc,
             set,
             form,
             lexer,
-            facts,
+            facts: &prepared.facts,
             parser: Parser::new(alloc, set.machine()),
             window,
             matcher,
             over: false,
-        })
+        }
     }
 
     /// The number of bytes held: after `Need::More` those from the start of the match that isn't decided, and 0 once
@@ -115,8 +114,8 @@ impl<'a> Feed<'a> {
         let place = match run_on(
             self.alloc,
             self.set,
-            &self.lexer,
-            Some(&self.facts),
+            self.lexer,
+            Some(self.facts),
             &mut self.parser,
             start,
             false,
@@ -169,7 +168,14 @@ impl<'a> Feed<'a> {
     {
         self.over = true;
         let place = self.window.place();
-        let ended = run_to_end(self.alloc, self.set, &self.lexer, &mut self.parser, place)?;
+        let ended = run_to_end(
+            self.alloc,
+            self.set,
+            self.lexer,
+            Some(self.facts),
+            &mut self.parser,
+            place,
+        )?;
         write_ended(
             self.alloc,
             self.set,

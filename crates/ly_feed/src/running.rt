@@ -153,25 +153,27 @@ pub enum Ended<'t> {
     Refused(SyntaxError<'t>),
 }
 
-/// Runs scanner and parser from a place to the end of the text, which follows the remaining bytes. The result is the
-/// verdict of the parser's tables on the text.
+/// Runs scanner and parser from a place to the end of the text, which follows the remaining bytes, by facts of states if
+/// there are any. The result is the verdict of the parser's tables on the text.
 ///
 /// The errors are `FaultyTables` and `OutOfMemory`.
-pub fn run_to_end<'t>(
+pub(crate) fn run_to_end<'t>(
     alloc: Global,
     set: &TableSet,
     lexer: &Lexer,
+    facts: Option<&[u32]>,
     parser: &mut TableParser<'_>,
     place: Place<'t>,
 ) -> Result<Ended<'t>, TextFault>
     requires lexer { IsLexerOf (scan_part_of set.now) lexer.now }
+    requires facts { IfSome facts (λ f. AreFactsOf (scan_part_of set.now) lexer.now.scanner f.now) }
     requires runs { CanRun (scan_part_of set.now) parser.old.machine }
     requires goes_on { parser.old.over ≡ false }
     ensures closed { IsClosed (scan_part_of set.now) parser.old.machine (progress_of place.entry parser.old)
         parser.new.forest result }
     ensures machine { parser.new.machine ≡ parser.old.machine }
 {
-    match run_on(alloc, set, lexer, None, parser, place, true)? {
+    match run_on(alloc, set, lexer, facts, parser, place, true)? {
         Halt::At(place) => close(parser, &place),
         Halt::Stopped(syntax_error) => Ok(Ended::Refused(syntax_error)),
     }

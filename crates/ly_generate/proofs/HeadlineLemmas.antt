@@ -5,7 +5,7 @@ use Rattle.std.specs.List.{AllZip}
 use Rattle.std.proofs.lemmas.List.{length-map}
 use Rattle.std.proofs.lemmas.List.Elements.{All-cons, All-head, All-tail}
 use Rattle.ly_base.specs.Lexed.{Token, start_of, tokens_from}
-use Rattle.ly_base.specs.Trees.{Tree}
+use Rattle.ly_base.specs.Trees.{Occurs, Tree}
 use Rattle.ly_base.specs.declared.lexeme.End.{End}
 use Rattle.ly_base.specs.declared.lexeme.End.TheVariants.{BadCut, Clean, Stuck}
 use Rattle.ly_base.specs.declared.version.Version.{Version}
@@ -17,6 +17,7 @@ use Rattle.ly_emit.specs.Laws.{AreOf}
 use Rattle.ly_emit.specs.Tables.{IsMachineOf, shape_in}
 use Rattle.ly_emit.proofs.ExpectedLemmas.{expected_follow}
 use Rattle.ly_emit.proofs.FollowLemmas.{tables_follow}
+use Rattle.ly_emit.proofs.RuleShapeLemmas.{build_alike, shapes_are_of_rules}
 use Rattle.ly_emit.proofs.RunLemmas.{accepted_follow, reads_follow, refused_follow}
 use Rattle.ly_tokens.specs.RowWalk.{cut_in, row_walk}
 use Rattle.ly_tokens.specs.Printing.{condition_set, naming}
@@ -36,12 +37,16 @@ use Rattle.ly_lr0.specs.Automaton.{Lr0Automaton}
 use Rattle.ly_pack.specs.Machine.{Machine}
 use Rattle.ly_pack.specs.SteadyLaws.{IsStack, bottom as alone}
 use Rattle.ly_parse.specs.Expected.{AreExpected}
+use Rattle.ly_parse.proofs.TreeFeeding.{accepted_terms_are_built, one_fault, one_refused, read_with_trees, same_states}
+use Rattle.ly_parse.specs.Deriving.{Derives, shape_of_rule, states_below}
+use Rattle.ly_parse.specs.Deriving as trees
 use Rattle.ly_parse.specs.Feeding.{Feeds, Level, states_on}
 use Rattle.ly_parse.specs.Feeding as fed
 use Rattle.ly_parse.specs.Reading.{ReadsTokens, at_end, onward}
 use Rattle.ly_parse.proofs.SettlingLemmas.{stack_kept}
 use Rattle.ly_resolve.specs.Machine.{AcceptsWith, Leads, RefusesAfter, begin}
 use Rattle.ly_resolve.specs.Precedence.{judge_of}
+use Rattle.ly_resolve.proofs.AcceptedLemmas.{accepts_trees}
 use Rattle.ly_scan.specs.Lexer.{Scanner}
 use Rattle.ly_tables.specs.TableSet.{TableSet, machine_of}
 use Rattle.ly_tree.specs.Term.{Term, build}
@@ -97,7 +102,7 @@ module _ (version : Version) (file : LexFile) (w : Written) (s : Spec) (set : Ta
   all_classes : length set.classes ≡ 256
   all_classes = g.within.all_classes
 
-  tokens_of : (tokens : List (Token ℕ)) (e : End) → AreTokens (scan_part_of set) (start_of text) tokens e
+  pub tokens_of : (tokens : List (Token ℕ)) (e : End) → AreTokens (scan_part_of set) (start_of text) tokens e
       → AreTokensOf file s text tokens e
   unfolding scanner
   tokens_of tokens e a = record {
@@ -126,7 +131,7 @@ module _ (version : Version) (file : LexFile) (w : Written) (s : Spec) (set : Ta
   two : 2 ≤ length s.terminals
   two = omega (arith, g.within.terminals, ap length g.is_set.terminals ∙ length-map s.terminals _)
 
-  all_of : (tokens : List (Token ℕ)) (e : End) → AreTokens (scan_part_of set) (start_of text) tokens e
+  pub all_of : (tokens : List (Token ℕ)) (e : End) → AreTokens (scan_part_of set) (start_of text) tokens e
       → AreOf g.automaton tokens
   unfolding tokens_of
   all_of tokens e a = subst (λ n. All (λ t. t.terminal < n) tokens) terminals_are
@@ -163,8 +168,11 @@ module _ (version : Version) (file : LexFile) (w : Written) (s : Spec) (set : Ta
       → ReadsTokens (machine_of set) [] before last → AreExpected (machine_of set) (states_on last) ts
       → AreNext g.automaton.grammar (judge_of s) before ts
   next_of before last ts all reads expected =
-      let run = reads_follow s g.automaton (machine_of set) g.is_automaton g.useful g.is_set.machine reads [] [] all
+      let it = read_with_trees [] refl reads in
+      let run = reads_follow s g.automaton (machine_of set) g.is_automaton g.useful g.is_set.machine it.reads [] [] all
       bottom in
+      let states : states_on last ≡ states_below it.on
+      = ap states_on it.same ∙ same_states (shape_of_rule (machine_of set).rules) it.on in
       let edges : IsStack (machine_of set) (states_on last) = reads_keep (machine_of set) reads alone in
       record {
         stack = run.0;
@@ -172,16 +180,35 @@ module _ (version : Version) (file : LexFile) (w : Written) (s : Spec) (set : Ta
             (append-nil before) run.1;
         ordered = expected.ordered;
         are = expected_follow s g.automaton (machine_of set) g.is_automaton g.useful g.is_set.machine g.steady run.0
-            last run.2 edges ts expected;
+            it.on run.2 (subst (IsStack (machine_of set)) states edges) ts
+            (subst (λ stack. AreExpected (machine_of set) stack ts) states expected);
       }
+
+  -- tokens that the tables accept with a derivation tree, the reference machine accepts with the same tree
+  pub derives_too : (tokens : List (Token ℕ)) (d : Tree) → AreOf g.automaton tokens
+      → Derives (machine_of set) tokens (end_of text) d
+      → AcceptsWith g.automaton.grammar (judge_of s) (tokens ++ end_of text ∷ []) d
+  derives_too tokens d all run = accepted_follow s g.automaton (machine_of set) g.is_automaton g.useful
+      g.is_set.machine tokens (end_of text) d (with_end tokens all) run
+
+  -- whose rules have the shapes of the specification's
+  pub same_shapes : (tokens : List (Token ℕ)) (d : Tree)
+      → AcceptsWith g.automaton.grammar (judge_of s) (tokens ++ end_of text ∷ []) d → (p : ℕ) → Occurs p d
+      → shape_of_rule (machine_of set).rules p ≡ shape_in s p
+  same_shapes tokens d run = shapes_are_of_rules s g.automaton (machine_of set) g.is_automaton g.useful
+      g.is_set.machine d (accepts_trees g.automaton.grammar (judge_of s) g.is_automaton.augmented
+      (tokens ++ end_of text ∷ []) d run).0
 
   -- tokens that the tables read, and accept with the end behind them, the reference machine accepts
   pub accepts_too : (tokens : List (Token ℕ)) (last : List Level) (d : Term) → AreOf g.automaton tokens
       → ReadsTokens (machine_of set) [] tokens last → Feeds (machine_of set) (end_of text) last (fed.done d)
       → (tree : Tree) × AcceptsWith g.automaton.grammar (judge_of s) (tokens ++ end_of text ∷ []) tree
       × (d ≡ build (shape_in s) tree)
-  accepts_too tokens last d all reads feeds = accepted_follow s g.automaton (machine_of set) g.is_automaton g.useful
-      g.is_set.machine tokens (end_of text) last d (with_end tokens all) reads feeds
+  accepts_too tokens last d all reads feeds =
+      let built = accepted_terms_are_built (machine_of set) tokens (end_of text) last d reads feeds in
+      let run = derives_too tokens built.0 all built.1 in
+      (built.0, run, built.2 ∙ build_alike (shape_of_rule (machine_of set).rules) (shape_in s) built.0
+      (same_shapes tokens built.0 run))
 
   -- what they refuse behind others it refuses there, and would read next what they expect
   pub refuses_too : (before behind : List (Token ℕ)) (t : Token ℕ) (last : List Level) (ts : List ℕ)
@@ -189,9 +216,9 @@ module _ (version : Version) (file : LexFile) (w : Written) (s : Spec) (set : Ta
       → Feeds (machine_of set) t last fed.refused → AreExpected (machine_of set) (states_on last) ts
       → RefusesAfter g.automaton.grammar (judge_of s) (before ++ t ∷ behind) before
       × AreNext g.automaton.grammar (judge_of s) before ts
-  refuses_too before behind t last ts all reads feeds expected = (
-    refused_follow s g.automaton (machine_of set) g.is_automaton g.useful g.is_set.machine before behind t last
-        (up_to g.automaton before behind t all) reads feeds,
+  refuses_too before behind t last ts all reads feeds expected = let it = read_with_trees [] refl reads in (
+    refused_follow s g.automaton (machine_of set) g.is_automaton g.useful g.is_set.machine before behind t it.on
+        (up_to g.automaton before behind t all) it.reads (one_refused (machine_of set) t it.on last it.same feeds),
     next_of before last ts (before_it g.automaton before behind t all) reads expected,
   )
 
@@ -200,10 +227,12 @@ module _ (version : Version) (file : LexFile) (w : Written) (s : Spec) (set : Ta
       → AreOf g.automaton (before ++ t ∷ behind) → ReadsTokens (machine_of set) [] before last
       → Feeds (machine_of set) t last fed.faulty → ⊥
   never_at_fault before behind t last all reads feeds =
-      let run = reads_follow s g.automaton (machine_of set) g.is_automaton g.useful g.is_set.machine reads []
+      let it = read_with_trees [] refl reads in
+      let run = reads_follow s g.automaton (machine_of set) g.is_automaton g.useful g.is_set.machine it.reads []
       (t ∷ behind) (before_it g.automaton before behind t all) bottom in
-      tables_follow s g.automaton (machine_of set) g.is_automaton g.useful g.is_set.machine run.0 last t behind
-      fed.faulty (it_self g.automaton before behind t all) run.2 feeds
+      tables_follow s g.automaton (machine_of set) g.is_automaton g.useful g.is_set.machine run.0 it.on t behind
+      trees.faulty (it_self g.automaton before behind t all) run.2
+      (one_fault (machine_of set) t it.on last it.same feeds)
 
   -- the verdict is the specification's
   pub verdict_follows : (v : Verdict) → IsVerdict set text v → IsSpecVerdict file s g.automaton.grammar text v
@@ -219,7 +248,8 @@ module _ (version : Version) (file : LexFile) (w : Written) (s : Spec) (set : Ta
       )
   verdict_follows (unmatched byte) r =
       let all : AreOf g.automaton r.tokens = all_of r.tokens (Stuck byte) r.are_tokens in
-      let run = reads_follow s g.automaton (machine_of set) g.is_automaton g.useful g.is_set.machine r.reads [] [] all
+      let it = read_with_trees [] refl r.reads in
+      let run = reads_follow s g.automaton (machine_of set) g.is_automaton g.useful g.is_set.machine it.reads [] [] all
       bottom in (
         r.tokens,
         Stuck byte,

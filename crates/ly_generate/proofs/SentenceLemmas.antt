@@ -47,7 +47,7 @@ not_end terminals (literal b) t first (inl is) zero =
 not_end terminals (literal b) t first (inr other) zero = let one = other.1 in omega (arith, one, zero)
 
 -- so no numbered token is the end
-none_end : (terminals : List TerminalName) (ts : List (Token Terminal)) (us : List (Token ℕ))
+pub none_end : (terminals : List TerminalName) (ts : List (Token Terminal)) (us : List (Token ℕ))
     → slice_get terminals 0 ≡ Some end → AllZip (IsNumberedToken terminals) ts us → All (λ u. u.terminal ≢ 0) us
 none_end terminals [] [] first zip = λ k d lt. absurd (omega (arith, lt))
 none_end terminals [] (u ∷ us) first zip = absurd zip
@@ -56,7 +56,7 @@ none_end terminals (t ∷ ts) (u ∷ us) first zip = All-cons (λ x. x.terminal 
     (not_end terminals t.terminal u.terminal first zip.0.terminal) (none_end terminals ts us first zip.1)
 
 -- terminal 0 is the end's
-first_is_end : (x : Scanning) (w : Written) (s : Spec) → Joined x w s → slice_get s.terminals 0 ≡ Some end
+pub first_is_end : (x : Scanning) (w : Written) (s : Spec) → Joined x w s → slice_get s.terminals 0 ≡ Some end
 first_is_end x w s j = ap (λ ts. slice_get ts 0) j.terminals
 
 same_front : (a b : List (Token ℕ)) (x y : Token ℕ) → a ++ x ∷ [] ≡ b ++ y ∷ [] → a ≡ b
@@ -85,7 +85,7 @@ derived G judge augmented text tokens ends d run =
 module _ (G : Grammar) (judge : Judge) (augmented : IsAugmented G) (reduced : IsReduced G)
     (free : IsConflictFree G) (text : List ℕ) (tokens : List (Token ℕ)) (ends : All (λ t. t.terminal ≢ 0) tokens) where
   -- what is accepted is the only derivation
-  only : (d : Tree) → AcceptsWith G judge (tokens ++ end_of text ∷ []) d → IsOnlyDerivation G tokens d
+  pub only : (d : Tree) → AcceptsWith G judge (tokens ++ end_of text ∷ []) d → IsOnlyDerivation G tokens d
   only d run =
       let is = derived G judge augmented text tokens ends d run in
       record {

@@ -16,3 +16,5 @@ pub mod ShortcutLemmas
 pub mod StackLemmas
 pub mod TakeLemmas
 pub mod TermLemmas
+pub mod TreeFeeding
+pub mod TreeSettlingLemmas

@@ -1,3 +1,4 @@
+pub mod Deriving
 pub mod Expected
 pub mod FaultNames
 pub mod Feeding

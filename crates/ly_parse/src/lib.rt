@@ -46,7 +46,7 @@ mod token;
 mod token_outcome;
 
 pub use fault::ParseFault;
-pub use laws::a_token_is_fed_in_one_way;
+pub use laws::{a_token_is_fed_in_one_way, terms_are_of_trees};
 pub use parser::Parser;
 pub use refusal::Refusal;
 pub use step::Step;

@@ -31,12 +31,13 @@ use Rattle.ly_parse.specs.Parse.{Parse}
 use Rattle.ly_parse.specs.Reading.{ReadsTokens, at_end, onward}
 use Rattle.ly_spans.specs.Spans.{span_of}
 use Rattle.ly_places.proofs.KeepingLemmas.{fed_alike, machine_stays, same_expected, steady_still}
-use Rattle.ly_places.proofs.TreeFeeding.{TreeFed, TreeLevel, done_with_terms, done_with_trees, fed_by, levels_by}
-use Rattle.ly_places.proofs.TreeFeeding.{same_states}
-use Rattle.ly_places.proofs.TreeFeeding as trees
+use Rattle.ly_parse.proofs.TreeFeeding.{done_with_terms, done_with_trees, same_states}
+use Rattle.ly_parse.specs.Deriving.{FeedsTree, ReadsTrees, TreeFed, TreeLevel, fed_by, levels_by}
+use Rattle.ly_parse.specs.Deriving as trees
 use Rattle.ly_places.proofs.TreeYields.{AllFitOn, IsGrown, IsOnTop, grown, yields_on}
 use Rattle.ly_places.specs.Private.Derived.{AreExtents, IsDerivationOf, IsDerived, IsDerivedBy}
-use Rattle.ly_places.specs.Shapes.{keeping_machine, keeping_rule, shape_of_rule}
+use Rattle.ly_parse.specs.Deriving.{shape_of_rule}
+use Rattle.ly_places.specs.Shapes.{keeping_machine, keeping_rule}
 use Rattle.ly_places.specs.declared.derivation.Derivation.{Derivation}
 use Rattle.ly_places.specs.declared.derivation.Derived.{Derived}
 use Rattle.ly_tables.specs.Ranges.{IsRuleShort}
@@ -56,6 +57,7 @@ module _ (m : Machine) (is_machine : IsMachine m) where
   record IsFed (token : Token ℕ) (stack : List TreeLevel) (out : Fed) : Type 0 where
     fed : TreeFed
     same : out ≡ fed_by kept fed
+    itself : FeedsTree m token stack fed
     feeds : Feeds m token (levels_by own stack) (fed_by own fed)
     grown : IsGrown m.rules token stack fed
 
@@ -63,12 +65,13 @@ module _ (m : Machine) (is_machine : IsMachine m) where
       → levels ≡ levels_by kept stack → AllFitOn m.rules stack → Feeds (keeping_machine m) token levels out
       → IsFed token stack out
   fed_with_trees {token} stack same fit f =
-      let it = done_with_trees (keeping_machine m) token (machine_stays m is_machine) stack same f in
+      let it = done_with_trees (keeping_machine m) token stack same f in
       let on = fed_alike m token it.feeds in
       record {
         fed = it.fed;
         same = it.same;
-        feeds = done_with_terms m token is_machine on;
+        itself = on;
+        feeds = done_with_terms m token on;
         grown = grown m token is_machine on fit;
       }
 
@@ -76,6 +79,7 @@ module _ (m : Machine) (is_machine : IsMachine m) where
   pub record AreRead (stack : List TreeLevel) (tokens : List (Token ℕ)) (last : List Level) : Type 0 where
     pub on : List TreeLevel
     pub same : last ≡ levels_by kept on
+    pub itself : ReadsTrees m stack tokens on
     pub reads : ReadsTokens m (levels_by own stack) tokens (levels_by own on)
     pub yields : yields_on on ≡ yields_on stack ++ tokens
     pub fit : AllFitOn m.rules on
@@ -84,6 +88,7 @@ module _ (m : Machine) (is_machine : IsMachine m) where
   record IsRead (token : Token ℕ) (stack : List TreeLevel) (next : List Level) : Type 0 where
     on : List TreeLevel
     same : next ≡ levels_by kept on
+    itself : FeedsTree m token stack (trees.pushed on)
     feeds : Feeds m token (levels_by own stack) (terms.pushed (levels_by own on))
     yields : yields_on on ≡ yields_on stack ++ token ∷ []
     fit : AllFitOn m.rules on
@@ -91,27 +96,35 @@ module _ (m : Machine) (is_machine : IsMachine m) where
   one_read : {token : Token ℕ} {levels next : List Level} (stack : List TreeLevel) → levels ≡ levels_by kept stack
       → AllFitOn m.rules stack → Feeds (keeping_machine m) token levels (terms.pushed next) → IsRead token stack next
   one_read {token} {next = next} stack same fit f =
-      let it = fed_with_trees stack same fit f in by_fed it.fed it.same it.feeds it.grown
+      let it = fed_with_trees stack same fit f in by_fed it.fed it.same it.itself it.feeds it.grown
     where
-      by_fed : (x : TreeFed) → terms.pushed next ≡ fed_by kept x → Feeds m token (levels_by own stack) (fed_by own x)
-          → IsGrown m.rules token stack x → IsRead token stack next
-      by_fed (trees.pushed on) is feeds grown
-          = record { on = on; same = cc; feeds = feeds; yields = grown.0; fit = grown.1 }
-      by_fed (trees.done d) is feeds grown = absurd cc
-      by_fed trees.refused is feeds grown = absurd cc
-      by_fed trees.faulty is feeds grown = absurd cc
+      by_fed : (x : TreeFed) → terms.pushed next ≡ fed_by kept x → FeedsTree m token stack x
+          → Feeds m token (levels_by own stack) (fed_by own x) → IsGrown m.rules token stack x
+          → IsRead token stack next
+      by_fed (trees.pushed on) is itself feeds grown
+          = record { on = on; same = cc; itself = itself; feeds = feeds; yields = grown.0; fit = grown.1 }
+      by_fed (trees.done d) is itself feeds grown = absurd cc
+      by_fed trees.refused is itself feeds grown = absurd cc
+      by_fed trees.faulty is itself feeds grown = absurd cc
 
   pub all_read : {levels last : List Level} {tokens : List (Token ℕ)} (stack : List TreeLevel)
       → levels ≡ levels_by kept stack → AllFitOn m.rules stack → ReadsTokens (keeping_machine m) levels tokens last
       → AreRead stack tokens last
-  all_read stack same fit at_end
-      = record { on = stack; same = same; reads = at_end; yields = sym (append-nil (yields_on stack)); fit = fit }
+  all_read stack same fit at_end = record {
+    on = stack;
+    same = same;
+    itself = trees.at_end;
+    reads = at_end;
+    yields = sym (append-nil (yields_on stack));
+    fit = fit;
+  }
   all_read stack same fit (onward {token = token} {tokens = tokens} first others) =
       let one = one_read stack same fit first in
       let rest = all_read one.on one.same one.fit others in
       record {
         on = rest.on;
         same = rest.same;
+        itself = trees.and_one one.itself rest.itself;
         reads = onward one.feeds rest.reads;
         yields = rest.yields ∙ (ap (λ ts. ts ++ tokens) one.yields
             ∙ append_assoc (yields_on stack) (token ∷ []) tokens);
@@ -122,6 +135,7 @@ module _ (m : Machine) (is_machine : IsMachine m) where
   pub record IsAccepted (token : Token ℕ) (stack : List TreeLevel) (t : Term) : Type 0 where
     pub tree : Tree
     pub same : t ≡ build kept tree
+    pub itself : FeedsTree m token stack (trees.done tree)
     pub feeds : Feeds m token (levels_by own stack) (terms.done (build own tree))
     pub on_top : IsOnTop m.rules stack tree
 
@@ -129,14 +143,16 @@ module _ (m : Machine) (is_machine : IsMachine m) where
       → levels ≡ levels_by kept stack → AllFitOn m.rules stack → Feeds (keeping_machine m) token levels (terms.done t)
       → IsAccepted token stack t
   one_accepted {token} {t = t} stack same fit f =
-      let it = fed_with_trees stack same fit f in by_fed it.fed it.same it.feeds it.grown
+      let it = fed_with_trees stack same fit f in by_fed it.fed it.same it.itself it.feeds it.grown
     where
-      by_fed : (x : TreeFed) → terms.done t ≡ fed_by kept x → Feeds m token (levels_by own stack) (fed_by own x)
-          → IsGrown m.rules token stack x → IsAccepted token stack t
-      by_fed (trees.done d) is feeds grown = record { tree = d; same = cc; feeds = feeds; on_top = grown }
-      by_fed (trees.pushed on) is feeds grown = absurd cc
-      by_fed trees.refused is feeds grown = absurd cc
-      by_fed trees.faulty is feeds grown = absurd cc
+      by_fed : (x : TreeFed) → terms.done t ≡ fed_by kept x → FeedsTree m token stack x
+          → Feeds m token (levels_by own stack) (fed_by own x) → IsGrown m.rules token stack x
+          → IsAccepted token stack t
+      by_fed (trees.done d) is itself feeds grown
+          = record { tree = d; same = cc; itself = itself; feeds = feeds; on_top = grown }
+      by_fed (trees.pushed on) is itself feeds grown = absurd cc
+      by_fed trees.refused is itself feeds grown = absurd cc
+      by_fed trees.faulty is itself feeds grown = absurd cc
 
   pub one_refused : {token : Token ℕ} {levels : List Level} (stack : List TreeLevel) → levels ≡ levels_by kept stack
       → AllFitOn m.rules stack → Feeds (keeping_machine m) token levels terms.refused
@@ -208,6 +224,7 @@ module _ (s : TableSet) (text : List ℕ) (is_machine : IsMachine (machine_of s)
         tree = top.tree;
         derived = record {
           are_tokens = r.are_tokens;
+          derives = record { last = it.on; reads = it.itself; accepts = top.itself };
           before = top.on_top.before;
           yields = sym it.yields ∙ top.on_top.yields;
           fits = top.on_top.fits;

@@ -16,8 +16,8 @@ use Rattle.ly_pack.specs.Steady.{rule_at, run_bound}
 use Rattle.ly_pack.specs.Steady as steady
 use Rattle.ly_parse.specs.Expected.{AreExpected, IsExpected}
 use Rattle.ly_parse.specs.Expected as expected
-use Rattle.ly_places.proofs.TreeFeeding.{FeedsTree, TreeFed, TreeLevel, onward, perform_trees, reduce_trees, settled}
-use Rattle.ly_places.proofs.TreeFeeding.{top_state, turn_trees}
+use Rattle.ly_parse.specs.Deriving.{FeedsTree, TreeFed, TreeLevel, onward, perform_trees, reduce_trees, settled}
+use Rattle.ly_parse.specs.Deriving.{top_state, turn_trees}
 use Rattle.ly_places.specs.Shapes.{keeping, keeping_machine, keeping_rule, places_behind}
 
 -- the places of a body that is longer by one

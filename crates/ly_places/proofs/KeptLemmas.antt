@@ -21,7 +21,8 @@ use Rattle.ly_places.specs.Private.Kept.{all_joined, first_extent, placed_term, 
 use Rattle.ly_places.specs.Private.Kept.{IsWhole}
 use Rattle.ly_places.specs.Private.Measured.{measure_of, measures_of, tokens_among}
 use Rattle.ly_places.specs.Private.Waiting.{last_end}
-use Rattle.ly_places.specs.Shapes.{count_of, keeping, keeping_rule, places_behind, shape_of_rule, AllFit, Fits}
+use Rattle.ly_parse.specs.Deriving.{shape_of_rule}
+use Rattle.ly_places.specs.Shapes.{count_of, keeping, keeping_rule, places_behind, AllFit, Fits}
 use Rattle.ly_places.specs.Shapes.{FitsRule}
 use Rattle.ly_spans.specs.declared.span.Span.{Span}
 use Rattle.ly_tree.proofs.StandLemmas.{stands_known, stands_unwrapped}

@@ -1,6 +1,5 @@
 pub mod BodyLemmas
 pub mod DerivationLemmas
-pub mod ExtentLemmas
 pub mod KeepingLemmas
 pub mod KeptLemmas
 pub mod LengthLemmas
@@ -11,11 +10,11 @@ pub mod NotationLemmas
 pub mod PlaceLemmas
 pub mod PlacedLineLemmas
 pub mod PlacedReadingLemmas
+pub mod PlacedTreeLemmas
 pub mod PlacingLemmas
 pub mod PrintingLemmas
 pub mod SizeLemmas
 pub mod SpanLemmas
 pub mod TokenLemmas
-pub mod TreeFeeding
 pub mod TreeYields
 pub mod WithinLemmas

@@ -1,5 +1,5 @@
 -- Measures of terms, and the shapes of rules.
-use Rattle.std.proofs.Common.{◌≡◌, ◌∙◌, ℕ, zero, suc, ◌+◌, ◌<◌, ◌≤◌, List, [], ◌∷◌, ◌++◌, Some, ap, arith}
+use Rattle.std.proofs.Common.{◌≡◌, ◌∙◌, ℕ, zero, suc, ◌+◌, ◌-◌, ◌<◌, ◌≤◌, List, [], ◌∷◌, ◌++◌, Some, ap, arith}
 use Rattle.std.proofs.Common.{drop, get_or, length, map, option_map, refl, slice_get, subst, sym, take, unwrap_or}
 use Rattle.std.proofs.lemmas.List.{drop-map, length-map, map_more, take-map}
 use Rattle.std.proofs.lemmas.Option.{slice_get-get_or, slice_get-map, slice_get_past, slice_get_read}
@@ -8,7 +8,7 @@ use Rattle.ly_base.specs.Shape.{Shape, nil, shape_of}
 use Rattle.ly_pack.specs.Values.{rule_from}
 use Rattle.ly_pack.specs.declared.rule.TableRule as rule
 use Rattle.ly_places.specs.Private.Measured.{measure_of, measures_of, parts_at, parts_made, tokens_among, IsAmong}
-use Rattle.ly_places.specs.Shapes.{shape_of_rule}
+use Rattle.ly_parse.specs.Deriving.{shape_of_rule}
 use Rattle.ly_places.specs.declared.measure.Measure.{Measure}
 use Rattle.ly_tree.proofs.ChildLemmas.{child_stands}
 use Rattle.ly_tree.proofs.StandLemmas.{stands_known}
@@ -44,26 +44,29 @@ parts_at_past (n ∷ ms) zero (suc (suc i)) e h = absurd (omega arith)
 parts_at_past (n ∷ ms) (suc k) (suc (suc i)) e h = parts_at_past ms k (suc i) (omega arith) (omega arith)
 
 -- the shape of a rule that is there
-pub shape_there : (rules : List rule.TableRule) (p k : ℕ) (r : rule.TableRule) → p ≡ suc k → k < length rules
+pub shape_there : (rules : List rule.TableRule) (p k : ℕ) (r : rule.TableRule) → k ≡ p - 1 → k < length rules
     → r ≡ get_or rules k r → shape_of r.tree ≡ shape_of_rule (map rule_from rules) p
-shape_there rules zero k r e h is = absurd (omega arith)
+shape_there rules zero k r e h is =
+    let same : k ≡ 0 = omega (arith, e) in
+    sym (ap (λ o. unwrap_or (option_map (λ x. x.shape) o) nil)
+    (slice_get-map rule_from rules 0
+    ∙ ap (option_map rule_from) (ap (slice_get rules) (sym same) ∙ slice_get_read rules (length rules) k r refl h is)))
 shape_there rules (suc p) k r e h is =
-    let same : k ≡ p = omega arith in
+    let same : k ≡ p = omega (arith, e) in
     sym (ap (λ o. unwrap_or (option_map (λ x. x.shape) o) nil)
     (slice_get-map rule_from rules p
     ∙ ap (option_map rule_from) (ap (slice_get rules) (sym same) ∙ slice_get_read rules (length rules) k r refl h is)))
 
-pub shape_past : (rules : List rule.TableRule) (p k : ℕ) → p ≡ suc k → length rules ≤ k
+pub shape_past : (rules : List rule.TableRule) (p k : ℕ) → k ≡ p - 1 → length rules ≤ k
     → nil ≡ shape_of_rule (map rule_from rules) p
-shape_past rules zero k e h = refl
+shape_past rules zero k e h =
+    sym (ap (λ o. unwrap_or (option_map (λ x. x.shape) o) nil)
+    (slice_get-map rule_from rules 0
+    ∙ ap (option_map rule_from) (slice_get_past rules 0 (omega (arith, e, h)))))
 shape_past rules (suc p) k e h =
     sym (ap (λ o. unwrap_or (option_map (λ x. x.shape) o) nil)
     (slice_get-map rule_from rules p
-    ∙ ap (option_map rule_from) (slice_get_past rules p (omega arith))))
-
-pub shape_none : (rules : List rule.TableRule) (p : ℕ) → p < 1 → nil ≡ shape_of_rule (map rule_from rules) p
-shape_none rules zero h = refl
-shape_none rules (suc p) h = absurd (omega arith)
+    ∙ ap (option_map rule_from) (slice_get_past rules p (omega (arith, e, h)))))
 
 -- the measures of terms one after another
 pub measures_are : (shape : ℕ → Shape) (ts : List Term) → measures_of shape (all_of ts) ≡ map (measure_of shape) ts

@@ -29,7 +29,7 @@ use Rattle.ly_places.specs.PlacedAnswer.{PlacedVerdict}
 use Rattle.ly_places.specs.PlacedJson.{placed_json}
 use Rattle.ly_places.specs.Private.Derived.{IsDerivationOf}
 use Rattle.ly_places.specs.Private.TokenDerived.{IsDerivationOver}
-use Rattle.ly_places.specs.Shapes.{shape_of_rule}
+use Rattle.ly_parse.specs.Deriving.{shape_of_rule}
 use Rattle.ly_places.specs.TokenAnswer.{IsPlacedOver, IsPlacedTokenVerdict, IsTokenVerdict}
 use Rattle.ly_places.specs.Within.{StandsWithin}
 use Rattle.ly_places.specs.declared.derivation.Derivation.{Derivation}
@@ -105,6 +105,7 @@ module _ (s : TableSet) (text : List ℕ) (x : Derivation) (h : IsDerivationOf s
     are_tokens = h.derived.are_tokens;
     before = h.derived.before;
     tree = h.tree;
+    derives = h.derived.derives;
     yields = h.derived.yields;
     says = h.derived.says;
     stands = refl;
@@ -124,8 +125,14 @@ module _ (s : TableSet) (text : List ℕ) (tokens : List (Token ℕ)) (x : Deriv
   }
 
   pub is_placed_over : IsPlacedOver s text tokens placed_over
-  is_placed_over
-      = record { before = h.before; tree = h.tree; yields = h.yields; says = h.says; stands = refl }
+  is_placed_over = record {
+    before = h.before;
+    tree = h.tree;
+    derives = h.derives;
+    yields = h.yields;
+    says = h.says;
+    stands = refl;
+  }
 
 -- what is wrong with tokens is said with places too
 pub placed_token_syntax_error : (s : TableSet) (text : List ℕ) (tokens : List (Token ℕ)) (syntax_error : SyntaxError)

@@ -29,7 +29,8 @@ use Rattle.ly_parse.specs.Parse.{Parse}
 use Rattle.ly_parse.specs.Reading.{ReadsTokens, at_end, onward}
 use Rattle.ly_places.proofs.DerivationLemmas.{all_read, kept, one_accepted, one_fault, one_refused, own}
 use Rattle.ly_places.proofs.KeepingLemmas.{same_expected}
-use Rattle.ly_places.proofs.TreeFeeding.{levels_by, same_states}
+use Rattle.ly_parse.proofs.TreeFeeding.{same_states}
+use Rattle.ly_parse.specs.Deriving.{levels_by}
 use Rattle.ly_places.specs.Private.TokenDerived.{AreReadOver, IsDerivationOver, IsEndRead, IsTokenDerived}
 use Rattle.ly_places.specs.Shapes.{keeping_machine}
 use Rattle.ly_places.specs.TokenAnswer.{token_over, ComesOf, IsTokenOver, IsTokenVerdict}
@@ -246,6 +247,7 @@ module _ (s : TableSet) (text : List ℕ) (is_machine : IsMachine (machine_of s)
         record {
           before = top.on_top.before;
           tree = top.tree;
+          derives = record { last = it.on; reads = it.itself; accepts = top.itself };
           yields = sym it.yields ∙ top.on_top.yields;
           fits = top.on_top.fits;
           says = (levels_by (own m is_machine) it.on, it.reads, top.feeds);

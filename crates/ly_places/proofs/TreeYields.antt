@@ -7,9 +7,9 @@ use Rattle.ly_pack.specs.Machine.{IsLegal, IsMachine, IsRuleNumber, Machine, Tab
 use Rattle.ly_pack.specs.Machine.{accept, error, reduce, shift}
 use Rattle.ly_pack.specs.Steady.{rule_at}
 use Rattle.ly_parse.proofs.FeedingLemmas.{legal}
-use Rattle.ly_places.proofs.TreeFeeding.{FeedsTree, TreeFed, TreeLevel, TreeTurn, accept_tree, done, faulty}
-use Rattle.ly_places.proofs.TreeFeeding.{go_to_state, goes_on, onward, perform_trees, pop_trees, pushed}
-use Rattle.ly_places.proofs.TreeFeeding.{reduce_trees, refused, settled, settles, top_state, turn_trees, uncover_trees}
+use Rattle.ly_parse.specs.Deriving.{FeedsTree, TreeFed, TreeLevel, TreeTurn, accept_tree, done, faulty}
+use Rattle.ly_parse.specs.Deriving.{go_to_state, goes_on, onward, perform_trees, pop_trees, pushed}
+use Rattle.ly_parse.specs.Deriving.{reduce_trees, refused, settled, settles, top_state, turn_trees, uncover_trees}
 use Rattle.ly_places.specs.Shapes.{AllFit, Fits, FitsRule, count_of}
 
 -- the tokens of the trees on a stack, the bottom's first

@@ -4,7 +4,8 @@ use Rattle.ly_base.specs.Lexed.{Token}
 use Rattle.ly_base.specs.Trees.{Tree, yield_of}
 use Rattle.ly_pack.specs.Machine.{TableRule, IsShapeFor}
 use Rattle.ly_spans.specs.Spans.{span_of}
-use Rattle.ly_places.specs.Shapes.{keeping_rule, shape_of_rule, Fits}
+use Rattle.ly_parse.specs.Deriving.{shape_of_rule}
+use Rattle.ly_places.specs.Shapes.{keeping_rule, Fits}
 use Rattle.ly_spans.specs.declared.span.Span.{Span}
 use Rattle.ly_tree.specs.Forest.{Grown, StandsFor}
 use Rattle.ly_tree.specs.Term.{build}

@@ -7,7 +7,7 @@ use Rattle.ly_base.specs.Trees.{Tree, yield_of}
 use Rattle.ly_base.specs.declared.lexeme.End.TheVariants.{Clean}
 use Rattle.ly_feed.specs.JsonLines.{json_expected, json_refusal, json_token}
 use Rattle.ly_feed.specs.ScanPart.{scan_part_of}
-use Rattle.ly_feed.specs.TableAnswer.{AreTokens, IsVerdict}
+use Rattle.ly_feed.specs.TableAnswer.{AreTokens, IsVerdict, end_of}
 use Rattle.ly_feed.specs.Verdict as plain
 use Rattle.ly_feed.specs.Verdict.{IsOutcome, Verdict}
 use Rattle.ly_feed.specs.Vocabularies.{vocabulary_of}
@@ -15,8 +15,8 @@ use Rattle.ly_feed.specs.declared.outcome.Outcome.{Outcome}
 use Rattle.ly_spans.specs.Spans.{empty_at, span_of, json_span}
 use Rattle.ly_places.specs.Placed.{Placed, end_behind, forgotten, placed}
 use Rattle.ly_places.specs.PlacedJson.{placed_json}
-use Rattle.ly_places.specs.Shapes.{shape_of_rule}
-use Rattle.ly_tables.specs.TableSet.{TableSet}
+use Rattle.ly_parse.specs.Deriving.{Derives, shape_of_rule}
+use Rattle.ly_tables.specs.TableSet.{TableSet, machine_of}
 use Rattle.ly_tree.specs.Shown.{Vocabulary}
 use Rattle.ly_tree.specs.Term.{build}
 
@@ -27,13 +27,15 @@ pub data PlacedVerdict : Type 0 where
   unmatched : ℕ → PlacedVerdict
   faulty : PlacedVerdict
 
--- A derivation tree has the tokens of a text after some others (after none, if the tables accept with one level on
--- their stack), the text's term is what its rules build from it, and the spans are those of the tree.
+-- The tables accept the tokens of a text with this derivation tree, the text's term is what its rules build from it, and
+-- the spans are those of the tree. It has all tokens after some others (after none, if the tables accept with one level
+-- on their stack).
 pub record IsPlacedBy (s : TableSet) (text : List ℕ) (t : Placed) : Type 0 where
   pub tokens : List (Token ℕ)
   pub are_tokens : AreTokens (scan_part_of s) (start_of text) tokens Clean
-  pub before : List (Token ℕ)
   pub tree : Tree
+  pub derives : Derives (machine_of s) tokens (end_of text) tree
+  pub before : List (Token ℕ)
   pub yields : tokens ≡ before ++ yield_of tree
   pub says : IsVerdict s text (plain.accepted (build (shape_of_rule s.rules) tree))
   pub stands : t ≡ placed (shape_of_rule s.rules) (end_behind before) tree

@@ -3,10 +3,14 @@ use Rattle.std.specs.Prelude.{◌≡◌, ◌≤◌, ◌+◌, ℕ, List, [], ◌�
 use Rattle.ly_base.specs.Lexed.{Token}
 use Rattle.ly_base.specs.Shape.{Shape}
 use Rattle.ly_base.specs.Trees.{Tree, yield_of}
+use Rattle.ly_feed.specs.TableAnswer.{IsVerdict}
+use Rattle.ly_feed.specs.Verdict.{accepted}
 use Rattle.ly_spans.specs.Spans.{bytes_at, span_of}
 use Rattle.ly_places.specs.Placed.{Placed, PlacedTerms, built, forgotten, leaf, more, none}
 use Rattle.ly_places.specs.Placed.{nothing, placed, where_of}
+use Rattle.ly_places.specs.PlacedAnswer.{IsPlacedBy}
 use Rattle.ly_spans.specs.declared.span.Span.{Span}
+use Rattle.ly_tables.specs.TableSet.{TableSet}
 use Rattle.ly_tree.specs.Term.{build}
 
 -- a token has the bytes of the text in its span
@@ -40,6 +44,15 @@ abbrev mutual
 abbrev pub PlacesAreForgotten : Type 0
 PlacesAreForgotten = (text : List ℕ) (shape : ℕ → Shape) (last : ℕ) (d : Tree) → All (IsOfText text) (yield_of d)
     → forgotten text (placed shape last d) ≡ build shape d
+
+-- in the tree of a text the span of each part is within that of its node
+abbrev pub PlacedTreesAreNested : Type 0
+PlacedTreesAreNested = (s : TableSet) (text : List ℕ) (t : Placed) → IsPlacedBy s text t → IsNested t
+
+-- and without its spans it is the text's term
+abbrev pub PlacedTreesAreOfVerdicts : Type 0
+PlacedTreesAreOfVerdicts = (s : TableSet) (text : List ℕ) (t : Placed) → IsPlacedBy s text t
+    → IsVerdict s text (accepted (forgotten text t))
 
 -- if tokens follow one another, the spans of parts are within those of their nodes
 abbrev pub PartsAreNested : Type 0

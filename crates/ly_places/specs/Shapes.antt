@@ -1,14 +1,9 @@
--- The trees of a table set's rules, and those of rules that keep their whole bodies.
-use Rattle.std.specs.Prelude.{◌≡◌, ℕ, zero, suc, List, [], ◌∷◌, Some, codes, slice_get, option_map, unwrap_or, map}
+-- Rules that keep their whole bodies, and the derivation trees that fit rules.
+use Rattle.std.specs.Prelude.{◌≡◌, ℕ, zero, suc, List, [], ◌∷◌, Some, codes, slice_get, map}
 use Rattle.ly_base.specs.Shape as shape
 use Rattle.ly_base.specs.Shape.{Shape, nil, place}
 use Rattle.ly_base.specs.Trees.{Tree, Trees, leaf, more, node, none}
 use Rattle.ly_pack.specs.Machine.{Machine, TableRule}
-
--- the shape of a rule, whose index is its number - 1; that of nothing for rule 0 and if there is no such rule
-abbrev pub shape_of_rule : List TableRule → ℕ → Shape
-shape_of_rule rules zero = nil
-shape_of_rule rules (suc p) = unwrap_or (option_map (λ r. r.shape) (slice_get rules p)) nil
 
 -- the places of a body of this length, after this many others
 abbrev pub places_behind : ℕ → ℕ → List ℕ

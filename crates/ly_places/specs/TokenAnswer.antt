@@ -16,7 +16,7 @@ use Rattle.ly_parse.specs.Reading.{ReadsTokens}
 use Rattle.ly_places.specs.Placed.{Placed, end_behind, placed}
 use Rattle.ly_places.specs.PlacedAnswer as with_places
 use Rattle.ly_places.specs.PlacedAnswer.{PlacedVerdict}
-use Rattle.ly_places.specs.Shapes.{shape_of_rule}
+use Rattle.ly_parse.specs.Deriving.{Derives, shape_of_rule}
 use Rattle.ly_places.specs.declared.placed_token.PlacedToken.{PlacedToken}
 use Rattle.ly_tables.specs.TableSet.{TableSet, machine_of}
 use Rattle.ly_tree.specs.Term.{build}
@@ -53,11 +53,13 @@ IsSaidOf m tokens end faulty = (before : List (Token ℕ)) × (t : Token ℕ) ×
 abbrev pub IsTokenVerdict : TableSet → List ℕ → List (Token ℕ) → Verdict → Type 0
 IsTokenVerdict s text tokens v = IsSaidOf (machine_of s) tokens (end_of text) v
 
--- A derivation tree has exactly these tokens after some others (after none, if the tables accept with one level on
--- their stack), their term is what the set's rules build from it, and the spans are those of the tree.
+-- The tables accept these tokens with this derivation tree, their term is what the set's rules build from it, and the
+-- spans are those of the tree. It has exactly these tokens after some others (after none, if the tables accept with one
+-- level on their stack).
 pub record IsPlacedOver (s : TableSet) (text : List ℕ) (tokens : List (Token ℕ)) (t : Placed) : Type 0 where
-  pub before : List (Token ℕ)
   pub tree : Tree
+  pub derives : Derives (machine_of s) tokens (end_of text) tree
+  pub before : List (Token ℕ)
   pub yields : tokens ≡ before ++ yield_of tree
   pub says : IsTokenVerdict s text tokens (accepted (build (shape_of_rule s.rules) tree))
   pub stands : t ≡ placed (shape_of_rule s.rules) (end_behind before) tree

@@ -18,7 +18,7 @@ ghost use Rattle.ly_places.specs.Private.Kept.{first_extent};
 ghost use Rattle.ly_places.specs.Private.Measured.{tokens_among};
 ghost use Rattle.ly_places.specs.Private.Waiting.{body_from, kind_of, last_end, shapes_of, waiting_at};
 ghost use Rattle.ly_places.specs.Private.Waiting.{IsListed, IsMeasured, IsOpened, IsReady};
-ghost use Rattle.ly_places.specs.Shapes.{shape_of_rule};
+ghost use Rattle.ly_parse.specs.Deriving.{shape_of_rule};
 
 use crate::measure::{Measure, measure_children, measured, tree_of};
 use crate::part::{Part, PartKind};

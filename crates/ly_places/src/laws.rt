@@ -1,5 +1,6 @@
 ghost use Rattle.ly_places.specs.PlacedJsonLaws.{IsOfNamedPlaces, SaysOnePlacedTree};
-ghost use Rattle.ly_places.specs.PlacedLaws.{PartsAreNested, PlacesAreForgotten};
+ghost use Rattle.ly_places.specs.PlacedLaws.{PartsAreNested, PlacedTreesAreNested, PlacedTreesAreOfVerdicts};
+ghost use Rattle.ly_places.specs.PlacedLaws.{PlacesAreForgotten};
 ghost use Rattle.ly_places.specs.TokenAnswer.{SaysTheSameOfItsTokens};
 
 /// Theorem: without its spans, a placed term is what the rules build from the derivation.
@@ -10,6 +11,13 @@ pub fn places_are_forgotten()
 /// Theorem: if tokens follow one another, the spans of a placed term's parts are within those of their nodes.
 pub fn parts_are_nested()
     ensures { PartsAreNested }
+{}
+
+/// Theorem: in the tree of a text, the span of each part is within that of its node, and without the spans the tree is
+/// the text's term.
+pub fn placed_trees_are_of_texts()
+    ensures nested { PlacedTreesAreNested }
+    ensures forgotten { PlacedTreesAreOfVerdicts }
 {}
 
 /// Theorem: the JSON text of a placed term is that of its names and of the locations where its parts begin and end.

@@ -35,8 +35,8 @@ mod token_derivation;
 mod token_parsing;
 
 pub use laws::{
-    a_placed_json_text_says_one_tree, parts_are_nested, places_are_forgotten,
-    tokens_say_what_their_text_says,
+    a_placed_json_text_says_one_tree, parts_are_nested, placed_trees_are_of_texts,
+    places_are_forgotten, tokens_say_what_their_text_says,
 };
 pub use ly_spans::{LineStarts, Span};
 pub use parsing::{Parsed, parse};

@@ -3,7 +3,7 @@ ghost use Rattle.ly_base.specs.Shape.{nil, shape_of};
 ghost use Rattle.ly_pack.specs.Values.{rule_from};
 ghost use Rattle.ly_places.specs.Private.Measured.{measure_of, parts_among, parts_at, parts_made, tokens_among};
 ghost use Rattle.ly_places.specs.Private.Measured.{IsAmong};
-ghost use Rattle.ly_places.specs.Shapes.{shape_of_rule};
+ghost use Rattle.ly_parse.specs.Deriving.{shape_of_rule};
 ghost use Rattle.ly_tree.specs.Look.{IsSeen};
 ghost use Rattle.ly_tree.specs.Term.{Term};
 
@@ -70,12 +70,12 @@ pub(crate) fn measured(
     }
 }
 
-/// The tree of a rule, if the rule exists.
+/// The tree of a rule, if the rule exists. Rule 0, which no tree has, is read as rule 1.
 pub(crate) fn tree_of(rules: &[TableRule], rule: RuleNo) -> Option<&RuleTree>
     ensures { unwrap_or (option_map (λ t. shape_of t.now) result) nil ≡ shape_of_rule (map rule_from rules.now) rule.0 }
 {
-    let before = rule.0.checked_sub(1)?;
-    let rule = rules.get(before as usize)?;
+    let place = rule.0.saturating_sub(1) as usize;
+    let rule = rules.get(place)?;
     Some(&rule.tree)
 }
 

@@ -1,8 +1,6 @@
 ghost use Rattle.std.specs.Prelude.{◌≡◌, ℕ, List, Err, IfErr, IfOk, map};
 ghost use Rattle.ly_base.specs.Lexed.{Token};
 ghost use Rattle.ly_base.specs.Trees.{Tree};
-ghost use Rattle.ly_feed.specs.LexerOf.{IsLexerOf};
-ghost use Rattle.ly_feed.specs.ScanPart.{scan_part_of};
 ghost use Rattle.ly_feed.specs.TableAnswer.{IsVerdict};
 ghost use Rattle.ly_feed.specs.Verdict.{faulty};
 ghost use Rattle.ly_pack.specs.Values.{rule_from};
@@ -11,16 +9,16 @@ ghost use Rattle.ly_places.specs.Derived.{IsDerived};
 ghost use Rattle.ly_places.specs.PlacedAnswer.{IsPlacedVerdict, PlacedVerdict};
 ghost use Rattle.ly_places.specs.Parts.{parts_of};
 ghost use Rattle.ly_places.specs.Placed.{end_behind, placed};
-ghost use Rattle.ly_places.specs.Shapes.{keeping_rule, shape_of_rule};
+ghost use Rattle.ly_parse.specs.Deriving.{shape_of_rule};
+ghost use Rattle.ly_places.specs.Shapes.{keeping_rule};
 
 use crate::derivation::{Derivation, Derived, derive};
 use crate::flattening::parts_of;
 use crate::keeping_parser::rules_of;
 use crate::part::Part;
 use ly_base::OutOfMemory;
-use ly_feed::{SyntaxError, TextFault, lexer_of};
+use ly_feed::{Prepared, SyntaxError, TextFault};
 use ly_pack::TableRule;
-use ly_scan::Lexer;
 use ly_tables::TableSet;
 use std::alloc::Global;
 
@@ -42,29 +40,28 @@ pub fn parse<'t>(alloc: Global, set: &TableSet, text: &'t [u8]) -> Result<Parsed
     ensures faulty { result ≡ Err TextFault.FaultyTables → IsVerdict set.now text.now faulty }
     ensures ending { IfErr result IsOfParsing }
 {
-    let lexer = lexer_of(alloc, set)?;
+    let prepared = Prepared::new(alloc, set)?;
     let rules = rules_of(alloc, set)?;
-    parse_by(alloc, set, &lexer, &rules, text)
+    let parsed = parse_by(&prepared, &rules, text);
+    drop(prepared);
+    parsed
 }
 
-/// The same, with the lexer of the set and its rules, changed to keep their whole bodies.
+/// The same, with the set prepared and its rules, changed to keep their whole bodies.
 pub(crate) fn parse_by<'t>(
-    alloc: Global,
-    set: &TableSet,
-    lexer: &Lexer,
+    prepared: &Prepared<'_>,
     rules: &[TableRule],
     text: &'t [u8],
 ) -> Result<Parsed<'t>, TextFault>
-    requires lexer { IsLexerOf (scan_part_of set.now) lexer.now }
-    requires rules { map rule_from rules.now ≡ map keeping_rule set.now.rules }
-    ensures parsed { IfOk result (λ p. (v : PlacedVerdict) × IsPlacedVerdict set.now text.now v
+    requires rules { map rule_from rules.now ≡ map keeping_rule prepared.now.rules }
+    ensures parsed { IfOk result (λ p. (v : PlacedVerdict) × IsPlacedVerdict prepared.now text.now v
         × IsParsedAs text.now v p) }
-    ensures faulty { result ≡ Err TextFault.FaultyTables → IsVerdict set.now text.now faulty }
+    ensures faulty { result ≡ Err TextFault.FaultyTables → IsVerdict prepared.now text.now faulty }
     ensures ending { IfErr result IsOfParsing }
 {
-    match derive(alloc, set, lexer, rules, text)? {
+    match derive(prepared, rules, text)? {
         Derived::Accepted(derivation) => {
-            let parts = parts_by(alloc, set, derivation)?;
+            let parts = parts_by(prepared.alloc(), prepared.set(), derivation)?;
             Ok(Parsed::Tree(parts))
         }
         Derived::Refused(syntax_error) => Ok(Parsed::Refused(syntax_error)),

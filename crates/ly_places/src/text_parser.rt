@@ -7,9 +7,8 @@ ghost use Rattle.ly_places.specs.PlacedAnswer.{IsPlacedVerdict, PlacedVerdict};
 use crate::keeping_parser::rules_of;
 use crate::parsing::{Parsed, parse_by};
 use ly_base::OutOfMemory;
-use ly_feed::{TextFault, lexer_of};
+use ly_feed::{Prepared, TextFault};
 use ly_pack::TableRule;
-use ly_scan::Lexer;
 use ly_tables::TableSet;
 use std::alloc::Global;
 use std::marker::Model;
@@ -17,30 +16,23 @@ use std::marker::Model;
 /// A parser for many texts with one table set: everything that depends only on the set is computed once.
 #[derive(Drop)]
 pub struct TextParser<'s> {
-    /// The allocator.
-    alloc: Global,
-    /// The table set.
-    set: &'s TableSet,
-    /// Its lexer.
-    lexer: Lexer,
-    /// Its rules, changed to keep their whole bodies.
+    /// The prepared table set.
+    prepared: Prepared<'s>,
+    /// The set's rules, changed to keep their whole bodies.
     rules: Vec<TableRule>,
 }
 
 impl<'s> Model for TextParser<'s> {
     ghost use Rattle.std.specs.Prelude.{◌≡◌, map};
-    ghost use Rattle.ly_feed.specs.LexerOf.{IsLexerOf};
-    ghost use Rattle.ly_feed.specs.ScanPart.{scan_part_of};
     ghost use Rattle.ly_pack.specs.Values.{rule_from};
     ghost use Rattle.ly_places.specs.Shapes.{keeping_rule};
     ghost use Rattle.ly_tables.specs.TableSet as tables;
 
     ghost Value = { tables.TableSet };
 
-    ghost view = { λ p. p.set.now };
+    ghost view = { λ p. p.prepared };
 
-    ghost invariant = { λ p. IsLexerOf (scan_part_of p.set.now) p.lexer
-        × (map rule_from p.rules.items ≡ map keeping_rule p.set.now.rules) };
+    ghost invariant = { λ p. map rule_from p.rules.items ≡ map keeping_rule p.prepared.rules };
 }
 
 impl<'s> TextParser<'s> {
@@ -49,9 +41,7 @@ impl<'s> TextParser<'s> {
         ensures { IfOk result (λ parser. parser ≡ set.now) }
     {
         Ok(TextParser {
-            alloc,
-            set,
-            lexer: lexer_of(alloc, set)?,
+            prepared: Prepared::new(alloc, set)?,
             rules: rules_of(alloc, set)?,
         })
     }
@@ -65,6 +55,6 @@ impl<'s> TextParser<'s> {
         ensures faulty { result ≡ Err TextFault.FaultyTables → IsVerdict self.now text.now faulty }
         ensures ending { IfErr result IsOfParsing }
     {
-        parse_by(self.alloc, self.set, &self.lexer, &self.rules, text)
+        parse_by(&self.prepared, &self.rules, text)
     }
 }

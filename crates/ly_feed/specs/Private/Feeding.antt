@@ -20,9 +20,9 @@ held_from set form place parse over =
 -- A feed's scanner with its facts and its parser are those of its set, and as long as it isn't over its parse isn't,
 -- and the walk over the bytes that are held goes on.
 pub record IsFeed (f : Inside) : Type 0 where
-  pub lexer : IsLexerOf (scan_part_of f.set.now) f.lexer
-  pub facts : AreFactsOf (scan_part_of f.set.now) f.lexer.scanner f.facts.items
+  pub lexer : IsLexerOf (scan_part_of f.set.now) f.lexer.now
+  pub facts : AreFactsOf (scan_part_of f.set.now) f.lexer.now.scanner f.facts.now
   pub machine : f.parser.machine ≡ machine_of f.set.now
   pub runs : CanRun (scan_part_of f.set.now) (machine_of f.set.now)
   pub parses : f.over ≡ false → f.parser.over ≡ false
-  pub waits : f.over ≡ false → IsUnderwayAt f.lexer f.window f.matcher
+  pub waits : f.over ≡ false → IsUnderwayAt f.lexer.now f.window f.matcher

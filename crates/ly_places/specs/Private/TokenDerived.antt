@@ -17,12 +17,13 @@ use Rattle.ly_parse.specs.Feeding as fed
 use Rattle.ly_parse.specs.Feeding.{Feeds, states_on}
 use Rattle.ly_parse.specs.Parse.{Parse}
 use Rattle.ly_parse.specs.Reading.{ReadsTokens}
-use Rattle.ly_places.specs.Shapes.{Fits, keeping_rule, shape_of_rule}
+use Rattle.ly_parse.specs.Deriving.{Derives, shape_of_rule}
+use Rattle.ly_places.specs.Shapes.{Fits, keeping_rule}
 use Rattle.ly_places.specs.TokenAnswer.{ComesOf, IsTokenVerdict}
 use Rattle.ly_places.specs.declared.derivation.Derivation.{Derivation}
 use Rattle.ly_places.specs.declared.derivation.Derived.{Derived}
 use Rattle.ly_places.specs.declared.derivation.Derived.TheVariants.{Accepted, Refused}
-use Rattle.ly_tables.specs.TableSet.{TableSet}
+use Rattle.ly_tables.specs.TableSet.{TableSet, machine_of}
 use Rattle.ly_tree.specs.Forest.{Grown, StandsFor}
 use Rattle.ly_tree.specs.Term.{Term, build}
 
@@ -50,12 +51,13 @@ IsEndRead p text forest (Err FaultyTables) = Feeds p.machine (end_of text) p.sta
 IsEndRead p text forest (Err OutOfMemory) = Unit {0}
 IsEndRead p text forest (Err _) = ⊥
 
--- A derivation of tokens in memory: where they stand, and the tree, as rules build it that keep their bodies. It has
--- the tokens behind some others (behind none, where the tables accept with one level on their stack), and their term is
+-- A derivation of tokens in memory: where they stand, and the tree with which the tables accept them, as rules build it
+-- that keep their bodies. It has the tokens behind some others (behind none, where the tables accept with one level on their stack), and their term is
 -- what the set's rules build of it.
 pub record IsDerivationOver (s : TableSet) (text : List ℕ) (tokens : List (Token ℕ)) (x : Derivation) : Type 0 where
   pub before : List (Token ℕ)
   pub tree : Tree
+  pub derives : Derives (machine_of s) tokens (end_of text) tree
   pub yields : tokens ≡ before ++ yield_of tree
   pub fits : Fits s.rules tree
   pub says : IsTokenVerdict s text tokens (accepted (build (shape_of_rule s.rules) tree))

@@ -7,7 +7,7 @@ use Rattle.ly_places.specs.Parts.{parts_of}
 use Rattle.ly_places.specs.Placed.{Placed}
 use Rattle.ly_places.specs.Private.Kept.{first_extent, placed_term, IsWhole}
 use Rattle.ly_places.specs.Private.Measured.{measure_of}
-use Rattle.ly_places.specs.Shapes.{shape_of_rule}
+use Rattle.ly_parse.specs.Deriving.{shape_of_rule}
 use Rattle.ly_spans.specs.declared.span.Span.{Span}
 use Rattle.ly_places.specs.declared.measure.Measure.{Measure}
 use Rattle.ly_places.specs.declared.part.Part.{Part}

@@ -12,7 +12,7 @@ use Rattle.ly_places.proofs.MeasureLemmas.{child_within}
 use Rattle.ly_places.specs.Parts.{parts_of}
 use Rattle.ly_places.specs.Private.Measured.{measure_of}
 use Rattle.ly_places.specs.Private.Waiting.{last_end, listed, visits_left, IsReady}
-use Rattle.ly_places.specs.Shapes.{shape_of_rule}
+use Rattle.ly_parse.specs.Deriving.{shape_of_rule}
 use Rattle.ly_places.specs.declared.flattening.Waiting.{Waiting}
 use Rattle.ly_tree.specs.Private.Printing.{term_at}
 use Rattle.ly_places.proofs.flattening.parts_of.Goals as goal

@@ -3,7 +3,7 @@ use Rattle.ly_pack.specs.Values.{rule_from}
 use Rattle.ly_places.specs.Parts.{parts_of}
 use Rattle.ly_places.specs.Private.Kept.{placed_term}
 use Rattle.ly_places.specs.Private.Waiting.{last_end, listed, visits_left, IsReady}
-use Rattle.ly_places.specs.Shapes.{shape_of_rule}
+use Rattle.ly_parse.specs.Deriving.{shape_of_rule}
 use Rattle.ly_tree.specs.Private.Printing.{term_at}
 use Rattle.ly_places.proofs.flattening.parts_of.Given as goal
 

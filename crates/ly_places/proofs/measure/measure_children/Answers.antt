@@ -1,7 +1,7 @@
 use Rattle.std.proofs.Common.{◌∙◌, arith, map, take}
 use Rattle.ly_pack.specs.Values.{rule_from}
 use Rattle.ly_places.proofs.MeasureLemmas.{child_known, child_seen, child_within, one_measured}
-use Rattle.ly_places.specs.Shapes.{shape_of_rule}
+use Rattle.ly_parse.specs.Deriving.{shape_of_rule}
 use Rattle.ly_places.proofs.measure.measure_children.Goals as goal
 
 pub look-requires : goal.look-requires

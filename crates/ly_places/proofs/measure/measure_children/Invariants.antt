@@ -2,7 +2,7 @@ use Rattle.std.proofs.Common.{◌≡◌, ◌+◌, ◌≤◌, length, map, take, 
 use Rattle.std.specs.Prelude.{vec_capacity}
 use Rattle.ly_pack.specs.Values.{rule_from}
 use Rattle.ly_places.specs.Private.Measured.{measure_of}
-use Rattle.ly_places.specs.Shapes.{shape_of_rule}
+use Rattle.ly_parse.specs.Deriving.{shape_of_rule}
 use Rattle.ly_places.proofs.measure.measure_children.Given as goal
 
 -- the children before this one are measured, and there is room for the others

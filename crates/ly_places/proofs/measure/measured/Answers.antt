@@ -2,7 +2,7 @@ use Rattle.std.proofs.Common.{◌≡◌, ◌∙◌, ◌+◌, ◌-◌, ap, arith,
 use Rattle.ly_pack.specs.Values.{rule_from}
 use Rattle.ly_places.proofs.MeasureLemmas.{node_measured}
 use Rattle.ly_places.specs.Private.Measured.{parts_made}
-use Rattle.ly_places.specs.Shapes.{shape_of_rule}
+use Rattle.ly_parse.specs.Deriving.{shape_of_rule}
 use Rattle.ly_tree.specs.Look.{IsSeen}
 use Rattle.ly_places.proofs.measure.measured.Goals as goal
 

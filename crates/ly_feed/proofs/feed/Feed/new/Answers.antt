@@ -9,11 +9,11 @@ new-requires c = subst IsSteady (sym c.machine.ensures.machine) c.machine.ensure
 
 pub invariant_of-result : goal.invariant_of-result
 invariant_of-result c = record {
-  lexer = c.in_ok-lexer.ensures;
-  facts = c.in_ok-facts.ensures;
+  lexer = c.prepared.invariant.0;
+  facts = c.prepared.invariant.1;
   machine = ap (λ x. x.machine) c.new.ensures ∙ c.machine.ensures.machine;
-  runs = can_run c.args.set.now c.machine.ensures.within c.machine.ensures.steady;
+  runs = can_run c.prepared.inside.set.now c.machine.ensures.within c.machine.ensures.steady;
   parses = λ goes. ap (λ x. x.over) c.new.ensures;
-  waits = λ goes. subst (λ q. IsUnderwayAt c.in_ok-lexer.lexer q c.matcher_at-matcher.result) c.place.ensures
+  waits = λ goes. subst (λ q. IsUnderwayAt c.prepared.inside.lexer q c.matcher_at-matcher.result) c.place.ensures
       c.matcher_at-matcher.ensures;
 }

@@ -110,7 +110,7 @@ invariant_of-self-2 c =
       machine = c.run_on.ensures.machine ∙ c.self.invariant.machine;
       runs = c.self.invariant.runs;
       parses = λ goes. run.2;
-      waits = λ goes. subst (λ q. IsUnderwayAt f.lexer q c.matcher_at-self-inside.result) (sym (c.give_up.ensures
+      waits = λ goes. subst (λ q. IsUnderwayAt f.lexer.now q c.matcher_at-self-inside.result) (sym (c.give_up.ensures
           ∙ given_up c.push.new.self c.in-At.place c.at-at.result c.at_line_start-line.result
           c.condition-condition.result
           (subst (λ q. IsFurther q c.in-At.place) c.place-start.ensures (further run.0)) c.at-at.ensures

@@ -1,4 +1,4 @@
--- Where the tokens of a text stand, listed lexeme by lexeme.
+-- The spans of a text's tokens, listed lexeme by lexeme.
 use Rattle.std.proofs.Common.{◌≡◌, ◌∙◌, ◌+◌, ◌≤◌, ℕ, List, [], ◌∷◌, ◌++◌, Option, Some, None, ap, append-nil}
 use Rattle.std.proofs.Common.{append_assoc, length, map, refl, subst, sym, take}
 use Rattle.std.specs.Prelude.{Bool, MatchOption, false, is_some, option_map, true}
@@ -13,18 +13,13 @@ use Rattle.ly_feed.specs.Passing.{ArePassedOver}
 use Rattle.ly_feed.specs.ScanPart.{ScanPart, condition_in, scanner_in, terminal_in}
 use Rattle.ly_feed.specs.TableAnswer.{AreTokens}
 use Rattle.ly_spans.specs.Spans.{span_of}
-use Rattle.ly_places.specs.Private.Derived.{AreExtents}
+use Rattle.ly_feed.specs.Private.TokenSpans.{AreListed}
+use Rattle.ly_feed.specs.TokenSpans.{AreSpansOf}
 use Rattle.ly_spans.specs.declared.span.Span.{Span}
 use Rattle.ly_scan.specs.Lexer.{IsLexemeAt, ScanEndsAt}
 use Rattle.ly_scan.specs.Lexers.{Lexer, scanner_of}
 use Rattle.ly_scan.specs.Pieces.{EndIsDecided, PassesOver, IsDecided}
 use Rattle.ly_scan.specs.Pieces as pieces
-
--- A run of a scanner leads from the one place to the other, over tokens that stand there.
-pub record AreListed (p : ScanPart) (q : Place) (extents : List Span) (r : Place) : Type 0 where
-  pub tokens : List (Token ℕ)
-  pub listed : extents ≡ map span_of tokens
-  pub front : (ts : List (Token ℕ)) (e : End) → AreTokens p r ts e → AreTokens p q (tokens ++ ts) e
 
 -- each match of a text that is whole is decided
 pub always_decided : (o : Option Lexeme) (A : Type 0) (B : Lexeme → Type 0)
@@ -110,7 +105,7 @@ module _ (p : ScanPart) where
 
   -- where the run ends, these are all
   pub all_listed : (l : Lexer) (text : List ℕ) (extents : List Span) (r : Place) (e : End) → IsLexerOf p l
-      → AreListed p (start_of text) extents r → EndIsDecided true (scanner_of l.scanner) r e → AreExtents p text extents
+      → AreListed p (start_of text) extents r → EndIsDecided true (scanner_of l.scanner) r e → AreSpansOf p text extents
   all_listed l text extents r e is h ends = record {
     tokens = h.tokens;
     end = e;
@@ -120,5 +115,5 @@ module _ (p : ScanPart) where
           (subst (λ x. ScanEndsAt (scanner_of l.scanner) x e) (behind_none r) (ends [] (λ same. refl)));
       are_of_lexemes = refl;
     }));
-    listed = h.listed;
+    are = h.listed;
   }

@@ -1,0 +1,1 @@
+use Rattle.ly_feed.proofs.token_spans.told_spans.Goals as goal
