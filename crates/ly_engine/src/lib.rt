@@ -21,10 +21,11 @@ mod reporting_fault;
 pub use answer_fault::AnswerFault;
 pub use answering::answer;
 pub use generating::{Built, build, generate};
-pub use laws::given_tokens_are_answered;
+pub use laws::{given_tokens_are_answered, spans_are_of_derivations};
 pub use ly_base::{Limits, Version};
 pub use ly_drive::{
-    DriveFault, Feed, FeedFault, LinesOutcome, Need, Outcome, TextFault, drive, drive_lines,
+    DriveFault, Feed, FeedFault, LinesOutcome, Need, Outcome, Prepared, TextFault, drive,
+    drive_lines,
 };
 pub use ly_generate::{
     GenFault, ReportRequest, Specification, parser_tables, read_specification, refusal_is_exact,

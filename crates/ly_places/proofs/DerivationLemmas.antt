@@ -14,6 +14,7 @@ use Rattle.ly_feed.proofs.OnwardLemmas.{from_start}
 use Rattle.ly_feed.specs.Closed.{CanRun, IsClosed, IsVerdictOf, progress_of}
 use Rattle.ly_feed.specs.SyntaxError.{verdict_of}
 use Rattle.ly_feed.specs.ScanPart.{ScanPart, scan_part_of}
+use Rattle.ly_feed.specs.TokenSpans.{AreSpansOf}
 use Rattle.ly_feed.specs.TableAnswer.{IsRest, IsVerdict, IsVerdictBy, Progress, ReadsAll, begun}
 use Rattle.ly_feed.specs.Verdict.{Verdict, accepted, faulty, refused, unmatched}
 use Rattle.ly_feed.specs.declared.syntax_error.SyntaxError.{SyntaxError}
@@ -35,7 +36,7 @@ use Rattle.ly_parse.proofs.TreeFeeding.{done_with_terms, done_with_trees, same_s
 use Rattle.ly_parse.specs.Deriving.{FeedsTree, ReadsTrees, TreeFed, TreeLevel, fed_by, levels_by}
 use Rattle.ly_parse.specs.Deriving as trees
 use Rattle.ly_places.proofs.TreeYields.{AllFitOn, IsGrown, IsOnTop, grown, yields_on}
-use Rattle.ly_places.specs.Private.Derived.{AreExtents, IsDerivationOf, IsDerived, IsDerivedBy}
+use Rattle.ly_places.specs.Private.Derived.{IsDerivationOf, IsDerived, IsDerivedBy}
 use Rattle.ly_parse.specs.Deriving.{shape_of_rule}
 use Rattle.ly_places.specs.Shapes.{keeping_machine, keeping_rule}
 use Rattle.ly_places.specs.declared.derivation.Derivation.{Derivation}
@@ -285,7 +286,7 @@ module _ (s : TableSet) (text : List ℕ) (is_machine : IsMachine (machine_of s)
   -- a text that is accepted has a derivation in memory
   pub accepted_with : (forest : Grown) (root : TermRef) (v : Verdict) (x : Derivation) → IsSaidItself s text v
       → IsVerdictOf forest (ended.Accepted root) v → x.forest ≡ forest → x.root ≡ root
-      → AreExtents p text x.tokens.items → IsDerivationOf s text x
+      → AreSpansOf p text x.tokens.items → IsDerivationOf s text x
   accepted_with forest root v x said of same_forest same_root listed =
       let it : IsDerivedAs s text of.0 = subst (IsSaidItself s text) of.1 said in
       let one = one_tokens p (start_of text) it.tokens listed.tokens Clean listed.end it.derived.are_tokens
@@ -294,7 +295,7 @@ module _ (s : TableSet) (text : List ℕ) (is_machine : IsMachine (machine_of s)
         tokens = it.tokens;
         tree = it.tree;
         derived = it.derived;
-        extents = listed.listed ∙ ap (map span_of) (sym one.0);
+        extents = listed.are ∙ ap (map span_of) (sym one.0);
         root = subst (StandsFor x.forest x.root) it.same (subst (λ f. StandsFor f x.root of.0) (sym same_forest)
             (subst (λ r. StandsFor forest r of.0) (sym same_root) of.2));
       }

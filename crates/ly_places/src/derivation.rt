@@ -42,7 +42,8 @@ pub(crate) fn derive<'t>(
     requires rules { map rule_from rules.now ≡ map keeping_rule prepared.now.rules }
     ensures { IsDerived prepared.now text.now result }
 {
-    let mut parser = keeping_parser(prepared.alloc(), prepared.set(), rules);
+    let set = prepared.set();
+    let mut parser = keeping_parser(prepared.alloc(), set, rules);
     match prepared.run(&mut parser, text)? {
         Ended::Accepted(root) => {
             let tokens = prepared.token_spans(text)?;

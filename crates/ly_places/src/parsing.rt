@@ -59,9 +59,10 @@ pub(crate) fn parse_by<'t>(
     ensures faulty { result ≡ Err TextFault.FaultyTables → IsVerdict prepared.now text.now faulty }
     ensures ending { IfErr result IsOfParsing }
 {
+    let set = prepared.set();
     match derive(prepared, rules, text)? {
         Derived::Accepted(derivation) => {
-            let parts = parts_by(prepared.alloc(), prepared.set(), derivation)?;
+            let parts = parts_by(prepared.alloc(), set, derivation)?;
             Ok(Parsed::Tree(parts))
         }
         Derived::Refused(syntax_error) => Ok(Parsed::Refused(syntax_error)),

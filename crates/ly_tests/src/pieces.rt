@@ -7,7 +7,7 @@ ghost use Rattle.std.specs.Prelude.{◌<◌};
 use crate::answers::table_set;
 use crate::memory::{TRIES, give_back, hog, small_blocks};
 use ly_base::OutOfMemory;
-use ly_engine::{AnswerForm, Feed, FeedFault, Need, Outcome, TableSet};
+use ly_engine::{AnswerForm, Feed, FeedFault, Need, Outcome, Prepared, TableSet};
 use std::alloc::Global;
 use std::test::Fail;
 
@@ -25,8 +25,8 @@ const X: &[u8] = b"%%\n\" \" ;\nx return 'x';\n";
 type Answer = (Outcome, Vec<u8>);
 
 /// A feed that has no bytes yet.
-fn new_feed(alloc: Global, set: &TableSet) -> Result<Feed<'_>, OutOfMemory> {
-    Feed::new(alloc, set, AnswerForm::Plain)
+fn new_feed<'a>(prepared: &'a Prepared<'a>) -> Feed<'a> {
+    Feed::new(prepared, AnswerForm::Plain)
 }
 
 /// The result for a chunk that settles the text, if it does.
@@ -64,9 +64,11 @@ fn holds_what_is_not_decided(feed: &mut Feed<'_>) -> Result<bool, Fail> {
 
 /// Whether a new feed holds the undecided bytes, and rejects the end.
 fn is_held(alloc: Global, set: &TableSet) -> Result<bool, Fail> {
-    let mut feed = new_feed(alloc, set)?;
+    let prepared = Prepared::new(alloc, set)?;
+    let mut feed = new_feed(&prepared);
     let held = holds_what_is_not_decided(&mut feed);
     drop(feed);
+    drop(prepared);
     held
 }
 
@@ -104,9 +106,11 @@ fn is_over_once_told(feed: &mut Feed<'_>) -> bool {
 
 /// Whether a new feed returns the syntax error, and is over then.
 fn is_over_behind_the_refusal(alloc: Global, set: &TableSet) -> Result<bool, OutOfMemory> {
-    let mut feed = new_feed(alloc, set)?;
+    let prepared = Prepared::new(alloc, set)?;
+    let mut feed = new_feed(&prepared);
     let over = is_over_once_told(&mut feed);
     drop(feed);
+    drop(prepared);
     Ok(over)
 }
 
@@ -157,9 +161,11 @@ fn sums_are_fed_as_json(alloc: Global) -> Result<bool, Fail> {
 
 /// Whether a new feed of JSON returns it.
 fn json_told(alloc: Global, set: &TableSet) -> Result<bool, OutOfMemory> {
-    let mut feed = Feed::new(alloc, set, AnswerForm::Json)?;
+    let prepared = Prepared::new(alloc, set)?;
+    let mut feed = Feed::new(&prepared, AnswerForm::Json);
     let told = tells_of_the_refusal_as_json(&mut feed);
     drop(feed);
+    drop(prepared);
     Ok(told)
 }
 
@@ -208,11 +214,13 @@ fn taken(feed: &mut Feed<'_>, blanks: &[u8]) -> Result<Option<u32>, Fail> {
 
 /// How many chunks a new feed takes; `None` if there is no memory for the feed.
 fn taken_by_new(alloc: Global, set: &TableSet, blanks: &[u8]) -> Result<Option<u32>, Fail> {
-    let Ok(mut feed) = new_feed(alloc, set) else {
+    let Ok(prepared) = Prepared::new(alloc, set) else {
         return Ok(None);
     };
+    let mut feed = new_feed(&prepared);
     let count = taken(&mut feed, blanks);
     drop(feed);
+    drop(prepared);
     count
 }
 

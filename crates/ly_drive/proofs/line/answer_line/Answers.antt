@@ -7,4 +7,4 @@ returns-clause-stopped g c =
     let before = g.W.Sink.contents c.args.writer.now in
     let after = g.W.Sink.contents c.feed_whole-answered.new.writer in
     subst (λ f. IfErr c.feed_whole-answered.result (IsLineStopped f.form f.set c.args.line.now before after))
-    c.in_ok-feed.ensures c.feed_whole-answered.ensures.stopped
+    c.new-feed.ensures c.feed_whole-answered.ensures.stopped

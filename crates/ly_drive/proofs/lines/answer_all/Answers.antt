@@ -16,7 +16,7 @@ returns-in-Ok-eq0-clause-answered g c =
     let so_far = c.loop-lines.invariant.so_far in
     let none = nothing_came mid end c.in-Ok-eq0.field-0 c.pull.new.buf c.in-Ok-eq0.field-0-test
     (omega (arith, c.loop-lines.invariant.room, c.pull.auto.buf)) c.in-Ok-eq0.ensures.bytes in
-    (all_ended c.args.form c.args.set.now given mid end before after so_far.0 c.end.result so_far.1 none.0 none.1
+    (all_ended c.args.form c.args.prepared.now given mid end before after so_far.0 c.end.result so_far.1 none.0 none.1
     (c.end.ensures.ended so_far.0 before so_far.3)).0
 
 pub returns-in-Ok-eq0-clause-stopped : goal.returns-in-Ok-eq0-clause-stopped
@@ -29,14 +29,14 @@ returns-in-Ok-eq0-clause-stopped g c =
     let so_far = c.loop-lines.invariant.so_far in
     let none = nothing_came mid end c.in-Ok-eq0.field-0 c.pull.new.buf c.in-Ok-eq0.field-0-test
     (omega (arith, c.loop-lines.invariant.room, c.pull.auto.buf)) c.in-Ok-eq0.ensures.bytes in
-    (all_ended c.args.form c.args.set.now given mid end before after so_far.0 c.end.result so_far.1 none.0 none.1
+    (all_ended c.args.form c.args.prepared.now given mid end before after so_far.0 c.end.result so_far.1 none.0 none.1
     (c.end.ensures.ended so_far.0 before so_far.3)).1
 
 pub returns-in-Err-clause-stopped : goal.returns-in-Err-clause-stopped
 returns-in-Err-clause-stopped g c =
     let so_far = c.loop-lines.invariant.so_far in
     let lines = c.loop-lines.lines in
-    stopped_reading c.args.form c.args.set.now (g.R.Source.remaining c.args.reader.now)
+    stopped_reading c.args.form c.args.prepared.now (g.R.Source.remaining c.args.reader.now)
     (g.R.Source.remaining c.loop-lines.reader) (g.W.Sink.contents c.args.writer.now)
     (g.W.Sink.contents c.loop-lines.writer) so_far.0 lines.part.items lines.outcome so_far.1 so_far.3
 
@@ -44,7 +44,7 @@ pub returns-in-None-clause-stopped : goal.returns-in-None-clause-stopped
 returns-in-None-clause-stopped g c =
     let so_far = c.loop-lines.invariant.so_far in
     let lines = c.loop-lines.lines in
-    stopped_reading c.args.form c.args.set.now (g.R.Source.remaining c.args.reader.now)
+    stopped_reading c.args.form c.args.prepared.now (g.R.Source.remaining c.args.reader.now)
     (g.R.Source.remaining c.loop-lines.reader) (g.W.Sink.contents c.args.writer.now)
     (g.W.Sink.contents c.loop-lines.writer) so_far.0 lines.part.items lines.outcome so_far.1 so_far.3
 
@@ -80,7 +80,7 @@ returns-in_err-take-clause-stopped g c =
     let bytes = so_far.0 in
     let piece = take c.in-Ok.count c.pull.new.buf in
     let fault = c.in_err-take.field-0.0 in
-    subst (λ r. IfErr r (AreLinesStopped c.args.form c.args.set.now given before now))
+    subst (λ r. IfErr r (AreLinesStopped c.args.form c.args.prepared.now given before now))
     (handed_on c.from_residual.result fault c.from_residual.ensures.1) (
       (bytes ++ piece) ++ left after,
       unread_text given after (bytes ++ piece)

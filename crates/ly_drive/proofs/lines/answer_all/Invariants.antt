@@ -9,7 +9,7 @@ abbrev pub invariant-loop-lines : goal.invariant-loop-lines
 invariant-loop-lines g l = let source = g.R.Source in let sink = g.W.Sink in record {
   so_far : (bytes : List ℕ) × Consumes (source.remaining l.initial.reader) (source.remaining l.reader) bytes
       × (l.seen ≡ length bytes)
-      × IsAnsweredSoFar l.form l.set bytes (sink.contents l.initial.writer) (sink.contents l.writer)
+      × IsAnsweredSoFar l.form l.prepared bytes (sink.contents l.initial.writer) (sink.contents l.writer)
       l.lines.part.items l.lines.outcome;
   read : source.failures l.reader ≡ source.failures l.initial.reader;
   held : sink.failures l.writer ≡ sink.failures l.initial.writer;

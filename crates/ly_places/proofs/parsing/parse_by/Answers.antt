@@ -7,7 +7,7 @@ use Rattle.ly_places.proofs.parsing.parse_by.Goals as goal
 
 pub returns-in_ok-parts-in-Accepted-clause-parsed : goal.returns-in_ok-parts-in-Accepted-clause-parsed
 returns-in_ok-parts-in-Accepted-clause-parsed c =
-    let s = c.args.set.now in
+    let s = c.args.prepared.now in
     let text = c.args.text.now in
     let x = c.in-Accepted.derivation in
     let h : IsDerivationOf s text x
@@ -19,7 +19,7 @@ returns-in_ok-parts-in-Accepted-clause-parsed c =
 
 pub returns-in-Refused-clause-parsed : goal.returns-in-Refused-clause-parsed
 returns-in-Refused-clause-parsed c =
-    let s = c.args.set.now in
+    let s = c.args.prepared.now in
     let text = c.args.text.now in
     placed_syntax_error s text c.in-Refused.syntax_error
     (subst (λ d. IsDerived s text (Ok d)) c.in-Refused.is c.in_ok-derivation.ensures)

@@ -8,7 +8,7 @@ use Rattle.ly_drive.proofs.lines.Lines.end.Goals as goal
 
 pub returns-then-is_empty-clause-ended : goal.returns-then-is_empty-clause-ended
 returns-then-is_empty-clause-ended g c text before h =
-    ended_whole c.args.form c.args.set.now before text (g.W.Sink.contents c.args.writer.now) c.args.self.part.items
+    ended_whole c.args.form c.args.prepared.now before text (g.W.Sink.contents c.args.writer.now) c.args.self.part.items
     c.args.self.outcome h
     (nil_from_length c.args.self.part.items (omega (
       arith,
@@ -21,7 +21,7 @@ returns-in_err-outcome-clause-ended g c text before h =
     let now = g.W.Sink.contents c.args.writer.now in
     let after = g.W.Sink.contents c.answer_line.new.writer in
     let form = c.args.form in
-    let s = c.args.set.now in
+    let s = c.args.prepared.now in
     let part = c.args.self.part.items in
     let fault = c.in_err-outcome.field-0.0 in
     subst (AreEnded form s text before after) (handed_on c.from_residual.result fault c.from_residual.ensures.1)
@@ -35,7 +35,7 @@ returns-clause-ended g c text before h =
     let now = g.W.Sink.contents c.args.writer.now in
     let after = g.W.Sink.contents c.answer_line.new.writer in
     let form = c.args.form in
-    let s = c.args.set.now in
+    let s = c.args.prepared.now in
     let part = c.args.self.part.items in
     let o = c.in_ok-outcome.outcome in
     ended_in_line form s before text now part c.args.self.outcome h after o c.with.result

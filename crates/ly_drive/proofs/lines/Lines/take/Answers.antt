@@ -9,7 +9,7 @@ pub returns-in_err-take_byte-clause-taken : goal.returns-in_err-take_byte-clause
 returns-in_err-take_byte-clause-taken g c front before h =
     let now = g.W.Sink.contents c.take_byte.new.writer in
     let form = c.args.form in
-    let s = c.args.set.now in
+    let s = c.args.prepared.now in
     let bytes = c.args.bytes.now in
     let lines = c.take_byte.new.self in
     let i = c.loop-byte.byte-index in

@@ -6,9 +6,9 @@ use Rattle.ly_drive.proofs.lines.Lines.take.Given as goal
 abbrev pub invariant-loop-byte : goal.invariant-loop-byte
 invariant-loop-byte g l = let sink = g.W.Sink in record {
   taken : (front : List ℕ) (before : Option (List ℕ))
-      → IsAnsweredSoFar l.form l.set front before (sink.contents l.initial.writer) l.initial.self.part.items
+      → IsAnsweredSoFar l.form l.prepared front before (sink.contents l.initial.writer) l.initial.self.part.items
       l.initial.self.outcome
-      → IsAnsweredSoFar l.form l.set (front ++ take l.byte-index l.bytes) before (sink.contents l.writer)
+      → IsAnsweredSoFar l.form l.prepared (front ++ take l.byte-index l.bytes) before (sink.contents l.writer)
       l.self.part.items l.self.outcome;
   held : sink.failures l.writer ≡ sink.failures l.initial.writer;
 }

@@ -6,13 +6,13 @@ use Rattle.ly_drive.proofs.lines.Lines.take_byte.Goals as goal
 
 pub returns-in-Ok-clause-taken : goal.returns-in-Ok-clause-taken
 returns-in-Ok-clause-taken g c front before h =
-    part_grows c.args.form c.args.set.now before front (g.W.Sink.contents c.args.writer.now) c.args.self.now.part.items
+    part_grows c.args.form c.args.prepared.now before front (g.W.Sink.contents c.args.writer.now) c.args.self.now.part.items
     c.args.self.now.outcome h c.args.byte c.push.new.self.items c.if-byte-ne10.true
     c.in-Ok.ensures.items
 
 pub returns-in-Err-clause-taken : goal.returns-in-Err-clause-taken
 returns-in-Err-clause-taken g c front before h rest =
-    stopped_behind c.args.form c.args.set.now before front (g.W.Sink.contents c.args.writer.now)
+    stopped_behind c.args.form c.args.prepared.now before front (g.W.Sink.contents c.args.writer.now)
     c.args.self.now.part.items c.args.self.now.outcome h _ (c.args.byte ∷ rest)
     (append_assoc front (c.args.byte ∷ []) rest)
 
@@ -21,7 +21,7 @@ returns-in_err-outcome-clause-taken g c front before h =
     let now = g.W.Sink.contents c.args.writer.now in
     let after = g.W.Sink.contents c.answer_line.new.writer in
     let form = c.args.form in
-    let s = c.args.set.now in
+    let s = c.args.prepared.now in
     let lines = c.args.self.now in
     let fault = c.in_err-outcome.field-0.0 in
     subst (AreTaken form s (front ++ c.args.byte ∷ []) before after lines.part.items lines.outcome)
@@ -35,7 +35,7 @@ returns-clause-taken g c front before h =
     let now = g.W.Sink.contents c.args.writer.now in
     let after = g.W.Sink.contents c.answer_line.new.writer in
     let form = c.args.form in
-    let s = c.args.set.now in
+    let s = c.args.prepared.now in
     let lines = c.args.self.now in
     let o = c.in_ok-outcome.outcome in
     line_answered form s before front now lines.part.items lines.outcome h after o c.args.byte
