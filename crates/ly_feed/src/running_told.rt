@@ -132,7 +132,7 @@ fn take_told(
 
 /// The first byte.
 #[inline(always)] // like `run_told`
-fn first_of(text: &Front<'_>) -> u8
+pub(crate) fn first_of(text: &Front<'_>) -> u8
     requires { 0 < length text.now }
     ensures { result ≡ slice_index text.now 0 }
 {

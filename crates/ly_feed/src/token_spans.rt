@@ -6,8 +6,10 @@ ghost use Rattle.ly_feed.specs.ScanPart.{scan_part_of};
 ghost use Rattle.ly_feed.specs.TokenSpans.{AreSpansOf};
 
 use crate::meaning::{action, terminal};
+use crate::running_told::first_of;
 use crate::told::told_terminal;
 use ly_base::{OutOfMemory, Place, ScanAction};
+use ly_print::Front;
 use ly_scan::{KnownWalks, Lexer};
 use ly_spans::Span;
 use ly_tables::TableSet;
@@ -66,10 +68,11 @@ fn told_spans(
     ensures ahead { OnOk result (IsAhead place.old place.new) }
 {
     while let Some(told) = lexer.tell(facts, place, known) {
+        let text = Front::new(place.rest(), told.taken);
+        let has_token = told_terminal(set.literals(), told.fact, first_of(&text)).is_some();
         let start = place.at();
-        let first = place.rest()[0];
         place.advance(told.taken, None);
-        if told_terminal(set.literals(), told.fact, first).is_some() {
+        if has_token {
             let end = place.at();
             spans.push(Span { start, end })?;
         }

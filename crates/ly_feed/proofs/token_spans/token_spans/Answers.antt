@@ -11,8 +11,8 @@ use Rattle.ly_feed.proofs.token_spans.token_spans.Goals as goal
 use Rattle.ly_scan.specs.KnownWalks.{AreKnown}
 use Rattle.ly_scan.specs.StateTable.{ahead_in}
 
-pub loop-lexeme-init : goal.loop-lexeme-init
-loop-lexeme-init c =
+pub loop-spans-init : goal.loop-spans-init
+loop-spans-init c =
     let p = scan_part_of c.args.set.now in
     let start = start_of c.args.text.now in record {
       listed = subst (AreListed p start c.new-spans.result.items) (sym c.start-place.ensures)
@@ -27,14 +27,14 @@ returns-in-Err c =
     let start = start_of c.args.text.now in
     all_listed p l c.args.text.now c.told_spans.new.spans.items c.next.new.place c.in-Err.field-0 c.requires.lexer
     (listed_over p l start c.told_spans.new.place c.next.new.place c.told_spans.new.spans.items c.requires.lexer
-    (c.in_ok-told_spans.ensures.listed start c.loop-lexeme.invariant.listed) c.next.ensures.passed) c.in-Err.ensures.end
+    (c.in_ok-told_spans.ensures.listed start c.loop-spans.invariant.listed) c.next.ensures.passed) c.in-Err.ensures.end
 
 pub unreachable-requires : goal.unreachable-requires
 unreachable-requires c =
     always_decided c.in-Ok-None.field-0 _ _ c.in-Ok-None.ensures.found c.in-Ok-None.field-0-is
 
-pub loop-lexeme-preserved-then-not-has_token : goal.loop-lexeme-preserved-then-not-has_token
-loop-lexeme-preserved-then-not-has_token c =
+pub loop-spans-preserved-then-not-has_token : goal.loop-spans-preserved-then-not-has_token
+loop-spans-preserved-then-not-has_token c =
     let p = scan_part_of c.args.set.now in
     let l = c.args.lexer.now in
     let start = start_of c.args.text.now in
@@ -50,14 +50,14 @@ loop-lexeme-preserved-then-not-has_token c =
     (sym c.is_some-has_token.ensures ∙ c.if-not-has_token.true) in record {
       listed = subst (AreListed p start extents) (sym there)
           (listed_behind p start q extents t (stands_here true (scanner_in p) q t fast) none
-          (listed_over p l start c.told_spans.new.place q extents c.requires.lexer (c.in_ok-told_spans.ensures.listed start c.loop-lexeme.invariant.listed)
+          (listed_over p l start c.told_spans.new.place q extents c.requires.lexer (c.in_ok-told_spans.ensures.listed start c.loop-spans.invariant.listed)
           c.next.ensures.passed));
       known = subst (λ x. AreKnown (ahead_in l.scanner) true x.rest c.next.new.known) (sym there)
           (c.next.ensures.known t.taken fast.within);
     }
 
-pub loop-lexeme-preserved : goal.loop-lexeme-preserved
-loop-lexeme-preserved c =
+pub loop-spans-preserved : goal.loop-spans-preserved
+loop-spans-preserved c =
     let p = scan_part_of c.args.set.now in
     let l = c.args.lexer.now in
     let start = start_of c.args.text.now in
@@ -77,7 +77,7 @@ loop-lexeme-preserved c =
       listed = subst (AreListed p start c.push.new.self.items) (sym there)
           (subst (λ xs. AreListed p start xs (place_after (condition_in p) q t)) (sym items)
           (listed_with p start q extents t some.0 (stands_here true (scanner_in p) q t fast) fast.within some.1
-          (listed_over p l start c.told_spans.new.place q extents c.requires.lexer (c.in_ok-told_spans.ensures.listed start c.loop-lexeme.invariant.listed)
+          (listed_over p l start c.told_spans.new.place q extents c.requires.lexer (c.in_ok-told_spans.ensures.listed start c.loop-spans.invariant.listed)
           c.next.ensures.passed)));
       known = subst (λ x. AreKnown (ahead_in l.scanner) true x.rest c.next.new.known) (sym there)
           (c.next.ensures.known t.taken fast.within);

@@ -8,11 +8,11 @@ use Rattle.ly_scan.specs.KnownWalks.{AreKnown}
 use Rattle.ly_scan.specs.StateTable.{ahead_in}
 
 -- the tokens before the place are listed, and what is known of walks is so there
-abbrev pub invariant-loop-lexeme : goal.invariant-loop-lexeme
-invariant-loop-lexeme l = record {
+abbrev pub invariant-loop-spans : goal.invariant-loop-spans
+invariant-loop-spans l = record {
   listed : AreListed (scan_part_of l.fn.set) (start_of l.fn.text) l.spans.items l.place;
   known : AreKnown (ahead_in l.fn.lexer.scanner) true l.place.rest l.known;
 }
 
-abbrev pub decreases-loop-lexeme : goal.decreases-loop-lexeme
-decreases-loop-lexeme l = length l.place.rest
+abbrev pub decreases-loop-spans : goal.decreases-loop-spans
+decreases-loop-spans l = length l.place.rest
