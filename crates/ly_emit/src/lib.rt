@@ -22,7 +22,9 @@ mod set;
 mod steady_tables;
 mod tables;
 
-pub use laws::{runs_follow, shapes_are_of_rules, shapes_are_within, tables_are_one, tables_follow};
+pub use laws::{
+    runs_follow, shapes_are_of_rules, shapes_are_within, tables_are_one, tables_follow,
+};
 pub use set::table_set;
 pub use steady_tables::steady_machine;
 pub use tables::machine;

@@ -30,19 +30,19 @@ none_before (t ∷ before) all e =
 module _ (version : Version) (limits : Sizes) (lex yacc : List ℕ) (set : TableSet)
     (g : IsGenerated version limits lex yacc set) (text : List ℕ) (tokens : List (Token ℕ))
     (all : AreOf g.generated.automaton tokens) (d : Tree) (derives : Derives (machine_of set) tokens (end_of text) d)
-    where
-  -- the reference machine accepts the tokens with the tree
-  pub run : AcceptsWith g.generated.automaton.grammar (judge_of g.spec) (tokens ++ end_of text ∷ []) d
-  run = derives_too version g.specifies.file g.specifies.written g.spec set g.generated text tokens d all derives
+  where
+    -- the reference machine accepts the tokens with the tree
+    pub run : AcceptsWith g.generated.automaton.grammar (judge_of g.spec) (tokens ++ end_of text ∷ []) d
+    run = derives_too version g.specifies.file g.specifies.written g.spec set g.generated text tokens d all derives
 
-  -- and the placed term is that of the specification's rules, from the start of the text
-  pub placed_so : (before : List (Token ℕ)) (t : Placed) → tokens ≡ before ++ yield_of d → yield_of d ≡ tokens
-      → t ≡ placed (shape_of_rule set.rules) (end_behind before) d → t ≡ placed (shape_in g.spec) 0 d
-  placed_so before t yields whole stands =
-      let none : before ≡ [] = none_before before tokens (yields ∙ ap (λ ts. before ++ ts) whole) in
-      stands ∙ (ap (λ ts. placed (shape_of_rule set.rules) (end_behind ts) d) none
-      ∙ placed_alike (shape_of_rule set.rules) (shape_in g.spec) 0 d
-      (same_shapes version g.specifies.file g.specifies.written g.spec set g.generated text tokens d run))
+    -- and the placed term is that of the specification's rules, from the start of the text
+    pub placed_so : (before : List (Token ℕ)) (t : Placed) → tokens ≡ before ++ yield_of d → yield_of d ≡ tokens
+        → t ≡ placed (shape_of_rule set.rules) (end_behind before) d → t ≡ placed (shape_in g.spec) 0 d
+    placed_so before t yields whole stands =
+        let none : before ≡ [] = none_before before tokens (yields ∙ ap (λ ts. before ++ ts) whole) in
+        stands ∙ (ap (λ ts. placed (shape_of_rule set.rules) (end_behind ts) d) none
+        ∙ placed_alike (shape_of_rule set.rules) (shape_in g.spec) 0 d
+        (same_shapes version g.specifies.file g.specifies.written g.spec set g.generated text tokens d run))
 
 pub spans_of_derivations : SpansAreOfDerivations
 spans_of_derivations version limits lex yacc set g text t h =

@@ -206,9 +206,12 @@ module _ (version : Version) (file : LexFile) (w : Written) (s : Spec) (set : Ta
       × (d ≡ build (shape_in s) tree)
   accepts_too tokens last d all reads feeds =
       let built = accepted_terms_are_built (machine_of set) tokens (end_of text) last d reads feeds in
-      let run = derives_too tokens built.0 all built.1 in
-      (built.0, run, built.2 ∙ build_alike (shape_of_rule (machine_of set).rules) (shape_in s) built.0
-      (same_shapes tokens built.0 run))
+      let run = derives_too tokens built.0 all built.1 in (
+        built.0,
+        run,
+        built.2 ∙ build_alike (shape_of_rule (machine_of set).rules) (shape_in s) built.0
+            (same_shapes tokens built.0 run),
+      )
 
   -- what they refuse behind others it refuses there, and would read next what they expect
   pub refuses_too : (before behind : List (Token ℕ)) (t : Token ℕ) (last : List Level) (ts : List ℕ)

@@ -109,14 +109,14 @@ loop-told-preserved c =
     let spans = c.loop-told.spans.items in
     let none = none_terminal c.told_terminal.result (terminal_in p is.lexeme.rule.0 (take is.lexeme.taken q.rest))
     terminal (sym c.is_some-has_token.ensures ∙ c.if-has_token.false) in record {
-        listed = λ start h. subst (AreListed p start spans) (sym there)
-            (listed_behind p start q spans is.lexeme (stands_here false (scanner_in p) q is.lexeme is.stands) none
-            (listed_over p l start c.loop-told.place q spans c.requires.lexer
-            (c.loop-told.invariant.listed start h) c.tell.ensures.passed));
-        ahead = ahead_on c.args.place.now q c.advance.new.self told.taken
-            (ahead_over l c.args.place.now c.loop-told.place q c.loop-told.invariant.ahead c.tell.ensures.passed
-            c.tell.ensures.left) (omega (arith, is.stands.within, is.taken)) c.advance.ensures;
-      }
+      listed = λ start h. subst (AreListed p start spans) (sym there)
+          (listed_behind p start q spans is.lexeme (stands_here false (scanner_in p) q is.lexeme is.stands) none
+          (listed_over p l start c.loop-told.place q spans c.requires.lexer
+          (c.loop-told.invariant.listed start h) c.tell.ensures.passed));
+      ahead = ahead_on c.args.place.now q c.advance.new.self told.taken
+          (ahead_over l c.args.place.now c.loop-told.place q c.loop-told.invariant.ahead c.tell.ensures.passed
+          c.tell.ensures.left) (omega (arith, is.stands.within, is.taken)) c.advance.ensures;
+    }
 
 pub loop-told-preserved-in-Continue-1 : goal.loop-told-preserved-in-Continue-1
 loop-told-preserved-in-Continue-1 c =
@@ -136,15 +136,15 @@ loop-told-preserved-in-Continue-1 c =
     let end = c.at-end.ensures ∙ ap (λ x. x.at) there in
     let items = c.in_ok-push.ensures.items
     ∙ (λ i. spans ++ record { start = c.at-start.ensures i; end = end i } ∷ []) in record {
-        listed = λ start h. subst (AreListed p start c.push.new.self.items) (sym there)
-            (subst (λ xs. AreListed p start xs (place_after (condition_in p) q is.lexeme)) (sym items)
-            (listed_with p start q spans is.lexeme some.0 (stands_here false (scanner_in p) q is.lexeme is.stands)
-            is.stands.within some.1 (listed_over p l start c.loop-told.place q spans c.requires.lexer
-            (c.loop-told.invariant.listed start h) c.tell.ensures.passed)));
-        ahead = ahead_on c.args.place.now q c.advance.new.self told.taken
-            (ahead_over l c.args.place.now c.loop-told.place q c.loop-told.invariant.ahead c.tell.ensures.passed
-            c.tell.ensures.left) (omega (arith, is.stands.within, is.taken)) c.advance.ensures;
-      }
+      listed = λ start h. subst (AreListed p start c.push.new.self.items) (sym there)
+          (subst (λ xs. AreListed p start xs (place_after (condition_in p) q is.lexeme)) (sym items)
+          (listed_with p start q spans is.lexeme some.0 (stands_here false (scanner_in p) q is.lexeme is.stands)
+          is.stands.within some.1 (listed_over p l start c.loop-told.place q spans c.requires.lexer
+          (c.loop-told.invariant.listed start h) c.tell.ensures.passed)));
+      ahead = ahead_on c.args.place.now q c.advance.new.self told.taken
+          (ahead_over l c.args.place.now c.loop-told.place q c.loop-told.invariant.ahead c.tell.ensures.passed
+          c.tell.ensures.left) (omega (arith, is.stands.within, is.taken)) c.advance.ensures;
+    }
 
 pub returns-clause-listed : goal.returns-clause-listed
 returns-clause-listed c start h =
