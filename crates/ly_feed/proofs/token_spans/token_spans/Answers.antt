@@ -82,3 +82,9 @@ loop-spans-preserved c =
       known = subst (λ x. AreKnown (ahead_in l.scanner) true x.rest c.next.new.known) (sym there)
           (c.next.ensures.known t.taken fast.within);
     }
+
+pub next-requires : goal.next-requires
+next-requires c = record {
+  known = c.in_ok-told_spans.ensures.ahead.known (ahead_in c.args.lexer.now.scanner) c.loop-spans.known true
+      c.loop-spans.invariant.known;
+}
