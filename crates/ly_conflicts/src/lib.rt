@@ -29,6 +29,7 @@ mod queue;
 mod reading;
 mod suggestions;
 mod trees;
+mod trial;
 mod waiting;
 mod ways;
 mod yields;

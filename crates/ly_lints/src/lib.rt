@@ -5,6 +5,7 @@
 //! Which of it deserves a warning, and the wording, is only tested.
 #![tactic(auto)]
 
+mod definitions;
 mod hiding;
 mod lex_lints;
 mod lint;

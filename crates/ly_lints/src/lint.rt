@@ -30,6 +30,10 @@ pub enum LintKind<'a> {
     UnsetCondition(&'a [u8]),
     /// No rule is active in this condition.
     IdleCondition(&'a [u8]),
+    /// Once it is set, no action sets another condition.
+    EndlessCondition(&'a [u8]),
+    /// No rule uses this definition.
+    UnusedDefinition(&'a [u8]),
     /// A pattern has another meaning than it may seem to have.
     PatternLint {
         /// The construct with that meaning.
@@ -63,8 +67,8 @@ pub enum LintKind<'a> {
     DeclaredAgain {
         /// The token.
         symbol: &'a SymbolName,
-        /// The line of its first declaration.
-        first: u64,
+        /// The location of its first declaration.
+        first: Location,
     },
     /// The precedence of this terminal has no effect.
     IdlePrecedence(Sym),

@@ -49,6 +49,14 @@ pub fn write_kind(buffer: &mut TextBuffer, files: &Analysis<'_>, kind: &LintKind
         LintKind::IdleCondition(name) => {
             write_about(buffer, b"no rule is active in the start condition ", name)
         }
+        LintKind::EndlessCondition(name) => write_about(
+            buffer,
+            b"no rule that is active in it leaves the start condition ",
+            name,
+        ),
+        LintKind::UnusedDefinition(name) => {
+            write_about(buffer, b"no rule uses the definition ", name)
+        }
         LintKind::PatternLint { pattern_lint, .. } => write_pattern_lint(buffer, *pattern_lint),
         LintKind::IndentedLine => {
             buffer.push(b"this line begins with a blank, so it isn't a rule and is ignored")
@@ -140,12 +148,11 @@ fn write_of_terminal(buffer: &mut TextBuffer, files: &Analysis<'_>, kind: &LintK
             buffer.push(b" is used in no rule");
         }
         LintKind::MoreUnused(count) => {
-            write_numbered(
-                buffer,
-                b"",
-                *count as u64,
-                b" more terminals are used in no rule",
+            let (one, many) = (
+                b"more terminal is used in no rule",
+                b"more terminals are used in no rule",
             );
+            buffer.push_count(*count, one, many);
         }
         LintKind::UnreturnedTerminal(terminal) => {
             buffer.push_terminal(spec, *terminal);
@@ -153,19 +160,18 @@ fn write_of_terminal(buffer: &mut TextBuffer, files: &Analysis<'_>, kind: &LintK
             buffer.push(files.lex.name.as_bytes());
         }
         LintKind::MoreUnreturned(count) => {
-            write_numbered(
-                buffer,
-                b"",
-                *count as u64,
-                b" more terminals are never returned",
+            let (one, many) = (
+                b"more terminal is never returned",
+                b"more terminals are never returned",
             );
+            buffer.push_count(*count, one, many);
         }
         LintKind::DeclaredAgain { symbol, first } => {
             match symbol {
                 SymbolName::Name(name) => buffer.push(name),
                 SymbolName::Literal(byte) => buffer.push_byte(*byte),
             }
-            write_numbered(buffer, b" is already declared on line ", *first, b"");
+            write_numbered(buffer, b" is already declared on line ", first.line, b"");
         }
         LintKind::IdlePrecedence(terminal) => {
             buffer.push(b"the precedence of ");
@@ -222,6 +228,8 @@ pub fn name_of(kind: &LintKind<'_>) -> &'static [u8] {
     match kind {
         LintKind::UnsetCondition(_) => b"UnsetCondition",
         LintKind::IdleCondition(_) => b"IdleCondition",
+        LintKind::EndlessCondition(_) => b"EndlessCondition",
+        LintKind::UnusedDefinition(_) => b"UnusedDefinition",
         LintKind::PatternLint { pattern_lint, .. } => name_of_pattern_lint(*pattern_lint),
         LintKind::IndentedLine => b"IndentedLine",
         LintKind::UnmatchedRule(_) => b"UnmatchedRule",
@@ -249,5 +257,10 @@ fn name_of_pattern_lint(pattern_lint: PatternLint) -> &'static [u8] {
         PatternLint::Interval => b"IntervalOfAll",
         PatternLint::LineEnd => b"NewlineBehind",
         PatternLint::EndOfFile => b"EndOfFile",
+        PatternLint::SingleQuotes => b"SingleQuotes",
+        PatternLint::BareName => b"BareName",
+        PatternLint::BareClass => b"BareClass",
+        PatternLint::MixedRange => b"MixedRange",
+        PatternLint::Invisible => b"InvisibleCharacter",
     }
 }

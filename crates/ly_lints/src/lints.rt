@@ -169,7 +169,7 @@ impl<'a> Finder<'a> {
         for again in first_of(&places.declared_again(alloc)?, MOST) {
             let kind = LintKind::DeclaredAgain {
                 symbol: again.symbol,
-                first: locate(text, again.first).line,
+                first: locate(text, again.first),
             };
             self.add(Some(locate(text, again.offset)), kind)?;
         }
