@@ -16,6 +16,6 @@ mod patterns;
 mod useless;
 
 pub use lint::{Hiding, Lint, LintKind, Side, Uselessness};
-pub use lint_messages::{file_of, name_of, write_kind, write_lint};
+pub use lint_messages::{file_of, name_of, write_kind, write_lints};
 pub use lints::lints_of;
 pub use patterns::PatternLint;

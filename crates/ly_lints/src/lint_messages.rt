@@ -11,6 +11,9 @@ use ly_yaccread::SymbolName;
 /// The greatest number of rules that are named as the reason why another one never matches.
 const NAMED: usize = 5;
 
+/// The greatest number of warnings of a file whose source lines are shown.
+const SHOWN: usize = 20;
+
 /// The file of a side.
 pub fn file_of<'a>(files: &Analysis<'a>, side: Side) -> NamedFile<'a> {
     match side {
@@ -19,8 +22,22 @@ pub fn file_of<'a>(files: &Analysis<'a>, side: Side) -> NamedFile<'a> {
     }
 }
 
-/// Prints a warning on a line: the file, the location, `warning: `, and the message. For a pattern its line follows.
-pub fn write_lint(buffer: &mut TextBuffer, files: &Analysis<'_>, lint: &Lint<'_>) {
+/// Prints warnings, each on a line. The source lines of the first ones of each file follow them, with a caret.
+pub fn write_lints(buffer: &mut TextBuffer, files: &Analysis<'_>, lints: &[Lint<'_>]) {
+    let (mut lex, mut yacc) = (0, 0);
+    for lint in lints {
+        let count: &mut usize = match lint.side {
+            Side::Lex => &mut lex,
+            Side::Yacc => &mut yacc,
+        };
+        write_lint(buffer, files, lint, *count < SHOWN);
+        *count = count.saturating_add(1);
+    }
+}
+
+/// Prints a warning on a line: the file, the location, `warning: `, and the message. If the source line is to be shown
+/// it follows. That of a pattern always does.
+fn write_lint(buffer: &mut TextBuffer, files: &Analysis<'_>, lint: &Lint<'_>, is_shown: bool) {
     let file = file_of(files, lint.side);
     match lint.at {
         Some(at) => buffer.push_location_in(file, at),
@@ -35,6 +52,8 @@ pub fn write_lint(buffer: &mut TextBuffer, files: &Analysis<'_>, lint: &Lint<'_>
     if let LintKind::PatternLint { line, offset, .. } = &lint.kind {
         // Only this line is passed, so that it isn't searched from the start of the file.
         buffer.push_excerpt(NamedFile::new(file.name, line), locate(line, *offset));
+    } else if let (Some(at), true) = (lint.at, is_shown) {
+        buffer.push_excerpt(file, at);
     }
 }
 
