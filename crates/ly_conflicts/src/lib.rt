@@ -11,6 +11,7 @@
 #![tactic(auto)]
 
 mod ambiguity;
+mod begins;
 mod brackets;
 mod claims;
 mod common;
