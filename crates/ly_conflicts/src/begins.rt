@@ -44,7 +44,7 @@ impl Begins {
             nullable: Vec::new(alloc),
         };
         for number in 0..=last {
-            begins.nullable.push(reduced.is_nullable(Sym(number)))?;
+            begins.nullable.push(is_nullable(reduced, Sym(number)))?;
         }
         for _ in 0..ROUNDS {
             if !begins.shorten(reduced) {
@@ -57,8 +57,9 @@ impl Begins {
     /// Records each rule by which its left side begins with the terminal sooner than by those that are known. Returns
     /// whether there was one.
     fn shorten(&mut self, reduced: &Reduced<'_>) -> bool {
+        let rules = reduced.grammar().rules();
         let mut shortened = false;
-        for (number, rule) in reduced.grammar().rules().iter().enumerate() {
+        for (number, rule) in rules.iter().enumerate() {
             if reduced.is_kept(number)
                 && let Some((passed, depth)) = self.soonest_in(rule.body())
             {
@@ -98,10 +99,11 @@ impl Begins {
     fn soonest_in(&self, symbols: &[Symbol]) -> Option<(usize, usize)> {
         let mut soonest: Option<(usize, usize)> = None;
         for (place, symbol) in symbols.iter().enumerate() {
-            if let Some(depth) = self.depth_of(*symbol)
-                && soonest.is_none_or(|(_, least)| depth < least)
-            {
-                soonest = Some((place, depth));
+            if let Some(depth) = self.depth_of(*symbol) {
+                soonest = match soonest {
+                    Some((_, least)) if least <= depth => soonest,
+                    _ => Some((place, depth)),
+                };
             }
             if !self.is_nullable(*symbol) {
                 break;
@@ -130,6 +132,11 @@ impl Begins {
     pub(crate) fn beginning_of(&self, left: Sym) -> Option<Beginning> {
         *self.rules.get(left.0 as usize)?
     }
+}
+
+/// Whether a nonterminal derives the empty string; false for a number without a nonterminal.
+fn is_nullable(reduced: &Reduced<'_>, number: Sym) -> bool {
+    number.0 <= reduced.grammar().accept().0 && reduced.is_nullable(number)
 }
 
 /// The symbols of a rule's body before the one that begins with the terminal, that one, and those after it.

@@ -204,11 +204,7 @@ impl Teller<'_> {
     {
         let conflict = self.conflict(group.conflicts[0]);
         let shown = self.shown(alloc, &conflict, group, finder)?;
-        let other = if shown.lacks_sentence() {
-            self.other_sentence(alloc, &group.conflicts, finder)?
-        } else {
-            None
-        };
+        let other = self.other(alloc, group, &shown, finder)?;
         Ok(GroupReport {
             conflict,
             terminals: self.terminals(alloc, &group.conflicts)?,
@@ -216,6 +212,25 @@ impl Teller<'_> {
             shown,
             other,
         })
+    }
+
+    /// A sentence of another conflict of a group, if none was found for the first.
+    fn other(
+        &self,
+        alloc: Global,
+        group: &Group,
+        shown: &Shown<'_>,
+        finder: &mut Finder<'_>,
+    ) -> Result<Option<OtherSentence>, OutOfMemory>
+        requires group { IsGroup self.now.examples.now group.now }
+        requires same { finder.old.examples.now ≡ self.now.examples.now }
+        ensures other { IfOk result (IsOtherIn self.now.examples.now group.now.conflicts.items) }
+        ensures stays { finder.new.examples ≡ finder.old.examples }
+    {
+        if !shown.lacks_sentence() {
+            return Ok(None);
+        }
+        self.other_sentence(alloc, &group.conflicts, finder)
     }
 
     /// A sentence with two trees that take the two actions of a conflict with one of these indices, which isn't the
@@ -228,7 +243,7 @@ impl Teller<'_> {
     ) -> Result<Option<OtherSentence>, OutOfMemory>
         requires indices { (i : ℕ) → Contains group.now i → i < length self.now.examples.now.conflicts }
         requires same { finder.old.examples.now ≡ self.now.examples.now }
-        ensures other { IfOk result (λ other. IsOtherIn self.now.examples.now group.now other) }
+        ensures other { IfOk result (IsOtherIn self.now.examples.now group.now) }
         ensures stays { finder.new.examples ≡ finder.old.examples }
     {
         let most = share_of(group.len());

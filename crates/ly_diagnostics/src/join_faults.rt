@@ -9,7 +9,7 @@ use crate::pieces::behind_piece;
 use crate::short::Short;
 use crate::yacc_advice::FURTHER_BODY;
 use crate::yacc_faults::MendedYacc;
-use crate::yacc_offsets::{ends_body_line, given_offset, symbol_location};
+use crate::yacc_offsets::{ends_body, given_offset, symbol_location};
 use ly_base::{Language, Limits, Location, OutOfMemory, after_gap, locate};
 use ly_generate::GenFault;
 use ly_join::{JoinFault, TerminalName, join};
@@ -120,7 +120,7 @@ impl Joining<'_> {
             return Ok(Some(self.leave_one_out(alloc, terminal)?));
         }
         if let JoinFault::TokenOnLeft(name) = fault
-            && ends_body_line(&self.yacc.file, &self.yacc.text, name)
+            && ends_body(&self.yacc.file, &self.yacc.text, name)
         {
             return Ok(Some(Advice::Words(FURTHER_BODY)));
         }

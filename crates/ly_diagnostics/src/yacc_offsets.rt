@@ -73,17 +73,18 @@ fn left_side_offset(file: &YaccFile, name: &[u8]) -> Option<usize> {
     Some(file.rule_offsets.get(rule)?.left as usize)
 }
 
-/// Whether the first left side with this name follows other words on its line, and its `:` is on a later line. Then the
-/// name was meant as the last symbol of a body, and the `:` as a `|`.
-pub(crate) fn ends_body_line(file: &YaccFile, text: &[u8], name: &[u8]) -> bool {
+/// Whether the first left side with this name follows another word on its line, which isn't a `;`. Then the name was
+/// meant as the last symbol of a body, and the `:` as a `|`.
+pub(crate) fn ends_body(file: &YaccFile, text: &[u8], name: &[u8]) -> bool {
     let Some(offset) = left_side_offset(file, name) else {
         return false;
     };
     let start = offset.saturating_sub(bytes_before(locate(text, offset)));
     let line = text.get(start..offset).unwrap_or_default();
-    let behind = from_offset(text, offset.saturating_add(name.len()));
-    let gap = behind.split(|byte| *byte == b':').next().unwrap_or(behind);
-    line.iter().any(|byte| !is_blank(*byte)) && gap.contains(&b'\n')
+    match line.iter().rev().find(|byte| !is_blank(**byte)) {
+        Some(last) => !matches!(*last, b';' | b'%' | b'/'),
+        None => false,
+    }
 }
 
 /// The offset of the first body that contains this name.
