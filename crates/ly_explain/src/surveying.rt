@@ -85,9 +85,9 @@ fn said_of(
     let lints = lints_of(alloc, *files, &places, options)?;
     let mut buffer = TextBuffer::new(alloc);
     if options.json {
-        write_json(alloc, &mut buffer, files, &places, &lints, options)?;
+        write_json(alloc, &mut buffer, files, &places, &lints.list, options)?;
     } else {
-        write_all(alloc, &mut buffer, files, &places, &lints, options)?;
+        write_all(alloc, &mut buffer, files, &places, &lints.list, options)?;
     }
     Ok((buffer.finish()?, !lints.is_empty()))
 }

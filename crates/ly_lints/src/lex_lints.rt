@@ -1,6 +1,4 @@
 //! The warnings about an accepted lex file.
-ghost use Rattle.ly_subset.specs.Automaton.{IsBreadthFirst};
-
 use crate::definitions::{definition_number, used_definitions};
 use crate::hiding::hiding_of;
 use crate::lint::{Lint, LintKind, Side};
@@ -8,7 +6,6 @@ use crate::lints::MOST;
 use crate::patterns::pattern_lints;
 use ly_analysis::{Analysis, Lines, RuleLines, first_of, is_marked};
 use ly_base::{Language, Limits, Location, OutOfMemory, is_blank, leading_name};
-use ly_counterexamples::unmatched_rules;
 use ly_ere::{EreFault, read_front};
 use ly_join::TerminalName;
 use ly_lexread::Returned;
@@ -34,15 +31,13 @@ struct Located<'a> {
     end: &'a [u8],
 }
 
-/// Finds the warnings about the lex file.
+/// Finds the warnings about the lex file. The rules with these numbers never match.
 pub(crate) fn lex_lints<'a>(
     alloc: Global,
     files: Analysis<'a>,
-) -> Result<Vec<Lint<'a>>, OutOfMemory>
-    requires { IsBreadthFirst files.dfa.now }
-{
+    unmatched: &[usize],
+) -> Result<Vec<Lint<'a>>, OutOfMemory> {
     let lines = RuleLines::of(alloc, &files)?;
-    let unmatched = unmatched_rules(alloc, files.file.rules.len(), files.dfa)?;
     let mut finder = Finder {
         files,
         lints: Vec::new(alloc),
@@ -52,7 +47,7 @@ pub(crate) fn lex_lints<'a>(
     finder.find_unused_definitions(alloc, &defined)?;
     finder.find_pattern_lints(alloc, &defined)?;
     finder.find_indented()?;
-    for rule in &unmatched {
+    for rule in unmatched {
         let hiding = hiding_of(alloc, &finder.files, &lines, *rule)?;
         let line = lines.of_rule(*rule);
         finder.add(first_of_line(line), LintKind::UnmatchedRule(hiding))?;

@@ -15,7 +15,7 @@ mod pattern_lint_messages;
 mod patterns;
 mod useless;
 
-pub use lint::{Hiding, Lint, LintKind, Side, Uselessness};
+pub use lint::{Hiding, Lint, LintKind, Lints, Side, Uselessness};
 pub use lint_messages::{file_of, name_of, write_kind, write_lints};
 pub use lints::lints_of;
 pub use patterns::PatternLint;

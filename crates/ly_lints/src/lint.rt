@@ -1,4 +1,6 @@
 //! Warnings as values: what may be a mistake, and where.
+ghost use Rattle.std.specs.Prelude.{◌≡◌, [], IsTrue};
+
 use crate::patterns::PatternLint;
 use ly_base::{Location, Sym};
 use ly_yaccread::SymbolName;
@@ -21,6 +23,28 @@ pub struct Lint<'a> {
     pub at: Option<Location>,
     /// The kind of warning.
     pub kind: LintKind<'a>,
+}
+
+/// The warnings about two files.
+#[derive(Drop)]
+pub struct Lints<'a> {
+    /// The warnings, in the order in which they are printed.
+    pub list: Vec<Lint<'a>>,
+    /// The rules of the lex file that never match, each with a warning. None if there is no lex file.
+    pub unmatched: Vec<usize>,
+    /// The rules of the grammar that are never reduced, each with a warning.
+    pub unreduced: Vec<usize>,
+}
+
+impl Lints<'_> {
+    /// Whether there are no warnings, and so no rules that never match or are never reduced.
+    pub fn is_empty(&self) -> bool
+        ensures list { IsTrue result → self.now.list.items ≡ [] }
+        ensures unmatched { IsTrue result → self.now.unmatched.items ≡ [] }
+        ensures unreduced { IsTrue result → self.now.unreduced.items ≡ [] }
+    {
+        self.list.is_empty() && self.unmatched.is_empty() && self.unreduced.is_empty()
+    }
 }
 
 /// The kinds of warnings.
