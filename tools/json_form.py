@@ -147,6 +147,7 @@ def answer(plain):
 
 # What `explain --json` says, put into the lines of the text that docs/explain.md describes, as far as it says them; and
 # these lines of a text: without those that a caret points into, bytes with which no match begins, and the rules.
+NAME_BYTE = re.compile(rb"[A-Za-z0-9_.]")
 CARET = re.compile(r"    [ \t]*\^")
 NO_PATTERN = re.compile(r"In .* no pattern starts with .*")
 MERGED = (
@@ -158,6 +159,29 @@ FIX = (
     "    Precedence can't resolve it: for one of these contexts write a nonterminal of its own, with a",
     "    copy of the rule.",
 )
+
+
+def place_fault(value, files):
+    """What is wrong with the places of findings: a span is where its line and column say, it ends on that line, and no
+    name goes on behind it."""
+    for finding in value["faults"] + value["warnings"] + value["conflicts"]:
+        told = finding["rules"][-1] if "rules" in finding else finding
+        if finding["start"] and finding["start"][1:] != [told["line"], told["column"]] or not finding["message"]:
+            return f"another place or no message: {finding}"
+        for place in [finding, *finding.get("related", []), *finding.get("fixes", [])]:
+            text = files.get(place["file"])
+            if place["start"] and text is not None and not is_span(text, place["start"], place["end"]):
+                return f"no span: {place}"
+    return ""
+
+
+def is_span(text, start, end):
+    """Whether both are places on one line of a text, and no name goes on behind the second."""
+    line = text[: start[0]].count(b"\n") + 1
+    right = [line, start[0] - text.rfind(b"\n", 0, start[0])] == start[1:] and start[0] <= end[0] <= len(text)
+    inside = text[start[0] : end[0]]
+    whole = inside[:1] == b"\\" or not (NAME_BYTE.match(inside[-1:]) and NAME_BYTE.match(text[end[0] : end[0] + 1]))
+    return right and whole and b"\n" not in inside and end[1:] == [start[1], start[2] + len(inside)]
 
 
 def explained(value):
@@ -179,8 +203,10 @@ def explained(value):
     groups = len(value["conflicts"]) + value["omitted"]
     if value["suggestion"]:
         found = value["suggestion"]
-        resolves = f"resolves {found['groups']} of these {counted(groups, 'group')}."
-        lines.append(f"Declaring a precedence for {found['token']} {resolves}")
+        resolves = f"as the first precedence resolves {found['groups']} of these {counted(groups, 'group')}"
+        left = f"{counted(found['remaining'], 'conflict')} remain{'s' if found['remaining'] == 1 else ''}"
+        left = left if found["remaining"] else "no conflict remains"
+        lines.append(f"Declaring {found['declaration']} {resolves}; {left}.")
     for group in value["conflicts"]:
         lines += group_lines(group)
     if value["omitted"]:
@@ -275,9 +301,16 @@ def way_lines(group):
 
 
 def sentence_lines(group):
-    if group["sentence"] is None:
+    if group["sentence"] is not None:
+        return tree_lines("", group)
+    if group["other"] is None:
         return ["    No ambiguous sentence found: the search reached its limit."]
-    first = "    The empty sentence has two trees:"
-    if group["sentence"]:
-        first = f"    This sentence has two trees:{row(group['sentence'])}"
-    return [first] + [f"       {tree and ' ' + tree}" for tree in group["trees"]]
+    missing = f"    No ambiguous sentence found before {group['before'][0]}: the search reached its limit."
+    return [missing] + tree_lines(f"Before {group['other']['before']} ", group["other"])
+
+
+def tree_lines(before, found):
+    words = f"{'this' if before else 'This'} sentence has two trees:{row(found['sentence'])}"
+    if not found["sentence"]:
+        words = f"{'the' if before else 'The'} empty sentence has two trees:"
+    return [f"    {before}{words}"] + [f"       {tree and ' ' + tree}" for tree in found["trees"]]

@@ -11,6 +11,14 @@ COUNTS = re.compile(rb"^Conflicts: (\d+) shift/reduce, (\d+) reduce/reduce\.|"
                     rb'"counts":\{"shift_reduce":(\d+),"reduce_reduce":(\d+)', re.MULTILINE)
 
 
+# a finding whose source line and caret follow, in the text for MADE
+EXCERPT = rb"(?m)^MADE:(\d+):(\d+): (.*)\n    .*\n    [ \t]*\^$"
+SPAN = re.compile(rb'"start":\[\d+,(\d+),(\d+)\],"end":\[\d+,\d+,(\d+)\]')
+WORD = re.compile(r'"(?:\\.|[^"\\\n])*"|\'(?:\\.|[^\'\\\n])*\'|%?[A-Za-z0-9_.-]+|.?')
+# the most bytes of a source line that lytab prints
+WIDEST = 160
+
+
 class NoProgram(Exception):
     """There is no lytab to run."""
 
@@ -31,7 +39,7 @@ class Shown:
         self.alone, self.made, self.path = alone, made.encode(), os.fsencode(path)
         # (as lytab writes a string of JSON)
         self.json_path = json.dumps(path, ensure_ascii=False)[1:-1].encode(errors="surrogateescape")
-        self.here = re.escape(self.made)
+        self.here, self.file = re.escape(self.made), alone.grammar.file
 
     def place(self, line, column):
         """The place in the bison file of a place in the yacc file: that of the word there, or of the one before it."""
@@ -41,14 +49,30 @@ class Shown:
         before = max((it for it in words if it[0] == line and it[1] <= column), default=None)
         return (words[before][0], words[before][1] + column - before[1]) if before else (line, column)
 
+    def source_line(self, line, column):
+        """A line of the bison file as lytab shows it, and a caret under a column."""
+        lines = self.file.text.encode("latin-1").split(b"\n")
+        given = lines[line - 1] if line <= len(lines) else b""
+        given = given[:-1] if given.endswith(b"\r") else given
+        start = min(max(column - 1 - WIDEST // 2, 0), len(given)) if len(given) > WIDEST else 0
+        shown = bytes(it if it in b"\t" or it >= 32 and it != 127 else 63 for it in given[start : start + WIDEST])
+        before = b"".join(b"\t" if it in b"\t" else b"" if 128 <= it < 192 else b" " for it in shown[: column - 1 - start])
+        dots = b"..." if start else b"", b"..." if len(given) - start > WIDEST else b""
+        return b"    %s%s%s\n    %s%s^" % (dots[0], shown, dots[1], b"   " if start else b"", before)
+
     def text(self, said):
-        """Text with the bison file's path and places."""
+        """Text with the bison file's path, places and source lines."""
+        def excerpt(found):
+            line, column = self.place(int(found[1]), int(found[2]))
+            return b"%s:%d:%d: %s\n%s" % (self.path, line, column, found[3], self.source_line(line, column))
+
         def place(found):
             return b"%s:%d:%d" % (self.path, *self.place(int(found[1]), int(found[2])))
 
         def line_of_rule(found):
             return b"%s%s:%d:" % (found[1], self.path, self.alone.rules[int(found[2]) - 1][0])
 
+        said = re.sub(EXCERPT.replace(b"MADE", self.here), excerpt, said)
         said = re.sub(self.here + rb":(\d+):(\d+)", place, said)
         said = re.sub(rb"(?m)^( +(\d+)  )" + self.here + rb":\d+:", line_of_rule, said)
         return said.replace(self.made, self.path)
@@ -59,6 +83,14 @@ class Shown:
             line, column = self.place(int(found[1]), int(found[2]))
             return b'"file":"%s","line":%d,"column":%d' % (self.json_path, line, column)
 
+        def span(found):
+            line, column = self.place(int(found[1]), int(found[2]))
+            offset = self.file.offset(line, column)
+            length = len(WORD.match(self.file.text, offset)[0])
+            ends = offset, line, column, offset + length, line, column + length
+            return b'"start":[%d,%d,%d],"end":[%d,%d,%d]' % ends
+
+        said = SPAN.sub(span, said)
         said = re.sub(rb'"file":"' + self.here + rb'","line":(\d+),"column":(\d+)', place, said)
         return said.replace(self.made, self.json_path)
 

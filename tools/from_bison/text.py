@@ -66,6 +66,10 @@ class Text(GivenText):
         line = self.line(at)
         return line, at - (self.ends_of_lines[line - 2] if line > 1 else -1)
 
+    def offset(self, line, column):
+        """The offset of a line and a column."""
+        return (self.ends_of_lines[line - 2] if line > 1 else -1) + column
+
     def error(self, what, at=None):
         """An error about an offset, or about the position."""
         return Unreadable(f"{self.path}:{self.line(at)}: {what}")

@@ -1,5 +1,7 @@
 //! Two files that are accepted, and what is known of them.
-ghost use Rattle.std.specs.Prelude.{◌≡◌, take};
+ghost use Rattle.std.specs.Prelude.{◌≡◌, ◌++◌, take};
+ghost use Rattle.std.specs.Fmt.{decimal};
+ghost use Rattle.ly_text_buffer.specs.TextBuffer.{Says};
 
 use ly_join::Spec;
 use ly_lexread::LexFile;
@@ -43,7 +45,9 @@ pub struct Analysis<'a> {
 }
 
 /// Prints a number, with text before and after it.
-pub fn write_numbered(buffer: &mut TextBuffer, before: &[u8], number: u64, behind: &[u8]) {
+pub fn write_numbered(buffer: &mut TextBuffer, before: &[u8], number: u64, behind: &[u8])
+    ensures { Says buffer.old (before.now ++ decimal number ++ behind.now) buffer.new }
+{
     buffer.push(before);
     buffer.push_number(number);
     buffer.push(behind);

@@ -1,6 +1,7 @@
 //! Which precedences have an effect: those of a shift and a reduction that meet in a state, if both have one.
-ghost use Rattle.std.specs.Prelude.{◌<◌, IfSome, length};
+ghost use Rattle.std.specs.Prelude.{◌≡◌, ◌<◌, ◌↔◌, IfSome, IsTrue, Some, length, slice_get, true};
 ghost use Rattle.ly_lookahead.specs.Lookaheads.{AreLookaheads, HasSet};
+ghost use Rattle.ly_resolve.specs.Precedence.{rule_precedence, token_precedence};
 
 use crate::bodies::body_of;
 use ly_base::{OutOfMemory, StateNo, Sym};
@@ -134,8 +135,13 @@ fn outcome(rule: Option<Precedence>, terminal: Precedence) -> Settled {
 }
 
 /// The precedence of a terminal, if it has one.
-pub fn rank_of(spec: &Spec, terminal: Sym) -> Option<Precedence> {
-    *spec.precedences().get(terminal.0 as usize)?
+pub fn rank_of(spec: &Spec, terminal: Sym) -> Option<Precedence>
+    ensures { result ≡ token_precedence spec.now terminal.0 }
+{
+    match spec.precedences().get(terminal.0 as usize) {
+        Some(precedence) => *precedence,
+        None => None,
+    }
 }
 
 /// The precedence that a rule has without its `%prec`: that of its last terminal, if this has one.
@@ -154,8 +160,13 @@ pub fn last_terminal(spec: &Spec, rule: usize) -> Option<Sym> {
 }
 
 /// The precedence of a rule, if it has one.
-pub fn precedence_of(spec: &Spec, rule: usize) -> Option<Precedence> {
-    spec.notes().get(rule)?.precedence
+pub fn precedence_of(spec: &Spec, rule: usize) -> Option<Precedence>
+    ensures { result ≡ rule_precedence spec.now rule }
+{
+    match spec.notes().get(rule) {
+        Some(note) => note.precedence,
+        None => None,
+    }
 }
 
 /// The number of precedence declarations of a specification.
@@ -170,7 +181,9 @@ fn levels_of(spec: &Spec) -> usize {
 }
 
 /// Whether a number is marked.
-pub fn is_marked(marks: &[bool], number: usize) -> bool {
+pub fn is_marked(marks: &[bool], number: usize) -> bool
+    ensures { IsTrue result ↔ (slice_get marks.now number ≡ Some true) }
+{
     marks.get(number) == Some(&true)
 }
 

@@ -70,6 +70,22 @@ impl Places {
         &self.ranked
     }
 
+    /// Whether a rule has a `%prec`.
+    pub fn has_prec(&self, rule: usize) -> bool {
+        self.ranked.binary_search(&rule).is_ok()
+    }
+
+    /// Whether the `%prec` of a rule names this terminal.
+    pub fn is_prec_of(&self, rule: usize, name: &TerminalName) -> bool {
+        let production = self.production(rule);
+        production.is_some_and(|production| is_ranked_by(production, name))
+    }
+
+    /// The rule with a number, as it was read.
+    fn production(&self, rule: usize) -> Option<&Production> {
+        self.file.as_ref()?.rules.get(rule.checked_sub(1)?)
+    }
+
     /// The rules without an action whose bodies begin with a literal and also have a symbol that is no literal,
     /// ascending. Empty if no rule of the file has an action.
     pub fn losing_rules(&self, alloc: Global) -> Result<Vec<usize>, OutOfMemory> {

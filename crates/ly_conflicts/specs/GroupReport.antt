@@ -12,6 +12,7 @@ use Rattle.ly_counterexamples.specs.Moves.{IsAmbiguousAt}
 use Rattle.ly_counterexamples.specs.Sentences.{numbers_of}
 use Rattle.ly_conflicts.specs.declared.ambiguity.Ambiguity.{Ambiguity}
 use Rattle.ly_conflicts.specs.declared.groups.Group.{Group}
+use Rattle.ly_conflicts.specs.declared.group_report.OtherSentence.{OtherSentence}
 use Rattle.ly_conflicts.specs.declared.group_report.Readings.{Readings}
 use Rattle.ly_conflicts.specs.declared.group_report.Readings.TheVariants.{Same, Ways}
 use Rattle.ly_conflicts.specs.declared.group_report.Shown.{Shown}
@@ -49,13 +50,20 @@ abbrev pub AreTerminalsOf : Resolved → List ℕ → List Sym → Type 0
 AreTerminalsOf r group terminals = (length terminals ≡ length group) × ((p i : ℕ) (c : Conflict)
     → slice_get group p ≡ Some i → IsConflictAt r i c → option_map (λ t. t.0) (slice_get terminals p) ≡ Some c.terminal)
 
--- The data of a group: its first conflict, the terminals of all, and how they arise.
+-- a sentence with two trees of a conflict with one of these indices, if there is one
+abbrev pub IsOtherIn : Resolved → List ℕ → Option OtherSentence → Type 0
+IsOtherIn r group other = IfSome other (λ o. (i : ℕ) × Contains group i
+    × IsConflictAt r i (conflict_from r.automaton o.conflict)
+    × IsAmbiguity r (conflict_from r.automaton o.conflict) o.found)
+
+-- The data of a group: its first conflict, the terminals of all, how they arise, and a sentence of another conflict.
 pub record IsGroupReport (r : Resolved) (group : List ℕ) (told : GroupReport) : Type 0 where
   pub first : ℕ
   pub begins : slice_get group 0 ≡ Some first
   pub is : IsConflictAt r first (conflict_from r.automaton told.conflict)
   pub terminals : AreTerminalsOf r group told.terminals.items
   pub shown : IsShown r group (conflict_from r.automaton told.conflict) told.shown
+  pub other : IsOtherIn r group told.other
 
 -- The groups are reported in order, up to the greatest number.
 pub record AreGroupReports (r : Resolved) (groups : List Group) (told : List GroupReport) : Type 0 where

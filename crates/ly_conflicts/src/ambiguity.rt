@@ -24,7 +24,7 @@ use std::alloc::{AllocError, Global};
 const MOST_WHOLE: usize = 2_000;
 
 /// The greatest number of other pairs of parses that are visited for a conflict.
-const MOST: usize = 6_000;
+pub(crate) const MOST: usize = 6_000;
 
 /// The greatest number of steps for all sentences together. A step is something that is visited or copied; a pair and a
 /// derived symbol take some more.
@@ -104,9 +104,25 @@ impl<'a> Finder<'a> {
                 return Ok(found);
             }
         }
+        self.find_outwards(alloc, conflict, MOST)
+    }
+
+    /// Searches outwards from a conflict for a sentence with two trees that take its two actions, over at most this
+    /// many pairs.
+    pub(crate) fn find_outwards(
+        &mut self,
+        alloc: Global,
+        conflict: &Conflict,
+        most: usize,
+    ) -> Result<Option<Ambiguity>, OutOfMemory>
+        requires { IsInside self.old.examples.now.automaton conflict.now }
+        ensures found { IfOk result (IsFoundIn self.old.examples.now
+            (conflict_from self.old.examples.now.automaton conflict.now)) }
+        ensures stays { self.new.examples ≡ self.old.examples }
+    {
         let mut search = Search::new(alloc, conflict, self.steps)?;
         self.begin(alloc, &mut search, conflict)?;
-        let found = self.search(alloc, conflict, &mut search, MOST)?;
+        let found = self.search(alloc, conflict, &mut search, most)?;
         self.steps = search.steps;
         Ok(found)
     }

@@ -1,5 +1,6 @@
 //! Prints the partially parsed rules at the end of a string of symbols, with brackets. A rule that is all of another
 //! one's body gets none, since chains of such rules are long in real grammars and carry no information.
+use crate::begins::{Begins, ROUNDS, parts_of};
 use ly_analysis::{END, behind_dot, body_of, rest_of, write_left_out};
 use ly_base::{OutOfMemory, Sym};
 use ly_join::{Spec, Symbol};
@@ -46,17 +47,28 @@ struct Side {
     symbols: usize,
 }
 
+/// How a path is printed.
+#[derive(Clone, Copy)]
+pub(crate) struct Pen<'p> {
+    /// The specification.
+    pub(crate) spec: &'p Spec,
+    /// How the symbol after the dot begins with the terminal of the conflict.
+    pub(crate) begins: &'p Begins,
+    /// The style.
+    pub(crate) style: Style,
+}
+
 /// Prints the rules of a path: a bracket for each rule that begins inside another, the symbols before the dots, and
-/// then a dot and what follows the dot in each rule, from the innermost one on. For an empty path it prints nothing. If
-/// one side of the dot has many symbols, those in the middle are only counted, and brackets that begin there aren't
-/// printed.
+/// then a dot and what follows the dot in each rule, from the innermost one on. There the symbol that begins with the
+/// terminal of the conflict is expanded until the terminal shows. For an empty path it prints nothing. If one side of
+/// the dot has many symbols, those in the middle are only counted, and brackets that begin there aren't printed.
 pub(crate) fn write_way(
     alloc: Global,
     buffer: &mut TextBuffer,
-    spec: &Spec,
+    pen: Pen<'_>,
     way: &[Item],
-    style: Style,
 ) -> Result<(), OutOfMemory> {
+    let Pen { spec, style, .. } = pen;
     if way.is_empty() {
         return Ok(());
     }
@@ -83,7 +95,7 @@ pub(crate) fn write_way(
     let opened = side.write(buffer, spec);
     buffer.push(if opened { b"." } else { b" ." });
     let rests = rests_of(alloc, spec, &under, side.symbols, style)?;
-    rests.write(buffer, spec);
+    rests.expanded(alloc, pen)?.write(buffer, spec);
     Ok(())
 }
 
@@ -162,6 +174,90 @@ impl Side {
         Ok(())
     }
 
+    /// The same with the symbol expanded that begins with the terminal of the conflict.
+    fn expanded(&self, alloc: Global, pen: Pen<'_>) -> Result<Side, AllocError> {
+        let mut symbols = Vec::new(alloc);
+        for piece in &self.pieces {
+            if let Piece::Symbol(symbol) = piece {
+                symbols.push(*symbol)?;
+            }
+        }
+        let place = pen.begins.place_in(&symbols);
+        let mut side = Side::new(alloc);
+        for piece in &self.pieces {
+            match piece {
+                Piece::Symbol(symbol) if place == Some(side.symbols) => {
+                    side.add_expanded(alloc, pen, *symbol)?;
+                    // The rest follows as it is, whatever was expanded.
+                    side.add_behind(&self.pieces, place)?;
+                    return Ok(side);
+                }
+                Piece::Symbol(symbol) => side.add(*symbol)?,
+                piece => side.pieces.push(*piece)?,
+            }
+        }
+        Ok(side)
+    }
+
+    /// Adds the elements after the symbol that so many others precede.
+    fn add_behind(&mut self, pieces: &[Piece], place: Option<usize>) -> Result<(), AllocError> {
+        let mut passed: usize = 0;
+        for piece in pieces {
+            let is_behind = place.is_some_and(|place| passed > place);
+            match piece {
+                Piece::Symbol(symbol) => {
+                    if is_behind {
+                        self.add(*symbol)?;
+                    }
+                    passed = passed.saturating_add(1);
+                }
+                piece if is_behind => self.pieces.push(*piece)?,
+                _ => {}
+            }
+        }
+        Ok(())
+    }
+
+    /// Adds a symbol that begins with the terminal of the conflict: its rules, until the terminal shows.
+    fn add_expanded(
+        &mut self,
+        alloc: Global,
+        pen: Pen<'_>,
+        symbol: Symbol,
+    ) -> Result<(), AllocError> {
+        let mut behind: Vec<(&[Symbol], bool)> = Vec::new(alloc);
+        let mut first = symbol;
+        for _ in 0..ROUNDS {
+            let Symbol::Nonterminal(left) = first else {
+                break;
+            };
+            let beginning = pen.begins.beginning_of(left);
+            let parts = beginning.and_then(|beginning| parts_of(pen.spec.grammar(), beginning));
+            let Some((before, next, rest)) = parts else {
+                break;
+            };
+            let is_bracketed = pen.style == Style::Names || !before.is_empty() || !rest.is_empty();
+            if is_bracketed {
+                self.pieces.push(Piece::Open(named(pen.style, left)))?;
+            }
+            for symbol in before {
+                self.add(*symbol)?;
+            }
+            behind.push((rest, is_bracketed))?;
+            first = next;
+        }
+        self.add(first)?;
+        for (rest, is_bracketed) in behind.iter().rev() {
+            for symbol in *rest {
+                self.add(*symbol)?;
+            }
+            if *is_bracketed {
+                self.pieces.push(Piece::Close)?;
+            }
+        }
+        Ok(())
+    }
+
     /// Prints the elements, with a space before each symbol and bracket that isn't first in a bracket. Returns whether
     /// the last element printed is the start of a bracket.
     fn write(&self, buffer: &mut TextBuffer, spec: &Spec) -> bool {
@@ -181,6 +277,11 @@ impl Side {
         }
         opened
     }
+}
+
+/// The left side as it is printed before a bracket, if the style has names.
+fn named(style: Style, left: Sym) -> Option<Sym> {
+    (style == Style::Names).then_some(left)
 }
 
 /// Prints an element. `opened` is whether the last one was the start of a bracket. Returns whether this one is.

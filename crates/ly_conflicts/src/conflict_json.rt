@@ -1,14 +1,14 @@
 //! Groups of conflicts as JSON.
 use crate::ambiguity::Ambiguity;
 use crate::group_report::{GroupReport, Readings, Shown, Spot};
-use crate::headings::{has_reason, write_reason};
+use crate::headings::{has_reason, write_reason, write_summary};
 use crate::trees::told_apart;
 use crate::ways::{Ways, drawn_ways};
-use ly_analysis::{Analysis, Places, ends};
+use ly_analysis::{Analysis, Places, ends, write_numbered};
 use ly_base::{OutOfMemory, RuleNo, Sym};
 use ly_join::{Spec, Symbol};
 use ly_resolve::{Action, ConflictKind};
-use ly_text_buffer::TextBuffer;
+use ly_text_buffer::{Extent, FindingPlace, TextBuffer};
 use std::alloc::Global;
 
 /// Prints a group of conflicts as an object.
@@ -46,7 +46,65 @@ pub(crate) fn write_conflict(
         buffer.push(b"null");
     }
     write_shown(alloc, buffer, spec, told)?;
+    write_other(alloc, buffer, spec, told)?;
+    write_finding(buffer, files, places, told);
     buffer.push(b"}");
+    Ok(())
+}
+
+/// Prints the members that each finding has. The other places are those of the rules.
+fn write_finding(
+    buffer: &mut TextBuffer,
+    files: &Analysis<'_>,
+    places: &Places,
+    told: &GroupReport<'_>,
+) {
+    buffer.push_json_key(b"file");
+    buffer.push_json(files.yacc.name.as_bytes());
+    let code: &[u8] = match told.conflict.kind {
+        ConflictKind::ShiftReduce => b"ShiftReduce",
+        ConflictKind::ReduceReduce => b"ReduceReduce",
+    };
+    let mut message = buffer.beside();
+    write_summary(&mut message, files.spec, told);
+    let place = place_of_rule(files, places, told.conflict.rule);
+    buffer.push_json_finding(b"warning", code, place, message);
+    if let Action::Reduce(rule) = told.conflict.choice {
+        buffer.push_json_key(b"related");
+        buffer.push(b"[");
+        let mut words = buffer.beside();
+        write_numbered(&mut words, b"rule ", rule.0 as u64, b" is chosen");
+        buffer.push_json_related(place_of_rule(files, places, rule), words);
+        buffer.push(b"]");
+    }
+}
+
+/// The place of a rule.
+fn place_of_rule<'f>(files: &Analysis<'f>, places: &Places, rule: RuleNo) -> FindingPlace<'f> {
+    FindingPlace {
+        file: files.yacc,
+        at: Some(places.location_of_rule(rule.0 as usize)),
+        extent: Extent::Word,
+    }
+}
+
+/// Prints a sentence of another conflict of the group, if there is one.
+fn write_other(
+    alloc: Global,
+    buffer: &mut TextBuffer,
+    spec: &Spec,
+    told: &GroupReport<'_>,
+) -> Result<(), OutOfMemory> {
+    buffer.push_json_key(b"other");
+    match &told.other {
+        Some(other) => {
+            buffer.push(b"{\"before\":");
+            write_symbol(buffer, spec, Symbol::Terminal(other.conflict.terminal));
+            write_sentence(alloc, buffer, spec, Some(&other.found))?;
+            buffer.push(b"}");
+        }
+        None => buffer.push(b"null"),
+    }
     Ok(())
 }
 

@@ -29,14 +29,14 @@ pub(crate) fn write_told(
                 Readings::Same => write_same(buffer, conflict),
                 Readings::Ways(ways, found) => {
                     write_ways(alloc, buffer, spec, conflict, ways)?;
-                    write_sentence(alloc, buffer, spec, found)?;
+                    write_sentence(alloc, buffer, spec, told, found)?;
                 }
             }
         }
         Shown::Merged(ways) => write_merged(alloc, buffer, spec, conflict, ways)?,
         Shown::Unknown(found) => {
             buffer.push(b"    No example found: the search reached its limit.\n");
-            write_sentence(alloc, buffer, spec, found)?;
+            write_sentence(alloc, buffer, spec, told, found)?;
         }
     }
     Ok(())
@@ -97,19 +97,29 @@ fn write_same(buffer: &mut TextBuffer, conflict: &Conflict) {
     }
 }
 
-/// Prints a sentence with two trees, or that none was found.
+/// Prints a sentence with two trees, or that none was found for the first conflict of a group, and one of another.
 fn write_sentence(
     alloc: Global,
     buffer: &mut TextBuffer,
     spec: &Spec,
+    told: &GroupReport<'_>,
     found: &Option<Ambiguity>,
 ) -> Result<(), OutOfMemory> {
-    match found {
-        Some(ambiguity) => write_ambiguity(alloc, buffer, spec, ambiguity),
-        None => {
-            buffer.push(b"    No ambiguous sentence found: the search reached its limit.\n");
-            Ok(())
+    if let Some(ambiguity) = found {
+        return write_ambiguity(alloc, buffer, spec, None, ambiguity);
+    }
+    buffer.push(b"    No ambiguous sentence found");
+    if told.other.is_some() {
+        buffer.push(b" before ");
+        buffer.push_terminal(spec, told.conflict.terminal);
+    }
+    buffer.push(b": the search reached its limit.\n");
+    match &told.other {
+        Some(other) => {
+            let terminal = Some(other.conflict.terminal);
+            write_ambiguity(alloc, buffer, spec, terminal, &other.found)
         }
+        None => Ok(()),
     }
 }
 

@@ -6,14 +6,15 @@ ghost use Rattle.ly_resolve.specs.Values.{conflict_from, IsInside};
 ghost use Rattle.ly_conflicts.specs.Groups.{AreGroups, IsGroup};
 ghost use Rattle.ly_conflicts.specs.Private.Grouping.{IsAt, IsSought};
 ghost use Rattle.ly_conflicts.specs.GroupReport.{AreReadings, AreTerminalsOf, AreGroupReports, IsShown, IsGroupReport};
+ghost use Rattle.ly_conflicts.specs.GroupReport.{IsOtherIn};
 
-use crate::ambiguity::Finder;
+use crate::ambiguity::{Finder, MOST};
 use crate::conflict_json::write_conflict;
 use crate::conflict_messages::{write_told, write_untold};
-use crate::group_report::{GroupReport, Readings, Shown, Spot};
+use crate::group_report::{GroupReport, OtherSentence, Readings, Shown, Spot};
 use crate::groups::{BOUND, Group, TOLD, groups_of};
 use crate::meeting::is_met;
-use crate::suggestions::{Suggestion, best_suggestion, write_suggestion};
+use crate::suggestions::{Suggesting, Suggestion};
 use crate::ways::Drawn;
 use crate::yields::Yields;
 use ly_analysis::{Analysis, Cores, Options, Places, first_of, write_numbered};
@@ -28,6 +29,9 @@ use std::alloc::Global;
 /// The budget of all searches for counterexamples together, counted in demands and symbols after nonterminals that are
 /// visited.
 const LOOKS: usize = 1_000_000_000;
+
+/// The greatest number of a group's conflicts, beside the first, for which a sentence is searched.
+const OTHERS: usize = 60;
 
 /// The data for the report of conflicts.
 #[derive(Clone, Copy)]
@@ -68,7 +72,7 @@ pub fn write_conflicts(
     };
     let mut budget = Budget::new(LOOKS);
     let groups = groups_of(alloc, teller.examples, &mut budget)?;
-    let suggestion = best_suggestion(alloc, files.spec, resolved.conflicts(), &groups)?;
+    let suggestion = teller.suggestion(alloc, places, &groups)?;
     let told = teller.all_told(alloc, &groups, budget)?;
     let untold = groups.len().saturating_sub(TOLD);
     if options.json {
@@ -76,7 +80,7 @@ pub fn write_conflicts(
         write_rest(buffer, files.spec, suggestion, untold);
     } else {
         if let Some(suggestion) = suggestion {
-            write_suggestion(buffer, files.spec, suggestion, groups.len());
+            suggestion.write(buffer, files.spec, groups.len());
         }
         write_all(alloc, buffer, files, places, &told)?;
         write_untold(buffer, untold);
@@ -137,7 +141,12 @@ fn write_rest(buffer: &mut TextBuffer, spec: &Spec, suggestion: Option<Suggestio
             let mut name = buffer.beside();
             name.push_terminal(spec, suggestion.terminal);
             buffer.push_json_buffer(name);
-            buffer.push_json_number(b"groups", suggestion.settled as u64);
+            buffer.push_json_number(b"groups", suggestion.resolved as u64);
+            buffer.push_json_key(b"declaration");
+            let mut declaration = buffer.beside();
+            suggestion.write_declaration(&mut declaration, spec);
+            buffer.push_json_buffer(declaration);
+            buffer.push_json_number(b"remaining", suggestion.remaining as u64);
             buffer.push(b"}");
         }
         None => buffer.push(b"null"),
@@ -146,6 +155,23 @@ fn write_rest(buffer: &mut TextBuffer, spec: &Spec, suggestion: Option<Suggestio
 }
 
 impl Teller<'_> {
+    /// The precedence that resolves the most groups, if it resolves more than one.
+    fn suggestion(
+        &self,
+        alloc: Global,
+        places: &Places,
+        groups: &[Group],
+    ) -> Result<Option<Suggestion>, OutOfMemory> {
+        let suggesting = Suggesting {
+            spec: self.spec,
+            places,
+            cores: self.cores,
+            conflicts: self.examples.resolved().conflicts(),
+            groups,
+        };
+        suggesting.best(alloc)
+    }
+
     /// Collects the data of the groups of conflicts, up to a number of groups.
     fn all_told<'g>(
         &self,
@@ -177,12 +203,62 @@ impl Teller<'_> {
         ensures stays { finder.new.examples ≡ finder.old.examples }
     {
         let conflict = self.conflict(group.conflicts[0]);
+        let shown = self.shown(alloc, &conflict, group, finder)?;
+        let other = self.other(alloc, group, &shown, finder)?;
         Ok(GroupReport {
             conflict,
             terminals: self.terminals(alloc, &group.conflicts)?,
             prefix: self.cores.prefix(alloc, conflict.state)?,
-            shown: self.shown(alloc, &conflict, group, finder)?,
+            shown,
+            other,
         })
+    }
+
+    /// A sentence of another conflict of a group, if none was found for the first.
+    fn other(
+        &self,
+        alloc: Global,
+        group: &Group,
+        shown: &Shown<'_>,
+        finder: &mut Finder<'_>,
+    ) -> Result<Option<OtherSentence>, OutOfMemory>
+        requires group { IsGroup self.now.examples.now group.now }
+        requires same { finder.old.examples.now ≡ self.now.examples.now }
+        ensures other { IfOk result (IsOtherIn self.now.examples.now group.now.conflicts.items) }
+        ensures stays { finder.new.examples ≡ finder.old.examples }
+    {
+        if !shown.lacks_sentence() {
+            return Ok(None);
+        }
+        self.other_sentence(alloc, &group.conflicts, finder)
+    }
+
+    /// A sentence with two trees that take the two actions of a conflict with one of these indices, which isn't the
+    /// first of them. The searches together look at about as many pairs as one for the first conflict.
+    fn other_sentence(
+        &self,
+        alloc: Global,
+        group: &[usize],
+        finder: &mut Finder<'_>,
+    ) -> Result<Option<OtherSentence>, OutOfMemory>
+        requires indices { (i : ℕ) → Contains group.now i → i < length self.now.examples.now.conflicts }
+        requires same { finder.old.examples.now ≡ self.now.examples.now }
+        ensures other { IfOk result (IsOtherIn self.now.examples.now group.now) }
+        ensures stays { finder.new.examples ≡ finder.old.examples }
+    {
+        let most = share_of(group.len());
+        let mut tried = 0;
+        for index in group {
+            let conflict = self.conflict(*index);
+            if tried > 0 && tried <= OTHERS {
+                let found = finder.find_outwards(alloc, &conflict, most)?;
+                if let Some(found) = found {
+                    return Ok(Some(OtherSentence { conflict, found }));
+                }
+            }
+            tried = tried.saturating_add(1);
+        }
+        Ok(None)
     }
 
     /// The conflict with this index.
@@ -312,6 +388,12 @@ impl Teller<'_> {
             conflict,
         }
     }
+}
+
+/// The number of pairs that are visited for each further conflict of a group of this size.
+fn share_of(conflicts: usize) -> usize {
+    let others = conflicts.saturating_sub(1).clamp(1, OTHERS);
+    MOST.checked_div(others).unwrap_or(0)
 }
 
 /// Whether a conflict is between two equal rules.

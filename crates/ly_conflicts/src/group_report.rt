@@ -18,6 +18,17 @@ pub(crate) struct GroupReport<'g> {
     pub(crate) prefix: Prefix,
     /// How they arise, as far as it is known.
     pub(crate) shown: Shown<'g>,
+    /// A sentence of another conflict of the group, if none was found for the first.
+    pub(crate) other: Option<OtherSentence>,
+}
+
+/// A sentence of a conflict that isn't the first of its group.
+#[derive(Drop)]
+pub(crate) struct OtherSentence {
+    /// The conflict.
+    pub(crate) conflict: Conflict,
+    /// The sentence, with two trees that take both actions of the conflict.
+    pub(crate) found: Ambiguity,
 }
 
 /// How a conflict arises, as far as it is known.
@@ -54,4 +65,15 @@ pub(crate) enum Readings {
     Same,
     /// By these paths, and perhaps with a sentence that has two trees.
     Ways(Ways, Option<Ambiguity>),
+}
+
+impl Shown<'_> {
+    /// Whether a sentence with two trees was searched, and none was found.
+    pub(crate) fn lacks_sentence(&self) -> bool {
+        match self {
+            Shown::Unsought | Shown::Merged(_) => false,
+            Shown::Unknown(found) => found.is_none(),
+            Shown::At(spot) => matches!(spot.readings, Readings::Ways(_, None)),
+        }
+    }
 }

@@ -22,9 +22,9 @@ pub(crate) fn write_heading(
         files.yacc,
         places.location_of_rule(conflict.rule.0 as usize),
     );
-    write_place(buffer, files.spec, told);
-    write_before(buffer, files.spec, &told.terminals);
-    write_done(buffer, conflict);
+    buffer.push(b"warning: ");
+    write_summary(buffer, files.spec, told);
+    buffer.push(b"\n");
     if let Action::Reduce(rule) = conflict.choice {
         write_rule_of(buffer, files, places, rule);
     }
@@ -34,6 +34,13 @@ pub(crate) fn write_heading(
         write_reason(buffer, files.spec, conflict, told.terminals.len());
         buffer.push(b"\n");
     }
+}
+
+/// Prints which conflicts a group has, where they are, and how they are resolved.
+pub(crate) fn write_summary(buffer: &mut TextBuffer, spec: &Spec, told: &GroupReport<'_>) {
+    write_place(buffer, spec, told);
+    write_before(buffer, spec, &told.terminals);
+    write_done(buffer, &told.conflict);
 }
 
 /// Prints the location of a rule, and the rule.
@@ -48,8 +55,8 @@ fn write_rule_of(buffer: &mut TextBuffer, files: &Analysis<'_>, places: &Places,
 /// Prints the kind of a group's conflicts and its state: the number and the prefix.
 fn write_place(buffer: &mut TextBuffer, spec: &Spec, told: &GroupReport<'_>) {
     buffer.push(match told.conflict.kind {
-        ConflictKind::ShiftReduce => b"warning: shift/reduce conflict".as_slice(),
-        ConflictKind::ReduceReduce => b"warning: reduce/reduce conflict",
+        ConflictKind::ShiftReduce => b"shift/reduce conflict".as_slice(),
+        ConflictKind::ReduceReduce => b"reduce/reduce conflict",
     });
     write_numbered(buffer, b" in state ", told.conflict.state.0 as u64, b"");
     if told.prefix.front.is_empty() {
@@ -82,7 +89,7 @@ fn write_done(buffer: &mut TextBuffer, conflict: &Conflict) {
         }
         Action::Error => buffer.push(b": resolved as an error"),
     }
-    write_numbered(buffer, b", not rule ", conflict.rule.0 as u64, b".\n");
+    write_numbered(buffer, b", not rule ", conflict.rule.0 as u64, b".");
 }
 
 /// Whether a reason is printed: precedence can settle shift/reduce conflicts, except at the end of the input.

@@ -11,6 +11,7 @@
 #![tactic(auto)]
 
 mod ambiguity;
+mod begins;
 mod brackets;
 mod claims;
 mod common;
@@ -29,6 +30,7 @@ mod queue;
 mod reading;
 mod suggestions;
 mod trees;
+mod trial;
 mod waiting;
 mod ways;
 mod yields;

@@ -10,21 +10,30 @@ use std::alloc::Global;
 /// The greatest number of symbols of a tree that are printed.
 const MOST: usize = 2_000;
 
-/// Prints a sentence and its two trees. They have names if brackets alone don't distinguish them, and if there are no
-/// tokens.
+/// Prints a sentence and its two trees, after the terminal of its conflict if that is given. The trees have names if
+/// brackets alone don't distinguish them, and if there are no tokens.
 pub(crate) fn write_ambiguity(
     alloc: Global,
     buffer: &mut TextBuffer,
     spec: &Spec,
+    terminal: Option<Sym>,
     ambiguity: &Ambiguity,
 ) -> Result<(), OutOfMemory> {
-    if ambiguity.sentence.is_empty() {
-        buffer.push(b"    The empty sentence has two trees:\n");
-    } else {
-        buffer.push(b"    This sentence has two trees:");
-        write_terminals(buffer, spec, &ambiguity.sentence);
-        buffer.push(b"\n");
+    buffer.push(b"    ");
+    if let Some(terminal) = terminal {
+        buffer.push(b"Before ");
+        buffer.push_terminal(spec, terminal);
+        buffer.push(b" ");
     }
+    buffer.push(match (terminal, ambiguity.sentence.is_empty()) {
+        (None, true) => b"The empty sentence".as_slice(),
+        (None, false) => b"This sentence",
+        (Some(_), true) => b"the empty sentence",
+        (Some(_), false) => b"this sentence",
+    });
+    buffer.push(b" has two trees:");
+    write_terminals(buffer, spec, &ambiguity.sentence);
+    buffer.push(b"\n");
     let (one, other) = told_apart(alloc, spec, ambiguity)?;
     buffer.push(b"       ");
     buffer.push(&one);

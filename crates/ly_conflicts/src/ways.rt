@@ -1,5 +1,6 @@
 //! How the two actions of a conflict arise, each after a string of symbols, as a drawing.
-use crate::brackets::{Style, write_way};
+use crate::begins::Begins;
+use crate::brackets::{Pen, Style, write_way};
 use crate::drawing::Drawing;
 use ly_analysis::{Cores, behind_dot, body_of, write_numbered};
 use ly_base::{OutOfMemory, Sym};
@@ -28,6 +29,8 @@ pub(crate) struct Ways {
     pub(crate) one: Vec<Item>,
     /// The path to the rule of the conflict.
     pub(crate) other: Vec<Item>,
+    /// How symbols begin with the terminal of the conflict.
+    begins: Begins,
 }
 
 impl Drawn<'_> {
@@ -41,6 +44,7 @@ impl Drawn<'_> {
         Ok(Ways {
             one: self.way(alloc, one, self.rival(alloc)?)?,
             other: self.way(alloc, other, self.reduction(self.conflict.rule.0 as usize))?,
+            begins: Begins::of(alloc, self.cores.lr0().reduced(), self.conflict.terminal)?,
         })
     }
 
@@ -97,25 +101,29 @@ pub(crate) fn drawn_ways(
     spec: &Spec,
     ways: &Ways,
 ) -> Result<(Vec<u8>, Vec<u8>), OutOfMemory> {
-    let one = drawn_way(alloc, spec, &ways.one, Style::Brackets)?;
-    let other = drawn_way(alloc, spec, &ways.other, Style::Brackets)?;
+    let pen = Pen {
+        spec,
+        begins: &ways.begins,
+        style: Style::Brackets,
+    };
+    let one = drawn_way(alloc, pen, &ways.one)?;
+    let other = drawn_way(alloc, pen, &ways.other)?;
     if one != other {
         return Ok((one, other));
     }
-    let one = drawn_way(alloc, spec, &ways.one, Style::Names)?;
-    let other = drawn_way(alloc, spec, &ways.other, Style::Names)?;
+    let pen = Pen {
+        style: Style::Names,
+        ..pen
+    };
+    let one = drawn_way(alloc, pen, &ways.one)?;
+    let other = drawn_way(alloc, pen, &ways.other)?;
     Ok((one, other))
 }
 
 /// A path as a drawing.
-fn drawn_way(
-    alloc: Global,
-    spec: &Spec,
-    way: &[Item],
-    style: Style,
-) -> Result<Vec<u8>, OutOfMemory> {
+fn drawn_way(alloc: Global, pen: Pen<'_>, way: &[Item]) -> Result<Vec<u8>, OutOfMemory> {
     let mut buffer = TextBuffer::new(alloc);
-    write_way(alloc, &mut buffer, spec, way, style)?;
+    write_way(alloc, &mut buffer, pen, way)?;
     buffer.finish()
 }
 

@@ -27,7 +27,8 @@ impl Advice {
             }
             GenFault::Endless { .. } => {
                 Advice::Words(
-                    "the parser reduces without end if a symbol derives only itself, or the symbols before it may be empty",
+                    "the parser reduces without end if a symbol derives only itself, or the symbols before it \
+                    may be empty",
                 )
             }
             _ => Advice::Nothing,

@@ -1,6 +1,8 @@
 //! Why two files are rejected that are valid and fit together: their grammar doesn't terminate, or derives no text.
 use crate::advice::Advice;
-use crate::roundabout::{Step, derived_alone, is_behind_nothing, without_text};
+use crate::roundabout::{
+    Step, derived_alone, is_behind_nothing, needed_in, with_text, without_text,
+};
 use crate::yacc_offsets::{body_offset, start_location};
 use ly_base::{Limits, Location, OutOfMemory, Sym, locate};
 use ly_generate::GenFault;
@@ -87,7 +89,10 @@ fn grammar_cause(
 impl Joined<'_> {
     /// The cause if the start symbol derives no text.
     fn without_text(&self, alloc: Global) -> Result<Option<Cause>, OutOfMemory> {
-        let around = without_text(alloc, self.spec.grammar())?;
+        let Some(known) = with_text(alloc, self.spec.grammar())? else {
+            return Ok(None);
+        };
+        let around = without_text(alloc, self.spec.grammar(), &known)?;
         let Some(first) = around.first() else {
             return Ok(None);
         };
@@ -96,7 +101,7 @@ impl Joined<'_> {
         };
         Ok(Some(Cause {
             at: Some(locate(self.text, offset)),
-            advice: Advice::Made(self.needs(alloc, &around)?),
+            advice: Advice::Made(self.needs(alloc, &around, &known)?),
         }))
     }
 
@@ -117,7 +122,8 @@ impl Joined<'_> {
                 self.cause_in_body(
                     rule,
                     Advice::Words(
-                        "the symbols before the left side in its own body may be empty, so they are reduced without end",
+                        "the symbols before the left side in its own body may be empty, so they are reduced \
+                        without end",
                     ),
                 )
             }
@@ -145,10 +151,17 @@ impl Joined<'_> {
         Some(offsets.left as usize)
     }
 
-    /// Text: each of these nonterminals needs the next one, and the last one the first.
-    fn needs(&self, alloc: Global, around: &[Step]) -> Result<Vec<u8>, OutOfMemory> {
+    /// Text: what each of these nonterminals needs. Each needs the next one, or others, and the last one the first.
+    fn needs(
+        &self,
+        alloc: Global,
+        around: &[Step],
+        known: &[bool],
+    ) -> Result<Vec<u8>, OutOfMemory> {
         let mut buffer = TextBuffer::new(alloc);
-        if let [step] = around {
+        if let [step] = around
+            && self.is_in_each_body(step.to)
+        {
             buffer.push(b"each rule of ");
             self.write_name(&mut buffer, step.to);
             buffer.push(b" needs ");
@@ -160,15 +173,53 @@ impl Joined<'_> {
             if number > 0 {
                 buffer.push(b", ");
             }
-            self.write_name(&mut buffer, self.left(step.rule));
+            let left = self.left(step.rule);
+            self.write_name(&mut buffer, left);
             buffer.push(b" needs ");
-            self.write_name(&mut buffer, step.to);
+            self.write_needed(alloc, &mut buffer, left, known)?;
         }
         if around.len() > NAMED {
             buffer.push(b", and so on back to the first");
         }
         buffer.push(b": add a rule that ends this");
         buffer.finish()
+    }
+
+    /// Whether each rule of a nonterminal has it in its body.
+    fn is_in_each_body(&self, left: Sym) -> bool {
+        let rules = self.spec.grammar().rules().iter();
+        rules
+            .filter(|rule| rule.left() == left)
+            .all(|rule| rule.body().contains(&Symbol::Nonterminal(left)))
+    }
+
+    /// Appends what a nonterminal without a text needs: for each of its rules the nonterminals of the body that derive
+    /// no text. What several rules need is there once.
+    fn write_needed(
+        &self,
+        alloc: Global,
+        buffer: &mut TextBuffer,
+        left: Sym,
+        known: &[bool],
+    ) -> Result<(), OutOfMemory> {
+        let mut written: Vec<Vec<Sym>> = Vec::new(alloc);
+        for rule in self.spec.grammar().rules() {
+            let needed = needed_in(alloc, rule.body(), known)?;
+            if rule.left() != left || written.contains(&needed) {
+                continue;
+            }
+            if written.len() == NAMED {
+                buffer.push(b" or others");
+                break;
+            }
+            buffer.push(if written.is_empty() { b"" } else { b" or " });
+            for (number, symbol) in needed.iter().enumerate() {
+                buffer.push(if number == 0 { b"" } else { b" and " });
+                self.write_name(buffer, *symbol);
+            }
+            written.push(needed)?;
+        }
+        Ok(())
     }
 
     /// Text: a nonterminal derives itself by the rules of these steps.

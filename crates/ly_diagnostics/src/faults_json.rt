@@ -11,7 +11,7 @@ use crate::finding::Findings;
 use crate::telling::{is_of_lex, write_advice_words, write_what, write_words};
 use ly_base::{Limits, Location, OutOfMemory};
 use ly_generate::GenFault;
-use ly_text_buffer::{NamedFile, TextBuffer};
+use ly_text_buffer::{Extent, FindingPlace, NamedFile, TextBuffer};
 use std::alloc::Global;
 
 /// Appends the errors of two files that are rejected with this error, as members of a JSON object: the list of all
@@ -114,6 +114,14 @@ fn write_exchanged(buffer: &mut TextBuffer, file: NamedFile<'_>, words: &[u8]) {
     buffer.push_json(words);
     buffer.push_json_key(b"advice");
     buffer.push_json(ARE_EXCHANGED);
+    let mut message = buffer.beside();
+    message.push(words);
+    let place = FindingPlace {
+        file,
+        at: None,
+        extent: Extent::Word,
+    };
+    buffer.push_json_finding(b"error", b"ExchangedFiles", place, message);
     buffer.push(b"}");
 }
 
@@ -145,6 +153,18 @@ fn write_fault(
     let mut words = buffer.beside();
     write_words(&mut words, fault);
     buffer.push_json_buffer(words);
+    write_advice(buffer, advice);
+    let place = FindingPlace {
+        file: if is_of_lex(fault) { lex } else { yacc },
+        at,
+        extent: Extent::Word,
+    };
+    write_finding(buffer, place, fault, advice);
+    buffer.push(b"}");
+}
+
+/// Appends the suggestion, or null.
+fn write_advice(buffer: &mut TextBuffer, advice: &Advice) {
     buffer.push_json_key(b"advice");
     if advice.is_nothing() {
         buffer.push(b"null");
@@ -153,7 +173,25 @@ fn write_fault(
         write_advice_words(&mut words, advice);
         buffer.push_json_buffer(words);
     }
-    buffer.push(b"}");
+}
+
+/// Appends the members that each finding has, and the fix if a similar name is known.
+fn write_finding(
+    buffer: &mut TextBuffer,
+    place: FindingPlace<'_>,
+    fault: &GenFault,
+    advice: &Advice,
+) {
+    let mut message = buffer.beside();
+    write_what(&mut message, fault);
+    if message.len() > 0 {
+        message.push(b": ");
+    }
+    write_words(&mut message, fault);
+    buffer.push_json_finding(b"error", fault.name().as_bytes(), place, message);
+    if let Advice::Near(name) = advice {
+        buffer.push_json_fix(place, name);
+    }
 }
 
 /// Appends the start of an object: the file, and the location in it, if there is one.

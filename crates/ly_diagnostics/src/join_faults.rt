@@ -7,8 +7,9 @@ use crate::location::{from_offset, line_start};
 use crate::nearest::nearest;
 use crate::pieces::behind_piece;
 use crate::short::Short;
+use crate::yacc_advice::FURTHER_BODY;
 use crate::yacc_faults::MendedYacc;
-use crate::yacc_offsets::{given_offset, symbol_location};
+use crate::yacc_offsets::{ends_body, given_offset, symbol_location};
 use ly_base::{Language, Limits, Location, OutOfMemory, after_gap, locate};
 use ly_generate::GenFault;
 use ly_join::{JoinFault, TerminalName, join};
@@ -117,6 +118,11 @@ impl Joining<'_> {
         }
         if let JoinFault::PrecedenceTwice(terminal) = fault {
             return Ok(Some(self.leave_one_out(alloc, terminal)?));
+        }
+        if let JoinFault::TokenOnLeft(name) = fault
+            && ends_body(&self.yacc.file, &self.yacc.text, name)
+        {
+            return Ok(Some(Advice::Words(FURTHER_BODY)));
         }
         Ok(Some(join_advice(alloc, fault, &self.yacc.file, &self.said)?))
     }

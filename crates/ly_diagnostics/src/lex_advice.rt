@@ -86,7 +86,8 @@ fn form_of_others(kind: LexFaultKind, line: &[u8], before: usize) -> Option<&'st
         LexFaultKind::Pattern(EreFaultKind::UnclosedBracket)
             if opens_collating(from_offset(line, before.saturating_add(1))) => {
             Some(
-                "in a set `[.`, `[=` and `[:` begin a symbol that ends with `.]`, `=]` or `:]`: to match `[`, write it last",
+                "in a set `[.`, `[=` and `[:` begin a symbol that ends with `.]`, `=]` or `:]`: to match `[`, \
+                write it last",
             )
         }
         LexFaultKind::UnknownCondition if before == 0 => {

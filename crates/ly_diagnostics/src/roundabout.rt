@@ -16,18 +16,16 @@ pub(crate) struct Step {
     pub(crate) to: Sym,
 }
 
-/// A cycle of nonterminals without a text that the start symbol leads to. Each rule of such a nonterminal contains
-/// another one; the edge is to the first one in its first rule.
-pub(crate) fn without_text(alloc: Global, grammar: &Grammar) -> Result<Vec<Step>, OutOfMemory> {
-    let Some(known) = with_text(alloc, grammar)? else {
-        return Ok(Vec::new(alloc));
-    };
+/// A cycle of nonterminals without a text that the start symbol leads to; exactly the `known` ones derive a text. Each
+/// rule of such a nonterminal contains another one; the edge is to the first one in its first rule.
+pub(crate) fn without_text(
+    alloc: Global,
+    grammar: &Grammar,
+    known: &[bool],
+) -> Result<Vec<Step>, OutOfMemory> {
     let mut steps = no_steps(alloc, grammar)?;
     for (number, rule) in grammar.rules().iter().enumerate() {
-        let needed = rule
-            .body()
-            .iter()
-            .find(|symbol| !has_text(**symbol, &known));
+        let needed = rule.body().iter().find(|symbol| !has_text(**symbol, known));
         if let Some(Symbol::Nonterminal(to)) = needed {
             note_step(&mut steps, rule, number, *to);
         }
@@ -77,8 +75,29 @@ pub(crate) fn is_behind_nothing(reduced: &Reduced<'_>, number: usize) -> bool {
         .any(|symbol| *symbol == Symbol::Nonterminal(rule.left()))
 }
 
+/// The nonterminals of a body that derive no text, each once; exactly the `known` ones derive one.
+pub(crate) fn needed_in(
+    alloc: Global,
+    body: &[Symbol],
+    known: &[bool],
+) -> Result<Vec<Sym>, OutOfMemory> {
+    let mut needed: Vec<Sym> = Vec::new(alloc);
+    for symbol in body {
+        if let Symbol::Nonterminal(number) = symbol
+            && !has_text(*symbol, known)
+            && !needed.contains(number)
+        {
+            needed.push(*number)?;
+        }
+    }
+    Ok(needed)
+}
+
 /// Which nonterminals derive a text.
-fn with_text(alloc: Global, grammar: &Grammar) -> Result<Option<Vec<bool>>, OutOfMemory> {
+pub(crate) fn with_text(
+    alloc: Global,
+    grammar: &Grammar,
+) -> Result<Option<Vec<bool>>, OutOfMemory> {
     let mut known = vec![in alloc; false; grammar.accept().0 as usize]?;
     for _ in 0..PASSES {
         let mut more = false;

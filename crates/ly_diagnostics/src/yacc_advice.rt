@@ -141,6 +141,10 @@ fn directive_advice(before: &Before, rest: &[u8]) -> &'static str {
 const OTHER_BYTE: &str =
     "this byte can't be part of a name: names have letters `a` to `z` and `A` to `Z`, digits, `_` and `.`";
 
+/// The suggestion for a `:` in the place of a `|`.
+pub(crate) const FURTHER_BODY: &str =
+    "a further body of a rule begins with `|`, and only the first one with `:`";
+
 /// The suggestion for what isn't allowed in the rules.
 fn rule_advice(before: &Before, rest: &[u8]) -> &'static str {
     if let Some((_, [0x80..=0xFF, ..])) = leading_name(rest, Language::Yacc) {
@@ -153,9 +157,12 @@ fn rule_advice(before: &Before, rest: &[u8]) -> &'static str {
         Some(b'*' | b'+' | b'?' | b'(' | b')' | b'[' | b']') => {
             "a body has only symbols: write a separate rule for a part that is optional or repeated"
         }
+        Some(b':') if before.in_body && !before.at_body => FURTHER_BODY,
         Some(b':' | b'=' | b'-') => "a rule is `name : symbols ;`",
         Some(b'<') => "`$` has no types here: remove the tag",
         Some(0x80..=0xFF) => OTHER_BYTE,
+        _ if before.in_body && before.behind_prec =>
+            "write `%prec` and its token after the last symbol of a body",
         _ if before.in_body =>
             "a body has symbols and, at its end, an optional action: is a `;` or a `|` missing?",
         _ => "a rule is `name : symbols ;`: is a `:` or a `;` missing?",
@@ -182,6 +189,8 @@ fn rule_directive_advice(rest: &[u8]) -> &'static str {
 fn action_advice(before: &Before, rest: &[u8]) -> &'static str {
     if is_over(rest) || rest.starts_with(b"|") || rest.starts_with(b"%%") || begins_rule(rest) {
         "close the braces of the action with `}`"
+    } else if rest.starts_with(b"}") && before.at_action {
+        "an empty action is written as nothing: remove the braces"
     } else if rest.starts_with(b"}") {
         "the statement of an action ends with a `;`: write `{ $$ = Name($1,$3); }` or `{ $$ = $1; }`"
     } else if rest.starts_with(b";") {
@@ -189,7 +198,8 @@ fn action_advice(before: &Before, rest: &[u8]) -> &'static str {
     } else if before.at_child && leading_name(rest, Language::Yacc).is_some() {
         "the children of a node are `$1`, `$2` and so on: make an inner node with a rule of its own"
     } else {
-        "write `{ $$ = Name($1,$3); }`, `{ $$ = $1; }`, or no action: lytab's actions are not C"
+        "write `{ $$ = Name($1,$3); }`, `{ $$ = $1; }`, or no action: lytab's actions are not C; \
+        `lytab-from-bison --explain FILE` checks a grammar with C actions"
     }
 }
 

@@ -9,6 +9,14 @@ pub(crate) struct Before {
     pub(crate) in_rules: bool,
     /// Whether it is in a body of a rule.
     pub(crate) in_body: bool,
+    /// Whether the last word begins a body: it is `:` or `|`.
+    pub(crate) at_body: bool,
+    /// Whether the last word opens an action: it is `{`.
+    pub(crate) at_action: bool,
+    /// Whether the last word is `%prec`.
+    at_prec: bool,
+    /// Whether the last word is the token of a `%prec`.
+    pub(crate) behind_prec: bool,
     /// Whether a child of a node is expected there: after `(` or `,` in an action.
     pub(crate) at_child: bool,
     /// How many braces are open.
@@ -27,6 +35,10 @@ impl Before {
         let mut before = Before {
             in_rules: false,
             in_body: false,
+            at_body: false,
+            at_action: false,
+            at_prec: false,
+            behind_prec: false,
             at_child: false,
             depth: 0,
             directive: None,
@@ -60,6 +72,10 @@ impl Before {
             self
         };
         Before {
+            at_body: word == b":".as_slice() || word == b"|".as_slice(),
+            at_action: word == b"{".as_slice(),
+            at_prec: word == b"%prec".as_slice(),
+            behind_prec: self.at_prec,
             at_child: before.depth > 0 && (word == b"(".as_slice() || word == b",".as_slice()),
             last: Some(span),
             ..before

@@ -97,6 +97,9 @@ fn rule_mending(text: &[u8], before: &Before, kind: YaccFaultKind, offset: usize
     if !before.in_body {
         return left_side_mending(offset, rest);
     }
+    if rest.starts_with(b":") && !before.at_body {
+        return Edit::replace(offset, arrow_length(rest), b"|");
+    }
     if rest.starts_with(b":") || rest.starts_with(b"=") {
         return Edit::blank(offset, arrow_length(rest));
     }

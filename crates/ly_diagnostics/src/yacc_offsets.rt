@@ -1,7 +1,7 @@
 //! Locations in a yacc file of what an error of both files names.
 use crate::join_mending::is_name;
-use crate::location::from_offset;
-use ly_base::{Language, Location, OutOfMemory, after_gap, locate};
+use crate::location::{bytes_before, from_offset};
+use ly_base::{Language, Location, OutOfMemory, after_gap, is_blank, locate};
 use ly_join::{JoinFault, TerminalName};
 use ly_yaccread::{DeclarationKind, SymbolName, WordSpan, YaccFault, YaccFile, read_yacc};
 use std::alloc::Global;
@@ -71,6 +71,20 @@ fn left_side_offset(file: &YaccFile, name: &[u8]) -> Option<usize> {
         .iter()
         .position(|rule| rule.left.as_slice() == name)?;
     Some(file.rule_offsets.get(rule)?.left as usize)
+}
+
+/// Whether the first left side with this name follows another word on its line, which isn't a `;`. Then the name was
+/// meant as the last symbol of a body, and the `:` as a `|`.
+pub(crate) fn ends_body(file: &YaccFile, text: &[u8], name: &[u8]) -> bool {
+    let Some(offset) = left_side_offset(file, name) else {
+        return false;
+    };
+    let start = offset.saturating_sub(bytes_before(locate(text, offset)));
+    let line = text.get(start..offset).unwrap_or_default();
+    match line.iter().rev().find(|byte| !is_blank(**byte)) {
+        Some(last) => !matches!(*last, b';' | b'%' | b'/'),
+        None => false,
+    }
 }
 
 /// The offset of the first body that contains this name.

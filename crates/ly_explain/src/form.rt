@@ -3,10 +3,10 @@ ghost use Rattle.ly_explain.specs.Findings.{IsInForm};
 
 use crate::surveying::Findings;
 use ly_analysis::{Analysis, Options, Places};
-use ly_base::OutOfMemory;
+use ly_base::{Location, OutOfMemory};
 use ly_conflicts::write_conflicts;
-use ly_lints::{Lint, file_of, name_of, write_kind};
-use ly_text_buffer::TextBuffer;
+use ly_lints::{Hiding, Lint, LintKind, file_of, name_of, write_kind};
+use ly_text_buffer::{Extent, FindingPlace, TextBuffer};
 use std::alloc::Global;
 
 /// The report on two files in text form or as JSON. As JSON it begins with whether the files are accepted and with the
@@ -81,5 +81,63 @@ fn write_lint(buffer: &mut TextBuffer, files: &Analysis<'_>, lint: &Lint<'_>) {
     let mut words = buffer.beside();
     write_kind(&mut words, files, &lint.kind);
     buffer.push_json_buffer(words);
+    let mut message = buffer.beside();
+    write_kind(&mut message, files, &lint.kind);
+    let place = FindingPlace {
+        file: file_of(files, lint.side),
+        at: lint.at,
+        extent: extent_of(&lint.kind),
+    };
+    buffer.push_json_finding(b"warning", name_of(&lint.kind), place, message);
+    write_related(buffer, files, &lint.kind);
     buffer.push(b"}");
+}
+
+/// How far the span of a warning goes. What a rule of the lex file does is a matter of its whole line.
+fn extent_of(kind: &LintKind<'_>) -> Extent {
+    match kind {
+        LintKind::IndentedLine | LintKind::UnmatchedRule(_) | LintKind::UnnamedLiteral(_) => {
+            Extent::Line
+        }
+        _ => Extent::Word,
+    }
+}
+
+/// Prints the other places of a warning, if it has some.
+fn write_related(buffer: &mut TextBuffer, files: &Analysis<'_>, kind: &LintKind<'_>) {
+    match kind {
+        LintKind::DeclaredAgain { first, .. } => {
+            buffer.push(b",\"related\":[");
+            let place = FindingPlace {
+                file: files.yacc,
+                at: Some(*first),
+                extent: Extent::Word,
+            };
+            let mut message = buffer.beside();
+            message.push(b"the first declaration");
+            buffer.push_json_related(place, message);
+            buffer.push(b"]");
+        }
+        LintKind::UnmatchedRule(Hiding::Lines(lines)) => {
+            buffer.push(b",\"related\":[");
+            for (number, line) in lines.iter().enumerate() {
+                buffer.push(if number > 0 { b"," } else { b"" });
+                write_hiding_rule(buffer, files, *line);
+            }
+            buffer.push(b"]");
+        }
+        _ => {}
+    }
+}
+
+/// Prints the place of a rule that matches strings of another one.
+fn write_hiding_rule(buffer: &mut TextBuffer, files: &Analysis<'_>, line: u64) {
+    let place = FindingPlace {
+        file: files.lex,
+        at: Some(Location { line, column: 1 }),
+        extent: Extent::Line,
+    };
+    let mut message = buffer.beside();
+    message.push(b"this rule matches its strings");
+    buffer.push_json_related(place, message);
 }

@@ -13,7 +13,7 @@ use ly_base::OutOfMemory;
 use ly_conflicts::write_conflicts;
 use ly_join::Spec;
 use ly_lexread::LexFile;
-use ly_lints::{Lint, lints_of, write_lint};
+use ly_lints::{Lint, lints_of, write_lints};
 use ly_lookahead::Lookaheads;
 use ly_report::ConflictCounts;
 use ly_resolve::Resolved;
@@ -85,9 +85,9 @@ fn said_of(
     let lints = lints_of(alloc, *files, &places, options)?;
     let mut buffer = TextBuffer::new(alloc);
     if options.json {
-        write_json(alloc, &mut buffer, files, &places, &lints, options)?;
+        write_json(alloc, &mut buffer, files, &places, &lints.list, options)?;
     } else {
-        write_all(alloc, &mut buffer, files, &places, &lints, options)?;
+        write_all(alloc, &mut buffer, files, &places, &lints.list, options)?;
     }
     Ok((buffer.finish()?, !lints.is_empty()))
 }
@@ -102,9 +102,7 @@ fn write_all(
     options: Options,
 ) -> Result<(), OutOfMemory> {
     write_sizes(buffer, files, options);
-    for lint in lints {
-        write_lint(buffer, files, lint);
-    }
+    write_lints(buffer, files, lints);
     if lints.is_empty() && files.resolved.conflicts().is_empty() {
         buffer.push(b"No warnings.\n");
     }

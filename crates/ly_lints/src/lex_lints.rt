@@ -1,13 +1,11 @@
 //! The warnings about an accepted lex file.
-ghost use Rattle.ly_subset.specs.Automaton.{IsBreadthFirst};
-
+use crate::definitions::{definition_number, used_definitions};
 use crate::hiding::hiding_of;
 use crate::lint::{Lint, LintKind, Side};
 use crate::lints::MOST;
 use crate::patterns::pattern_lints;
 use ly_analysis::{Analysis, Lines, RuleLines, first_of, is_marked};
 use ly_base::{Language, Limits, Location, OutOfMemory, is_blank, leading_name};
-use ly_counterexamples::unmatched_rules;
 use ly_ere::{EreFault, read_front};
 use ly_join::TerminalName;
 use ly_lexread::Returned;
@@ -22,23 +20,34 @@ struct Finder<'a> {
     lints: Vec<Lint<'a>>,
 }
 
-/// Finds the warnings about the lex file.
+/// A line with a pattern.
+#[derive(Clone, Copy)]
+struct Located<'a> {
+    /// The line.
+    line: &'a [u8],
+    /// The location of its start.
+    at: Location,
+    /// The end of the line, which begins with the pattern.
+    end: &'a [u8],
+}
+
+/// Finds the warnings about the lex file. The rules with these numbers never match.
 pub(crate) fn lex_lints<'a>(
     alloc: Global,
     files: Analysis<'a>,
-) -> Result<Vec<Lint<'a>>, OutOfMemory>
-    requires { IsBreadthFirst files.dfa.now }
-{
+    unmatched: &[usize],
+) -> Result<Vec<Lint<'a>>, OutOfMemory> {
     let lines = RuleLines::of(alloc, &files)?;
-    let unmatched = unmatched_rules(alloc, files.file.rules.len(), files.dfa)?;
     let mut finder = Finder {
         files,
         lints: Vec::new(alloc),
     };
     finder.find_conditions(alloc)?;
-    finder.find_pattern_lints(alloc)?;
+    let defined = finder.defined_names(alloc)?;
+    finder.find_unused_definitions(alloc, &defined)?;
+    finder.find_pattern_lints(alloc, &defined)?;
     finder.find_indented()?;
-    for rule in &unmatched {
+    for rule in unmatched {
         let hiding = hiding_of(alloc, &finder.files, &lines, *rule)?;
         let line = lines.of_rule(*rule);
         finder.add(first_of_line(line), LintKind::UnmatchedRule(hiding))?;
@@ -65,20 +74,22 @@ impl<'a> Finder<'a> {
         )
     }
 
-    /// Finds the conditions that no action sets, and those in which no rule is active.
+    /// Finds the conditions that no action sets, those in which no rule is active, and those that no action leaves.
     fn find_conditions(&mut self, alloc: Global) -> Result<(), OutOfMemory> {
         let file = self.files.file;
         let count = file.start_conditions.len();
         let mut begun = vec![in alloc; false; count]?;
         let mut active = vec![in alloc; false; count]?;
-        for action in &file.actions {
+        let mut left = vec![in alloc; false; count]?;
+        for (rule, action) in file.rules.iter().zip(file.actions.iter()) {
             if let Some(condition) = action.begin {
                 mark(&mut begun, condition);
             }
-        }
-        for rule in &file.rules {
             for condition in rule.active.as_slice() {
                 mark(&mut active, *condition);
+                if action.begin.is_some_and(|next| next != *condition) {
+                    mark(&mut left, *condition);
+                }
             }
         }
         let mut lines = Lines::of(self.files.lex.bytes);
@@ -87,11 +98,15 @@ impl<'a> Finder<'a> {
                 continue;
             };
             let at = lines.locate(offset);
-            if !is_marked(&begun, number) {
+            let (is_begun, is_active) = (is_marked(&begun, number), is_marked(&active, number));
+            if !is_begun {
                 self.add(at, LintKind::UnsetCondition(&condition.name))?;
             }
-            if !is_marked(&active, number) {
+            if !is_active {
                 self.add(at, LintKind::IdleCondition(&condition.name))?;
+            }
+            if is_begun && is_active && !is_marked(&left, number) {
+                self.add(at, LintKind::EndlessCondition(&condition.name))?;
             }
         }
         Ok(())
@@ -131,32 +146,82 @@ impl<'a> Finder<'a> {
         Ok(known)
     }
 
+    /// The names that the lex file defines, in its order.
+    fn defined_names(&self, alloc: Global) -> Result<Vec<&'a [u8]>, AllocError> {
+        let (file, text) = (self.files.file, self.files.lex.bytes);
+        let mut names = Vec::new(alloc);
+        for start in &file.definition_starts {
+            let line = line_from(text, *start);
+            let name: &'a [u8] = match leading_name(line, Language::Lex) {
+                Some((name, _)) => name,
+                None => b"",
+            };
+            names.push(name)?;
+        }
+        Ok(names)
+    }
+
+    /// Finds the definitions that no rule uses. `defined` are the names of all.
+    fn find_unused_definitions(
+        &mut self,
+        alloc: Global,
+        defined: &[&'a [u8]],
+    ) -> Result<(), OutOfMemory> {
+        let file = self.files.file;
+        let used = used_definitions(alloc, file)?;
+        let mut lines = Lines::of(self.files.lex.bytes);
+        let mut found = 0;
+        for (name, start) in defined.iter().zip(file.definition_starts.iter()) {
+            if let Some(number) = definition_number(alloc, &file.names, name)?
+                && !is_marked(&used, number)
+                && found < MOST
+            {
+                self.add(lines.locate(*start), LintKind::UnusedDefinition(name))?;
+                found = found.saturating_add(1);
+            }
+        }
+        Ok(())
+    }
+
     /// Finds constructs in the patterns of the lex file that have another meaning than they may seem to have.
-    fn find_pattern_lints(&mut self, alloc: Global) -> Result<(), OutOfMemory> {
+    fn find_pattern_lints(&mut self, alloc: Global, defined: &[&[u8]]) -> Result<(), OutOfMemory> {
         let (file, text) = (self.files.file, self.files.lex.bytes);
         let mut lines = Lines::of(text);
         for start in &file.definition_starts {
             let line = line_from(text, *start);
             let at = lines.locate(*start);
-            self.find_pattern_lints_in(alloc, line, at, behind_name(line))?;
+            let pattern = Located {
+                line,
+                at,
+                end: behind_name(line),
+            };
+            self.find_pattern_lints_in(alloc, pattern, defined)?;
         }
         for start in &file.rule_starts {
             let line = line_from(text, *start);
             let at = lines.locate(*start);
-            self.find_pattern_lints_in(alloc, line, at, behind_conditions(line))?;
+            let pattern = Located {
+                line,
+                at,
+                end: behind_conditions(line),
+            };
+            self.find_pattern_lints_in(alloc, pattern, defined)?;
         }
         Ok(())
     }
 
-    /// Finds such constructs in the pattern at the start of `end`, which is the end of `line`. The line begins at
-    /// `start`.
+    /// Finds such constructs in a pattern.
     fn find_pattern_lints_in(
         &mut self,
         alloc: Global,
-        line: &'a [u8],
-        start: Location,
-        end: &[u8],
+        pattern: Located<'a>,
+        defined: &[&[u8]],
     ) -> Result<(), OutOfMemory> {
+        let Located {
+            line,
+            at: start,
+            end,
+        } = pattern;
         let names = &self.files.file.names;
         let length = match read_front(alloc, end, names, &Limits::version_2()) {
             Ok((_, length)) => length,
@@ -164,7 +229,8 @@ impl<'a> Finder<'a> {
             Err(EreFault::Refused { .. }) => return Ok(()),
         };
         let before = line.len().saturating_sub(end.len());
-        for found_lint in &pattern_lints(alloc, names, end.get(..length).unwrap_or_default())? {
+        let text = end.get(..length).unwrap_or_default();
+        for found_lint in &pattern_lints(alloc, names, defined, text)? {
             let offset = before.saturating_add(found_lint.offset);
             let column = start.column.saturating_add(offset as u64);
             let kind = LintKind::PatternLint {

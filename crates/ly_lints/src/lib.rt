@@ -5,6 +5,7 @@
 //! Which of it deserves a warning, and the wording, is only tested.
 #![tactic(auto)]
 
+mod definitions;
 mod hiding;
 mod lex_lints;
 mod lint;
@@ -14,7 +15,7 @@ mod pattern_lint_messages;
 mod patterns;
 mod useless;
 
-pub use lint::{Hiding, Lint, LintKind, Side, Uselessness};
-pub use lint_messages::{file_of, name_of, write_kind, write_lint};
+pub use lint::{Hiding, Lint, LintKind, Lints, Side, Uselessness};
+pub use lint_messages::{file_of, name_of, write_kind, write_lints};
 pub use lints::lints_of;
 pub use patterns::PatternLint;

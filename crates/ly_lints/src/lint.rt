@@ -1,4 +1,6 @@
 //! Warnings as values: what may be a mistake, and where.
+ghost use Rattle.std.specs.Prelude.{◌≡◌, [], IsTrue};
+
 use crate::patterns::PatternLint;
 use ly_base::{Location, Sym};
 use ly_yaccread::SymbolName;
@@ -23,6 +25,28 @@ pub struct Lint<'a> {
     pub kind: LintKind<'a>,
 }
 
+/// The warnings about two files.
+#[derive(Drop)]
+pub struct Lints<'a> {
+    /// The warnings, in the order in which they are printed.
+    pub list: Vec<Lint<'a>>,
+    /// The rules of the lex file that never match, each with a warning. None if there is no lex file.
+    pub unmatched: Vec<usize>,
+    /// The rules of the grammar that are never reduced, each with a warning.
+    pub unreduced: Vec<usize>,
+}
+
+impl Lints<'_> {
+    /// Whether there are no warnings, and so no rules that never match or are never reduced.
+    pub fn is_empty(&self) -> bool
+        ensures list { IsTrue result → self.now.list.items ≡ [] }
+        ensures unmatched { IsTrue result → self.now.unmatched.items ≡ [] }
+        ensures unreduced { IsTrue result → self.now.unreduced.items ≡ [] }
+    {
+        self.list.is_empty() && self.unmatched.is_empty() && self.unreduced.is_empty()
+    }
+}
+
 /// The kinds of warnings.
 #[derive(Drop)]
 pub enum LintKind<'a> {
@@ -30,6 +54,10 @@ pub enum LintKind<'a> {
     UnsetCondition(&'a [u8]),
     /// No rule is active in this condition.
     IdleCondition(&'a [u8]),
+    /// Once it is set, no action sets another condition.
+    EndlessCondition(&'a [u8]),
+    /// No rule uses this definition.
+    UnusedDefinition(&'a [u8]),
     /// A pattern has another meaning than it may seem to have.
     PatternLint {
         /// The construct with that meaning.
@@ -63,8 +91,8 @@ pub enum LintKind<'a> {
     DeclaredAgain {
         /// The token.
         symbol: &'a SymbolName,
-        /// The line of its first declaration.
-        first: u64,
+        /// The location of its first declaration.
+        first: Location,
     },
     /// The precedence of this terminal has no effect.
     IdlePrecedence(Sym),

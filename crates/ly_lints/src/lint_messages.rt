@@ -11,6 +11,9 @@ use ly_yaccread::SymbolName;
 /// The greatest number of rules that are named as the reason why another one never matches.
 const NAMED: usize = 5;
 
+/// The greatest number of warnings of a file whose source lines are shown.
+const SHOWN: usize = 20;
+
 /// The file of a side.
 pub fn file_of<'a>(files: &Analysis<'a>, side: Side) -> NamedFile<'a> {
     match side {
@@ -19,8 +22,22 @@ pub fn file_of<'a>(files: &Analysis<'a>, side: Side) -> NamedFile<'a> {
     }
 }
 
-/// Prints a warning on a line: the file, the location, `warning: `, and the message. For a pattern its line follows.
-pub fn write_lint(buffer: &mut TextBuffer, files: &Analysis<'_>, lint: &Lint<'_>) {
+/// Prints warnings, each on a line. The source lines of the first ones of each file follow them, with a caret.
+pub fn write_lints(buffer: &mut TextBuffer, files: &Analysis<'_>, lints: &[Lint<'_>]) {
+    let (mut lex, mut yacc) = (0, 0);
+    for lint in lints {
+        let count: &mut usize = match lint.side {
+            Side::Lex => &mut lex,
+            Side::Yacc => &mut yacc,
+        };
+        write_lint(buffer, files, lint, *count < SHOWN);
+        *count = count.saturating_add(1);
+    }
+}
+
+/// Prints a warning on a line: the file, the location, `warning: `, and the message. If the source line is to be shown
+/// it follows. That of a pattern always does.
+fn write_lint(buffer: &mut TextBuffer, files: &Analysis<'_>, lint: &Lint<'_>, is_shown: bool) {
     let file = file_of(files, lint.side);
     match lint.at {
         Some(at) => buffer.push_location_in(file, at),
@@ -35,6 +52,8 @@ pub fn write_lint(buffer: &mut TextBuffer, files: &Analysis<'_>, lint: &Lint<'_>
     if let LintKind::PatternLint { line, offset, .. } = &lint.kind {
         // Only this line is passed, so that it isn't searched from the start of the file.
         buffer.push_excerpt(NamedFile::new(file.name, line), locate(line, *offset));
+    } else if let (Some(at), true) = (lint.at, is_shown) {
+        buffer.push_excerpt(file, at);
     }
 }
 
@@ -48,6 +67,14 @@ pub fn write_kind(buffer: &mut TextBuffer, files: &Analysis<'_>, kind: &LintKind
         ),
         LintKind::IdleCondition(name) => {
             write_about(buffer, b"no rule is active in the start condition ", name)
+        }
+        LintKind::EndlessCondition(name) => write_about(
+            buffer,
+            b"no rule that is active in it leaves the start condition ",
+            name,
+        ),
+        LintKind::UnusedDefinition(name) => {
+            write_about(buffer, b"no rule uses the definition ", name)
         }
         LintKind::PatternLint { pattern_lint, .. } => write_pattern_lint(buffer, *pattern_lint),
         LintKind::IndentedLine => {
@@ -140,12 +167,11 @@ fn write_of_terminal(buffer: &mut TextBuffer, files: &Analysis<'_>, kind: &LintK
             buffer.push(b" is used in no rule");
         }
         LintKind::MoreUnused(count) => {
-            write_numbered(
-                buffer,
-                b"",
-                *count as u64,
-                b" more terminals are used in no rule",
+            let (one, many) = (
+                b"more terminal is used in no rule",
+                b"more terminals are used in no rule",
             );
+            buffer.push_count(*count, one, many);
         }
         LintKind::UnreturnedTerminal(terminal) => {
             buffer.push_terminal(spec, *terminal);
@@ -153,19 +179,18 @@ fn write_of_terminal(buffer: &mut TextBuffer, files: &Analysis<'_>, kind: &LintK
             buffer.push(files.lex.name.as_bytes());
         }
         LintKind::MoreUnreturned(count) => {
-            write_numbered(
-                buffer,
-                b"",
-                *count as u64,
-                b" more terminals are never returned",
+            let (one, many) = (
+                b"more terminal is never returned",
+                b"more terminals are never returned",
             );
+            buffer.push_count(*count, one, many);
         }
         LintKind::DeclaredAgain { symbol, first } => {
             match symbol {
                 SymbolName::Name(name) => buffer.push(name),
                 SymbolName::Literal(byte) => buffer.push_byte(*byte),
             }
-            write_numbered(buffer, b" is already declared on line ", *first, b"");
+            write_numbered(buffer, b" is already declared on line ", first.line, b"");
         }
         LintKind::IdlePrecedence(terminal) => {
             buffer.push(b"the precedence of ");
@@ -222,6 +247,8 @@ pub fn name_of(kind: &LintKind<'_>) -> &'static [u8] {
     match kind {
         LintKind::UnsetCondition(_) => b"UnsetCondition",
         LintKind::IdleCondition(_) => b"IdleCondition",
+        LintKind::EndlessCondition(_) => b"EndlessCondition",
+        LintKind::UnusedDefinition(_) => b"UnusedDefinition",
         LintKind::PatternLint { pattern_lint, .. } => name_of_pattern_lint(*pattern_lint),
         LintKind::IndentedLine => b"IndentedLine",
         LintKind::UnmatchedRule(_) => b"UnmatchedRule",
@@ -249,5 +276,10 @@ fn name_of_pattern_lint(pattern_lint: PatternLint) -> &'static [u8] {
         PatternLint::Interval => b"IntervalOfAll",
         PatternLint::LineEnd => b"NewlineBehind",
         PatternLint::EndOfFile => b"EndOfFile",
+        PatternLint::SingleQuotes => b"SingleQuotes",
+        PatternLint::BareName => b"BareName",
+        PatternLint::BareClass => b"BareClass",
+        PatternLint::MixedRange => b"MixedRange",
+        PatternLint::Invisible => b"InvisibleCharacter",
     }
 }

@@ -1,13 +1,17 @@
 //! The warnings about accepted files.
+ghost use Rattle.std.specs.Prelude.{◌≡◌, IfOk, false, length};
+ghost use Rattle.ly_counterexamples.specs.Doubts.{AreRising, NeverMatches, NeverReduces};
 ghost use Rattle.ly_lookahead.specs.Lookaheads.{AreLookaheads};
 ghost use Rattle.ly_subset.specs.Automaton.{IsBreadthFirst};
 
 use crate::lex_lints::lex_lints;
-use crate::lint::{Lint, LintKind, Side};
+use crate::lint::{Lint, LintKind, Lints, Side};
 use crate::useless::Derived;
 use ly_analysis::{Analysis, Decided, Options, Places, first_of};
 use ly_base::{Location, OutOfMemory, Sym, locate};
-use ly_counterexamples::{unreduced_rules, unreturned_terminals, unused_terminals};
+use ly_counterexamples::{
+    unmatched_rules, unreduced_rules, unreturned_terminals, unused_terminals,
+};
 use std::alloc::Global;
 
 /// The greatest number of terminals that are reported for each kind of warning.
@@ -24,12 +28,65 @@ struct Finder<'a> {
     lints: Vec<Lint<'a>>,
 }
 
+/// The rules that do nothing.
+#[derive(Clone, Copy)]
+struct DeadRules<'r> {
+    /// The rules of the lex file that never match.
+    unmatched: &'r [usize],
+    /// The rules of the grammar that are never reduced.
+    unreduced: &'r [usize],
+}
+
 /// Finds all warnings: first those about the lex file, if there is one, then those about the yacc file.
 pub fn lints_of<'a>(
     alloc: Global,
     files: Analysis<'a>,
     places: &'a Places,
     options: Options,
+) -> Result<Lints<'a>, OutOfMemory>
+    requires order { IsBreadthFirst files.dfa.now }
+    requires sets { AreLookaheads files.resolved.now.automaton files.lookaheads.now }
+    ensures unmatched { options.grammar_alone ≡ false → IfOk result (λ lints. AreRising
+        (NeverMatches files.dfa.now (length files.file.now.rules.items)) lints.unmatched.items) }
+    ensures unreduced { IfOk result (λ lints. AreRising (NeverReduces files.resolved.now) lints.unreduced.items) }
+{
+    let unmatched = unmatched_in(alloc, &files, options)?;
+    let unreduced = unreduced_rules(alloc, files.resolved)?;
+    let dead = DeadRules {
+        unmatched: &unmatched,
+        unreduced: &unreduced,
+    };
+    let list = list_of(alloc, files, places, options, dead)?;
+    Ok(Lints {
+        list,
+        unmatched,
+        unreduced,
+    })
+}
+
+/// The rules of the lex file that never match; none if there is no lex file.
+fn unmatched_in(
+    alloc: Global,
+    files: &Analysis<'_>,
+    options: Options,
+) -> Result<Vec<usize>, OutOfMemory>
+    requires { IsBreadthFirst files.now.dfa.now }
+    ensures { options.grammar_alone ≡ false → IfOk result (λ found. AreRising
+        (NeverMatches files.now.dfa.now (length files.now.file.now.rules.items)) found.items) }
+{
+    if options.grammar_alone {
+        return Ok(Vec::new(alloc));
+    }
+    unmatched_rules(alloc, files.file.rules.len(), files.dfa)
+}
+
+/// All warnings, given the rules that do nothing.
+fn list_of<'a>(
+    alloc: Global,
+    files: Analysis<'a>,
+    places: &'a Places,
+    options: Options,
+    dead: DeadRules<'_>,
 ) -> Result<Vec<Lint<'a>>, OutOfMemory>
     requires order { IsBreadthFirst files.dfa.now }
     requires sets { AreLookaheads files.resolved.now.automaton files.lookaheads.now }
@@ -37,7 +94,7 @@ pub fn lints_of<'a>(
     let lints = if options.grammar_alone {
         Vec::new(alloc)
     } else {
-        lex_lints(alloc, files)?
+        lex_lints(alloc, files, dead.unmatched)?
     };
     let unused = unused_terminals(alloc, files.spec)?;
     let unreturned = if options.grammar_alone {
@@ -51,7 +108,7 @@ pub fn lints_of<'a>(
         places,
         lints,
     };
-    finder.find_rules(alloc)?;
+    finder.find_rules(alloc, dead.unreduced)?;
     finder.find_unused(alloc, &unused)?;
     finder.find_unreturned(&unreturned, &unused)?;
     finder.find_declared_again(alloc)?;
@@ -85,9 +142,9 @@ impl<'a> Finder<'a> {
     }
 
     /// Finds the rules of the grammar that are removed, are never reduced, or lose trees.
-    fn find_rules(&mut self, alloc: Global) -> Result<(), OutOfMemory> {
+    fn find_rules(&mut self, alloc: Global, unreduced: &[usize]) -> Result<(), OutOfMemory> {
         self.find_useless(alloc)?;
-        for rule in &unreduced_rules(alloc, self.files.resolved)? {
+        for rule in unreduced {
             self.add_of_rule(*rule, LintKind::UnreducedRule(*rule))?;
         }
         for rule in first_of(&self.places.losing_rules(alloc)?, MOST) {
@@ -169,7 +226,7 @@ impl<'a> Finder<'a> {
         for again in first_of(&places.declared_again(alloc)?, MOST) {
             let kind = LintKind::DeclaredAgain {
                 symbol: again.symbol,
-                first: locate(text, again.first).line,
+                first: locate(text, again.first),
             };
             self.add(Some(locate(text, again.offset)), kind)?;
         }

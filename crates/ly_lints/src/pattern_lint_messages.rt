@@ -26,6 +26,21 @@ pub(crate) fn write_pattern_lint(buffer: &mut TextBuffer, pattern_lint: PatternL
         PatternLint::LineEnd => {
             b"$ needs a newline after the match: at the end of a text without one the rule doesn't match"
         }
+        PatternLint::SingleQuotes => {
+            b"single quotes are bytes like others in a pattern: for a string write double quotes"
+        }
+        PatternLint::BareName => {
+            b"these are the letters of a name that is defined; for its definition write braces around it"
+        }
+        PatternLint::BareClass => {
+            b"these brackets hold the bytes of the name of a class; for the class write two pairs, as in [[:digit:]]"
+        }
+        PatternLint::MixedRange => {
+            b"the range has the six bytes between Z and a too, as [ and _; for letters write [A-Za-z]"
+        }
+        PatternLint::Invisible => {
+            b"the pattern has a character here that isn't visible, such as a zero-width space or a byte-order mark"
+        }
         PatternLint::EndOfFile => {
             b"<<EOF>> matches these seven bytes: no rule matches the end of a text"
         }

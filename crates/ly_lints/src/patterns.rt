@@ -2,7 +2,7 @@
 //! far it reads a prefix shows which construct is at an offset, and reading the pattern as it may be meant shows
 //! whether that is another pattern. Expressions don't record whether `(ab){2}` had parentheses, and a second reader
 //! could disagree with the first.
-use ly_base::{Limits, OutOfMemory, escape};
+use ly_base::{Language, Limits, OutOfMemory, escape, leading_name};
 use ly_ere::{EreFault, EreFaultKind, Names, Pattern, Re, read_pattern};
 use std::alloc::Global;
 
@@ -11,6 +11,15 @@ const LONGEST: usize = 1_000;
 
 /// The greatest number of bytes of patterns that are read to check one.
 const MOST: usize = 200_000;
+
+/// Characters that aren't visible, as UTF-8: zero-width spaces and joiners, and the byte-order mark.
+const INVISIBLE: [&[u8]; 5] = [
+    b"\xe2\x80\x8b",
+    b"\xe2\x80\x8c",
+    b"\xe2\x80\x8d",
+    b"\xe2\x81\xa0",
+    b"\xef\xbb\xbf",
+];
 
 /// The constructs.
 #[derive(Clone, Copy, Debug, PartialEq, Eq)]
@@ -33,6 +42,16 @@ pub enum PatternLint {
     LineEnd,
     /// `<<EOF>>`, which matches these bytes.
     EndOfFile,
+    /// A word in single quotes, which are bytes like others.
+    SingleQuotes,
+    /// The name of a definition before `+` or `*`, without braces.
+    BareName,
+    /// `[:digit:]` and the like, without outer brackets.
+    BareClass,
+    /// A range in brackets from an upper-case letter to a lower-case letter.
+    MixedRange,
+    /// A character that isn't visible.
+    Invisible,
 }
 
 /// A warning about a pattern.
@@ -62,6 +81,8 @@ struct Linting<'a> {
     names: &'a Names,
     /// The limits for patterns.
     limits: Limits,
+    /// The names that the file defines.
+    defined: &'a [&'a [u8]],
     /// The text of the pattern.
     text: &'a [u8],
     /// The warnings found so far.
@@ -70,14 +91,16 @@ struct Linting<'a> {
     bytes: usize,
 }
 
-/// Finds the warnings about the text of a pattern, each kind once.
+/// Finds the warnings about the text of a pattern, each kind once. `defined` are the names that the file defines.
 pub(crate) fn pattern_lints(
     alloc: Global,
     names: &Names,
+    defined: &[&[u8]],
     text: &[u8],
 ) -> Result<Vec<Found>, OutOfMemory> {
     let mut linting = Linting {
         names,
+        defined,
         limits: Limits::version_2(),
         text: text.get(..LONGEST).unwrap_or(text),
         found: Vec::new(alloc),
@@ -102,7 +125,20 @@ impl Linting<'_> {
 
     /// Checks the construct at an offset.
     fn look_at(&mut self, alloc: Global, offset: usize) -> Result<(), OutOfMemory> {
+        let rest = self.text.get(offset..).unwrap_or_default();
+        if let Some(pattern_lint) = literal_lint(rest) {
+            return self.note_if(alloc, pattern_lint, offset, Stand::Piece);
+        }
+        if INVISIBLE.iter().any(|bytes| rest.starts_with(*bytes)) {
+            return self.note_once(PatternLint::Invisible, offset);
+        }
+        if self.begins_bare_name(offset) {
+            return self.note_if(alloc, PatternLint::BareName, offset, Stand::Piece);
+        }
         match (self.byte(offset), self.byte(offset.saturating_add(1))) {
+            (Some(b'A'..=b'Z'), Some(b'-')) if matches!(rest.get(2), Some(b'a'..=b'z')) => {
+                self.note_if(alloc, PatternLint::MixedRange, offset, Stand::Brackets)
+            }
             (Some(b'\\'), Some(letter)) => self.look_at_escape(alloc, offset, letter),
             (Some(b'*' | b'+' | b'?'), Some(b'?')) => {
                 self.note_if(alloc, PatternLint::Reluctant, offset, Stand::Piece)
@@ -114,6 +150,17 @@ impl Linting<'_> {
             (Some(b'$'), None) => self.note_if(alloc, PatternLint::LineEnd, offset, Stand::Piece),
             _ => Ok(()),
         }
+    }
+
+    /// Whether the name of a definition and then `+` or `*` begin at an offset, and no longer name.
+    fn begins_bare_name(&self, offset: usize) -> bool {
+        let rest = self.text.get(offset..).unwrap_or_default();
+        let Some((name, [b'+' | b'*', ..])) = leading_name(rest, Language::Lex) else {
+            return false;
+        };
+        let before = offset.checked_sub(1).and_then(|before| self.byte(before));
+        let is_whole = !before.is_some_and(|byte| Language::Lex.continues_name(byte));
+        is_whole && self.defined.contains(&name)
     }
 
     /// Checks a backslash before a letter.
@@ -310,6 +357,14 @@ impl Linting<'_> {
         self.note(pattern_lint, offset)
     }
 
+    /// Adds a warning at an offset, unless there is one about this construct.
+    fn note_once(&mut self, pattern_lint: PatternLint, offset: usize) -> Result<(), OutOfMemory> {
+        if self.has(pattern_lint) {
+            return Ok(());
+        }
+        self.note(pattern_lint, offset)
+    }
+
     /// Adds a warning at an offset.
     fn note(&mut self, pattern_lint: PatternLint, offset: usize) -> Result<(), OutOfMemory> {
         Ok(
@@ -326,4 +381,26 @@ fn are_same(one: &Re, other: &Re) -> bool {
     let (nodes, root) = one.nodes();
     let (others, same) = other.nodes();
     root == same && nodes == others
+}
+
+/// The warning about a part of a pattern that begins with a class without outer brackets, or with a word in single
+/// quotes, if it isn't inside something else.
+fn literal_lint(rest: &[u8]) -> Option<PatternLint> {
+    if let Some(behind) = rest.strip_prefix(b"[:") {
+        let letters = behind
+            .iter()
+            .take_while(|byte| byte.is_ascii_lowercase())
+            .count();
+        let closed = behind.get(letters..).unwrap_or_default().starts_with(b":]");
+        return (letters > 0 && closed).then_some(PatternLint::BareClass);
+    }
+    let behind = rest.strip_prefix(b"'")?;
+    let length = behind.iter().take_while(|byte| is_plain(**byte)).count();
+    let closed = behind.get(length) == Some(&b'\'');
+    (length > 1 && closed).then_some(PatternLint::SingleQuotes)
+}
+
+/// Whether a byte is a letter, a digit, or punctuation that is no operator of patterns.
+fn is_plain(byte: u8) -> bool {
+    byte.is_ascii_alphanumeric() || b"_=<>!&-:;,%@#~`".contains(&byte)
 }

@@ -1,8 +1,8 @@
 //! Why rules are useless: a nonterminal of the body derives no string of tokens, or the start symbol never leads to the
 //! left side.
 //!
-//! Which nonterminals derive a string is found as by Dowling and Gallier (1984): each rule counts the nonterminals of its
-//! body that aren't known yet, and gives its left side once there are none. That takes time linear in the grammar.
+//! Which nonterminals derive a string is found as by Dowling and Gallier (1984): each rule counts the nonterminals of
+//! its body that aren't known yet, and gives its left side once there are none. That takes time linear in the grammar.
 use crate::lint::Uselessness;
 use ly_analysis::body_of;
 use ly_base::{OutOfMemory, Sym};

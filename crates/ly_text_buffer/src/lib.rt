@@ -10,9 +10,11 @@
 
 mod buffer;
 mod excerpt;
+mod finding;
 mod json;
 mod named_file;
 
 pub use buffer::TextBuffer;
 pub use excerpt::MARGIN;
+pub use finding::{Extent, FindingPlace};
 pub use named_file::NamedFile;

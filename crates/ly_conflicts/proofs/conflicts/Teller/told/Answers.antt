@@ -37,4 +37,5 @@ returns-clause-told c =
       terminals = subst (λ xs. AreTerminalsOf r xs c.in_ok-terminals.field-0.items) c.deref.ensures.value
           c.in_ok-terminals.ensures;
       shown = c.in_ok-shown.ensures.shown;
+      other = c.in_ok-other.ensures.other;
     }
