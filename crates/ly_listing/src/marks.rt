@@ -3,13 +3,15 @@ ghost use Rattle.std.specs.Prelude.{◌≡◌, ◌<◌, ◌≤◌, ◌+◌, ◌-
 ghost use Rattle.std.specs.Prelude.{option_map, OnErr, OnOk};
 ghost use Rattle.ly_print.specs.Device.{next_count};
 ghost use Rattle.ly_print.specs.TextWriter.{bytes_of, IsAppended};
-ghost use Rattle.ly_tokens.specs.Private.Marks.{gap_of, is_wide, label_of, marked_lines, taken_of, AreWithin};
-ghost use Rattle.ly_tokens.specs.Private.Marks.{IsNoted, IsNotedIf};
-ghost use Rattle.ly_tokens.specs.Private.TokenLines.{line_by};
+ghost use Rattle.ly_base.specs.Lexed.{token_if};
+ghost use Rattle.ly_listing.specs.Labels.{form_if, labelled_lines};
+ghost use Rattle.ly_listing.specs.Private.Marks.{gap_of, is_wide, label_of, marked_tokens, taken_of, AreWithin};
+ghost use Rattle.ly_listing.specs.Private.Marks.{IsNoted, IsNotedIf};
 
-use crate::labels::RuleLabels;
+use crate::printer::Printer;
+use crate::rule_labels::RuleLabels;
 use ly_base::{End, Place};
-use ly_print::{Front, Label, Sink, TextWriter, WriteFault};
+use ly_print::{Front, Label, Sink, WriteFault};
 use std::alloc::Global;
 
 /// Added to a mark's label index if both of the mark's bytes hold the token's length. Then no skipped bytes precede the
@@ -192,20 +194,25 @@ pub(crate) struct Walked<'t> {
 
 /// Writes the lines of the marked tokens, which start at the beginning of a text.
 #[inline(never)] // to leave it the registers
-pub(crate) fn write_marked<W: Sink>(
+pub(crate) fn write_marked<const JSON: bool, W: Sink>(
     marks: &[Mark],
     text: &[u8],
-    labels: &RuleLabels<'_>,
-    lines: &mut TextWriter,
+    labels: &RuleLabels,
+    printer: &mut Printer<'_>,
     writer: &mut W,
 ) -> Result<(), WriteFault>
+    requires text { printer.old.spot.text ≡ text.now }
     requires within { AreWithin marks.now text.now }
-    requires countable { bytes_of lines.old
-        + length (marked_lines labels.now.labels.items marks.now text.now) < 2 ^ 64 }
-    ensures told { IsAppended lines.old lines.new (W.contents writer.old) (W.contents writer.new)
-        (marked_lines labels.now.labels.items marks.now text.now) result }
-    ensures counted { OnOk result (bytes_of lines.new
-        ≡ bytes_of lines.old + length (marked_lines labels.now.labels.items marks.now text.now)) }
+    requires countable { let lines = labelled_lines (form_if JSON) text.now
+        (marked_tokens labels.now.labels.items (length text.now) marks.now text.now) in
+        bytes_of printer.old.lines + length lines < 2 ^ 64 }
+    ensures told { IsAppended printer.old.lines printer.new.lines (W.contents writer.old) (W.contents writer.new)
+        (labelled_lines (form_if JSON) text.now
+        (marked_tokens labels.now.labels.items (length text.now) marks.now text.now)) result }
+    ensures counted { OnOk result (bytes_of printer.new.lines ≡ bytes_of printer.old.lines
+        + length (labelled_lines (form_if JSON) text.now
+        (marked_tokens labels.now.labels.items (length text.now) marks.now text.now))) }
+    ensures text { printer.new.spot.text ≡ text.now }
     ensures no_failure { OnOk result (W.failures writer.new ≡ W.failures writer.old) }
     ensures failed { OnErr result (W.failures writer.new ≡ next_count (W.failures writer.old)) }
 {
@@ -213,7 +220,9 @@ pub(crate) fn write_marked<W: Sink>(
     for mark in marks {
         let there = behind(rest, mark.gap());
         let taken = mark.taken();
-        push_marked(lines, writer, labels, *mark, Front::new(there, taken))?;
+        let at = text.len() - there.len();
+        let label = mark.label(&labels.labels);
+        printer.push_if::<JSON, W>(writer, label, at, Front::new(there, taken))?;
         rest = behind(there, taken);
     }
     Ok(())
@@ -226,28 +235,4 @@ fn behind(bytes: &[u8], count: usize) -> &[u8]
     ensures { result.now ≡ drop count bytes.now }
 {
     &bytes[count..]
-}
-
-/// Appends the line of a mark's token, if it has one.
-#[inline(always)] // as `write_marked`
-fn push_marked<W: Sink>(
-    lines: &mut TextWriter,
-    writer: &mut W,
-    labels: &RuleLabels<'_>,
-    mark: Mark,
-    token: Front<'_>,
-) -> Result<(), WriteFault>
-    requires countable { bytes_of lines.old
-        + length (line_by (label_of labels.now.labels.items mark) token) < 2 ^ 64 }
-    ensures text { IsAppended lines.old lines.new (W.contents writer.old) (W.contents writer.new)
-        (line_by (label_of labels.now.labels.items mark) token.entry) result }
-    ensures counted { OnOk result (bytes_of lines.new ≡ bytes_of lines.old
-        + length (line_by (label_of labels.now.labels.items mark) token.entry)) }
-    ensures no_failure { OnOk result (W.failures writer.new ≡ W.failures writer.old) }
-    ensures failed { OnErr result (W.failures writer.new ≡ next_count (W.failures writer.old)) }
-{
-    match mark.label(&labels.labels) {
-        Some(label) => lines.push_quoted_line(writer, label, &token),
-        None => Ok(()),
-    }
 }

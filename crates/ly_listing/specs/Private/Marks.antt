@@ -1,11 +1,11 @@
 -- The marks of a text's tokens, and what they say of it.
 use Rattle.std.specs.Prelude.{◌≡◌, ◌≤◌, ◌+◌, ◌-◌, ◌*◌, ℕ, List, [], ◌∷◌, ◌++◌, Bool, Option, None, Some}
 use Rattle.std.specs.Prelude.{drop, length, take, if◌then◌else◌, nat_eq, nat_le, option_and_then, slice_get}
-use Rattle.ly_base.specs.Lexed.{Place, start_of}
-use Rattle.ly_lexread.specs.declared.action.LexAction.{LexAction}
+use Rattle.ly_base.specs.Lexed.{Place, Token, start_of, token_if}
+use Rattle.ly_listing.specs.Private.SoFar.{SoFar}
+use Rattle.ly_listing.specs.declared.marks.Mark.{Mark}
+use Rattle.ly_listing.specs.declared.rule_labels.RuleLabels.{RuleLabels}
 use Rattle.ly_scan.specs.Lexer.{Scanner}
-use Rattle.ly_tokens.specs.Private.TokenLines.{SoFar, line_by}
-use Rattle.ly_tokens.specs.declared.marks.Mark.{Mark}
 
 -- a mark whose bytes both count the token's
 abbrev pub is_wide : Mark → Bool
@@ -32,14 +32,16 @@ from_token m rest = drop (gap_of m) rest
 abbrev pub behind_token : Mark → List ℕ → List ℕ
 behind_token m rest = drop (taken_of m) (from_token m rest)
 
--- the line of a mark's token, if there is one
-abbrev pub marked_line : List (List ℕ) → Mark → List ℕ → List ℕ
-marked_line labels m rest = line_by (label_of labels m) (take (taken_of m) (from_token m rest))
+-- the token of a mark, if it has a label, in a text of so many bytes
+abbrev pub marked_token : List (List ℕ) → ℕ → Mark → List ℕ → List (Token (List ℕ))
+marked_token labels count m rest = token_if (label_of labels m) (count - length (from_token m rest))
+    (take (taken_of m) (from_token m rest))
 
--- the lines of the tokens that are marked at the front of a text
-abbrev pub marked_lines : List (List ℕ) → List Mark → List ℕ → List ℕ
-marked_lines labels [] rest = []
-marked_lines labels (m ∷ ms) rest = marked_line labels m rest ++ marked_lines labels ms (behind_token m rest)
+-- the tokens that are marked at the front of what is left of it
+abbrev pub marked_tokens : List (List ℕ) → ℕ → List Mark → List ℕ → List (Token (List ℕ))
+marked_tokens labels count [] rest = []
+marked_tokens labels count (m ∷ ms) rest =
+    marked_token labels count m rest ++ marked_tokens labels count ms (behind_token m rest)
 
 -- what is left of it behind them
 abbrev pub marked_rest : List Mark → List ℕ → List ℕ
@@ -61,7 +63,8 @@ pub record AreMarks (marks : List Mark) (left : ℕ) (text : List ℕ) : Type 0 
 pub record SayToken (marks : List Mark) (gap place taken : ℕ) (labels : List (List ℕ)) (rest : List ℕ) : Type 0 where
   pub within : AreWithin marks rest
   pub behind : marked_rest marks rest ≡ drop (gap + taken) rest
-  pub line : marked_lines labels marks rest ≡ line_by (slice_get labels place) (take taken (drop gap rest))
+  pub tokens : (count : ℕ) → marked_tokens labels count marks rest
+      ≡ token_if (slice_get labels place) (count - length (drop gap rest)) (take taken (drop gap rest))
 
 -- Where so many bytes are left, a token with the label at a place is noted behind marks that leave so many.
 abbrev pub IsNoted : List Mark → ℕ → List Mark → ℕ → ℕ → ℕ → ℕ → Type 0
@@ -75,13 +78,12 @@ IsNotedIf old left_old new left_new left None taken = (new ≡ old) × (left_new
 IsNotedIf old left_old new left_new left (Some place) taken = IsNoted old left_old new left_new left place taken
 
 -- Lexemes lead from the start of a text to a place, and the marks are those of their tokens.
-pub record AreMarked (actions : List LexAction) (s : Scanner) (labels : List (List ℕ)) (text : List ℕ) (q : Place)
-    (marks : List Mark) (left : ℕ) : Type 0 where
-  pub so_far : SoFar actions s (start_of text) q (marked_lines labels marks text)
-  pub are : AreMarks marks left text
+pub record AreMarked (l : RuleLabels) (s : Scanner) (text : List ℕ) (q : Place) (marks : List Mark) (left : ℕ) : Type 0
+  where
+    pub so_far : SoFar l s (start_of text) q (marked_tokens l.labels.items (length text) marks text)
+    pub are : AreMarks marks left text
 
 -- The marks are those of all tokens up to a place.
-pub record IsMarkedTo (actions : List LexAction) (s : Scanner) (labels : List (List ℕ)) (text : List ℕ) (q : Place)
-    (marks : List Mark) : Type 0 where
-  pub so_far : SoFar actions s (start_of text) q (marked_lines labels marks text)
+pub record IsMarkedTo (l : RuleLabels) (s : Scanner) (text : List ℕ) (q : Place) (marks : List Mark) : Type 0 where
+  pub so_far : SoFar l s (start_of text) q (marked_tokens l.labels.items (length text) marks text)
   pub within : AreWithin marks text
