@@ -1,5 +1,5 @@
 -- The labels of tokens, what their lines begin with, and the lines by labels.
-use Rattle.std.specs.Prelude.{◌≡◌, ◌+◌, ℕ, List, [], ◌∷◌, ◌++◌, Bool, true, false, Option, Some, None, codes, length}
+use Rattle.std.specs.Prelude.{◌≡◌, ◌+◌, ℕ, List, [], ◌∷◌, ◌++◌, Option, Some, None, codes, length}
 use Rattle.std.specs.Prelude.{if◌then◌else◌, nat_eq, nat_le, option_and_then, slice_get, slice_index}
 use Rattle.std.specs.List.{flat_map}
 use Rattle.ly_base.specs.Bytes.{double_quote}
@@ -58,8 +58,8 @@ before_text text at = json_location text at ++ codes ","
 -- the line of a token with this label
 abbrev pub labelled_line : AnswerForm → List ℕ → Token (List ℕ) → List ℕ
 labelled_line Plain text t = quoted_line t.terminal t.bytes
-labelled_line Json text t = t.terminal ++ (before_end text t.at ++ (before_text text (t.at + length t.bytes)
-    ++ (json_content t.bytes ++ codes "}\n")))
+labelled_line Json text t = t.terminal ++ ((before_end text t.at ++ before_text text (t.at + length t.bytes))
+    ++ (json_content t.bytes ++ codes "}\n"))
 
 -- the lines of tokens
 abbrev pub labelled_lines : AnswerForm → List ℕ → List (Token (List ℕ)) → List ℕ
@@ -79,8 +79,3 @@ EndsFrom s l p e = (ts : List Lexeme) × Lexed (IsLexemeAt s) (ScanEndsAt s) (be
 -- the run over a text ends so
 abbrev pub EndsSo : Scanner → RuleLabels → List ℕ → End → Type 0
 EndsSo s l text e = EndsFrom s l (start_of text) e
-
--- the form, given whether it is JSON
-abbrev pub form_if : Bool → AnswerForm
-form_if true = Json
-form_if false = Plain

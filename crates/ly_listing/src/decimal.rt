@@ -77,7 +77,19 @@ impl Decimal {
         ensures within { result ≤ at + 20 }
         ensures room { length room.new ≡ length room.old }
     {
-        room[at..at + DIGITS].copy_from_slice(&self.digits);
+        put_bytes(room, at, &self.digits);
         at + self.count
     }
+}
+
+/// Writes bytes into `room` at `at`. Returns the position after them.
+pub(crate) fn put_bytes(room: &mut [u8], at: usize, bytes: &[u8]) -> usize
+    requires { at + length bytes.now ≤ length room.old }
+    ensures bytes { take result room.new ≡ take at room.old ++ bytes.now }
+    ensures end { result ≡ at + length bytes.now }
+    ensures room { length room.new ≡ length room.old }
+{
+    let end = at + bytes.len();
+    room[at..end].copy_from_slice(bytes);
+    end
 }

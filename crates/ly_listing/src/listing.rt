@@ -1,4 +1,4 @@
-ghost use Rattle.std.specs.Prelude.{◌≡◌, ℕ, List, [], Err, IfErr, IfOk, OnErr, OnOk, length, map, true};
+ghost use Rattle.std.specs.Prelude.{◌≡◌, ◌<◌, ℕ, List, [], All, Err, IfErr, IfOk, OnErr, OnOk, length, map, true};
 ghost use Rattle.std.specs.Io.KnownBytes.{Appends};
 ghost use Rattle.ly_base.specs.declared.lexeme.End.{End};
 ghost use Rattle.ly_base.specs.declared.lexeme.End.TheVariants.{BadCut, Clean};
@@ -14,6 +14,7 @@ ghost use Rattle.ly_scan.specs.Lexers.{scanner_of};
 
 use crate::fault::ListingFault;
 use crate::marks::Walked;
+use crate::printer::{JsonLines, PlainLines};
 use crate::rule_labels::RuleLabels;
 use crate::run_end::run_end;
 use crate::token_end::TokenEnd;
@@ -61,14 +62,19 @@ impl<'a> Listing<'a> {
         ensures writer_held { OnOk result (W.failures writer.new ≡ W.failures writer.old) }
         ensures untouched { IfErr result (λ e. WroteNothing (failed_write e) → writer.new ≡ writer.old) }
     {
-        let labels = self.labels;
-        if !are_countable(&labels.labels, self.text.len()) {
+        let Listing {
+            lexer,
+            labels,
+            text,
+            ..
+        } = *self;
+        if !are_countable(&labels.labels, text.len()) {
             return Err(ListingFault::OutOfMemory);
         }
         let by_rule = labels.facts(alloc)?;
-        let facts = self.lexer.facts(alloc, &by_rule)?;
+        let facts = lexer.facts(alloc, &by_rule)?;
         let lines = TextWriter::new(alloc)?;
-        let walked = run_end(alloc, self.lexer, self.text, labels, &facts, self.clean);
+        let walked = run_end(alloc, lexer, text, labels, &facts, self.clean);
         let end = token_end(walked.end)?;
         self.write_walked(alloc, &facts, walked, lines, writer)?;
         Ok(end)
@@ -84,6 +90,7 @@ impl<'a> Listing<'a> {
         writer: &mut W,
     ) -> Result<(), WriteFault>
         requires none { lines ≡ record { sent = 0; held = [] } }
+        requires bytes { All (λ byte. byte < 256) self.now.text.now }
         requires passed { ArePassed self.now.lexer.now.passed (labelling self.now.labels.now)
             (begin_by self.now.labels.now) }
         requires facts { facts.now
@@ -105,10 +112,10 @@ impl<'a> Listing<'a> {
     {
         match self.form {
             AnswerForm::Plain => {
-                write_token_lines::<false, W>(alloc, self, facts, walked, lines, writer)
+                write_token_lines::<PlainLines, W>(alloc, self, facts, walked, lines, writer)
             }
             AnswerForm::Json => {
-                write_token_lines::<true, W>(alloc, self, facts, walked, lines, writer)
+                write_token_lines::<JsonLines, W>(alloc, self, facts, walked, lines, writer)
             }
         }
     }

@@ -4,11 +4,11 @@ ghost use Rattle.std.specs.Prelude.{option_map, OnErr, OnOk};
 ghost use Rattle.ly_print.specs.Device.{next_count};
 ghost use Rattle.ly_print.specs.TextWriter.{bytes_of, IsAppended};
 ghost use Rattle.ly_base.specs.Lexed.{token_if};
-ghost use Rattle.ly_listing.specs.Labels.{form_if, labelled_lines};
+ghost use Rattle.ly_listing.specs.Labels.{labelled_lines};
 ghost use Rattle.ly_listing.specs.Private.Marks.{gap_of, is_wide, label_of, marked_tokens, taken_of, AreWithin};
 ghost use Rattle.ly_listing.specs.Private.Marks.{IsNoted, IsNotedIf};
 
-use crate::printer::Printer;
+use crate::printer::{LineForm, Printer, push_if};
 use crate::rule_labels::RuleLabels;
 use ly_base::{End, Place};
 use ly_print::{Front, Label, Sink, WriteFault};
@@ -194,7 +194,7 @@ pub(crate) struct Walked<'t> {
 
 /// Writes the lines of the marked tokens, which start at the beginning of a text.
 #[inline(never)] // to leave it the registers
-pub(crate) fn write_marked<const JSON: bool, W: Sink>(
+pub(crate) fn write_marked<F: LineForm, W: Sink>(
     marks: &[Mark],
     text: &[u8],
     labels: &RuleLabels,
@@ -203,14 +203,14 @@ pub(crate) fn write_marked<const JSON: bool, W: Sink>(
 ) -> Result<(), WriteFault>
     requires text { printer.old.spot.text ≡ text.now }
     requires within { AreWithin marks.now text.now }
-    requires countable { let lines = labelled_lines (form_if JSON) text.now
+    requires countable { let lines = labelled_lines F.form text.now
         (marked_tokens labels.now.labels.items (length text.now) marks.now text.now) in
         bytes_of printer.old.lines + length lines < 2 ^ 64 }
     ensures told { IsAppended printer.old.lines printer.new.lines (W.contents writer.old) (W.contents writer.new)
-        (labelled_lines (form_if JSON) text.now
+        (labelled_lines F.form text.now
         (marked_tokens labels.now.labels.items (length text.now) marks.now text.now)) result }
     ensures counted { OnOk result (bytes_of printer.new.lines ≡ bytes_of printer.old.lines
-        + length (labelled_lines (form_if JSON) text.now
+        + length (labelled_lines F.form text.now
         (marked_tokens labels.now.labels.items (length text.now) marks.now text.now))) }
     ensures text { printer.new.spot.text ≡ text.now }
     ensures no_failure { OnOk result (W.failures writer.new ≡ W.failures writer.old) }
@@ -222,7 +222,7 @@ pub(crate) fn write_marked<const JSON: bool, W: Sink>(
         let taken = mark.taken();
         let at = text.len() - there.len();
         let label = mark.label(&labels.labels);
-        printer.push_if::<JSON, W>(writer, label, at, Front::new(there, taken))?;
+        push_if::<F, W>(printer, writer, label, at, Front::new(there, taken))?;
         rest = behind(there, taken);
     }
     Ok(())

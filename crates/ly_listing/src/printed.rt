@@ -1,13 +1,10 @@
 //! An offset with its line and column, as JSON prints it.
-ghost use Rattle.std.specs.Prelude.{◌≡◌, ◌++◌, codes};
+ghost use Rattle.std.specs.Prelude.{◌≡◌, ◌≤◌, ◌++◌, codes, length, take};
 ghost use Rattle.ly_print.specs.Json.{json_located};
 
-use crate::decimal::Decimal;
+use crate::decimal::{Decimal, put_bytes};
 use ly_base::Location;
 use std::marker::Model;
-
-/// What follows the start of a token in its line.
-const BEFORE_END: &[u8] = b",\"end\":";
 
 /// The greatest number of bytes of an offset as it is printed, with what follows it.
 const ROOM: usize = 80;
@@ -28,7 +25,7 @@ pub(crate) struct Printed {
 }
 
 impl Model for Printed {
-    ghost use Rattle.std.specs.Prelude.{◌≡◌, ◌≤◌, ◌++◌, codes, take};
+    ghost use Rattle.std.specs.Prelude.{◌≡◌, ◌≤◌, ◌++◌, codes, length, take};
     ghost use Rattle.ly_listing.specs.Private.Spot as value;
     ghost use Rattle.ly_print.specs.Json.{json_located};
 
@@ -37,7 +34,7 @@ impl Model for Printed {
     ghost view = { λ p. record { offset = p.offset; line = p.line; column = p.column } };
 
     ghost invariant = { λ p. (take p.count p.room
-        ≡ json_located p.offset p.line p.column ++ codes ",\"end\":") × (p.count ≤ 80) };
+        ≡ json_located p.offset p.line p.column ++ codes ",\"end\":") × (p.count ≤ 80) × (length p.room ≡ 80) };
 }
 
 impl Printed {
@@ -89,7 +86,8 @@ impl Printed {
 
     /// What is printed for the start of a token, up to its end.
     pub(crate) fn before_end(&self) -> &[u8]
-        ensures { result.now ≡ json_located self.now.offset self.now.line self.now.column ++ codes ",\"end\":" }
+        ensures short { length result.now ≤ 80 }
+        ensures is { result.now ≡ json_located self.now.offset self.now.line self.now.column ++ codes ",\"end\":" }
     {
         &self.room[..self.count]
     }
@@ -103,25 +101,25 @@ impl Printed {
 
     /// What is printed for the offset alone.
     pub(crate) fn alone(&self) -> &[u8]
-        ensures { result.now ≡ json_located self.now.offset self.now.line self.now.column }
+        ensures short { length result.now ≤ 80 }
+        ensures is { result.now ≡ json_located self.now.offset self.now.line self.now.column }
     {
         &self.room[..self.count - 7]
     }
 }
 
 /// Prints an offset, its line and its column. Returns the number of bytes.
-fn put_located(room: &mut [u8; ROOM], offset: &Decimal, line: &Decimal, column: &Decimal) -> usize
+fn put_located(room: &mut [u8], offset: &Decimal, line: &Decimal, column: &Decimal) -> usize
+    requires { 80 ≤ length room.old }
     ensures bytes { take result room.new ≡ json_located offset.now line.now column.now ++ codes ",\"end\":" }
     ensures within { result ≤ 80 }
+    ensures room { length room.new ≡ length room.old }
 {
-    room[0] = b'[';
-    let counted = offset.put(room, 1);
-    room[counted] = b',';
-    let lined = line.put(room, counted + 1);
-    room[lined] = b',';
-    let columned = column.put(room, lined + 1);
-    room[columned] = b']';
-    let end = columned + 1 + BEFORE_END.len();
-    room[columned + 1..end].copy_from_slice(BEFORE_END);
-    end
+    let opened = put_bytes(room, 0, b"[");
+    let counted = offset.put(room, opened);
+    let first = put_bytes(room, counted, b",");
+    let lined = line.put(room, first);
+    let second = put_bytes(room, lined, b",");
+    let columned = column.put(room, second);
+    put_bytes(room, columned, b"],\"end\":")
 }

@@ -62,9 +62,19 @@ impl<'t> Spot<'t> {
         self.printed.set(offset as u64, there);
     }
 
+    /// Moves on by this many bytes.
+    pub(crate) fn move_on(&mut self, count: usize)
+        requires { self.old.at + count ≤ length self.old.text }
+        ensures { self.new ≡ record { text = self.old.text; at = self.old.at + count } }
+    {
+        let here = self.printed.offset() as usize;
+        self.move_to(here + count);
+    }
+
     /// What is printed for the start of a token, up to its end.
     pub(crate) fn before_end(&self) -> &[u8]
-        ensures { result.now ≡ before_end self.now.text self.now.at }
+        ensures is { result.now ≡ before_end self.now.text self.now.at }
+        ensures short { length result.now ≤ 80 }
     {
         self.printed.before_end()
     }
@@ -78,7 +88,8 @@ impl<'t> Spot<'t> {
 
     /// What is printed for the offset alone.
     pub(crate) fn alone(&self) -> &[u8]
-        ensures { result.now ≡ json_location self.now.text self.now.at }
+        ensures is { result.now ≡ json_location self.now.text self.now.at }
+        ensures short { length result.now ≤ 80 }
     {
         self.printed.alone()
     }

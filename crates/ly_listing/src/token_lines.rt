@@ -4,7 +4,7 @@ ghost use Rattle.std.specs.Bool.{OnTrue};
 ghost use Rattle.std.specs.Io.KnownBytes.{Appends};
 ghost use Rattle.ly_base.specs.Lexed.{token_if, Token};
 ghost use Rattle.ly_base.specs.Lexed as lexed;
-ghost use Rattle.ly_listing.specs.Labels.{begin_by, fact_of, form_if, labelled_lines, labelling};
+ghost use Rattle.ly_listing.specs.Labels.{begin_by, fact_of, labelled_lines, labelling};
 ghost use Rattle.ly_listing.specs.Labels.{EndsSo, IsLabelListing};
 ghost use Rattle.ly_listing.specs.Listings.{ArePassed};
 ghost use Rattle.ly_listing.specs.Private.Marks.{IsMarkedTo};
@@ -17,7 +17,7 @@ ghost use Rattle.ly_scan.specs.Lexers.{scanner_of};
 
 use crate::listing::Listing;
 use crate::marks::{Walked, write_marked};
-use crate::printer::Printer;
+use crate::printer::{LineForm, Printer, push_end, push_if};
 use crate::rule_labels::RuleLabels;
 use ly_base::{Place, RuleNo};
 use ly_print::{Front, Label, Sink, TextWriter, WriteFault};
@@ -27,7 +27,7 @@ use std::alloc::Global;
 /// Writes the lines of the tokens of a text, and a last line if no rule matches somewhere. The marked tokens come
 /// first. After those the loop takes one lexeme at a time, if the final state alone doesn't determine it.
 #[inline(always)] // else the loop reloads the lexer's fields for each lexeme
-pub(crate) fn write_token_lines<const JSON: bool, W: Sink>(
+pub(crate) fn write_token_lines<F: LineForm, W: Sink>(
     alloc: Global,
     listing: &Listing<'_>,
     facts: &[u32],
@@ -36,6 +36,7 @@ pub(crate) fn write_token_lines<const JSON: bool, W: Sink>(
     writer: &mut W,
 ) -> Result<(), WriteFault>
     requires none { empty ≡ record { sent = 0; held = [] } }
+    requires bytes { All (λ byte. byte < 256) listing.now.text.now }
     requires passed { ArePassed listing.now.lexer.now.passed (labelling listing.now.labels.now)
         (begin_by listing.now.labels.now) }
     requires facts { facts.now
@@ -46,10 +47,10 @@ pub(crate) fn write_token_lines<const JSON: bool, W: Sink>(
         listing.now.text.now walked.place walked.marks.items }
     requires countable { AreCountable listing.now.labels.now.labels.items (length listing.now.text.now) }
     ensures told { OnOk result ((lines : List ℕ)
-        × IsLabelListing (form_if JSON) (scanner_of listing.now.lexer.now.scanner) listing.now.labels.now
+        × IsLabelListing F.form (scanner_of listing.now.lexer.now.scanner) listing.now.labels.now
         listing.now.text.now walked.entry.end lines × Appends (W.contents writer.old) (W.contents writer.new) lines) }
     ensures cut_short { IfErr result (λ fault. (lines : List ℕ)
-        × IsLabelListing (form_if JSON) (scanner_of listing.now.lexer.now.scanner) listing.now.labels.now
+        × IsLabelListing F.form (scanner_of listing.now.lexer.now.scanner) listing.now.labels.now
         listing.now.text.now walked.entry.end lines
         × IsCutShort (W.contents writer.old) (W.contents writer.new) fault.written lines) }
     ensures no_failure { OnOk result (W.failures writer.new ≡ W.failures writer.old) }
@@ -63,11 +64,11 @@ pub(crate) fn write_token_lines<const JSON: bool, W: Sink>(
     } = *listing;
     let Walked { end, marks, place } = walked;
     let mut printer = Printer::new(empty, text);
-    write_marked::<JSON, W>(&marks, text, labels, &mut printer, writer)?;
+    write_marked::<F, W>(&marks, text, labels, &mut printer, writer)?;
     let mut place = place;
     let mut known = KnownWalks::new(alloc);
     loop {
-        let mut here = write_told::<JSON, W>(
+        let mut here = write_told::<F, W>(
             lexer,
             labels,
             facts,
@@ -80,12 +81,12 @@ pub(crate) fn write_token_lines<const JSON: bool, W: Sink>(
             Ok(Some(lexeme)) => {
                 let at = here.at();
                 let token = Front::new(here.rest(), lexeme.taken);
-                push_token::<JSON, W>(&mut printer, writer, labels, lexeme.rule, at, token)?;
+                push_token::<F, W>(&mut printer, writer, labels, lexeme.rule, at, token)?;
                 here.advance(lexeme.taken, labels.begin(lexeme.rule));
                 place = here;
             }
             Err(_) => {
-                printer.push_end::<JSON, W>(writer, end)?;
+                push_end::<F, W>(&mut printer, writer, end)?;
                 printer.lines.finish(writer)?;
                 return Ok(());
             }
@@ -98,7 +99,7 @@ pub(crate) fn write_token_lines<const JSON: bool, W: Sink>(
 /// Writes the lines of lexemes from a place on, as long as the final state alone determines them. Returns where the
 /// next one starts.
 #[inline(never)] // to leave it the registers
-fn write_told<'t, const JSON: bool, W: Sink>(
+fn write_told<'t, F: LineForm, W: Sink>(
     lexer: &Lexer,
     labels: &RuleLabels,
     facts: &[u32],
@@ -109,17 +110,18 @@ fn write_told<'t, const JSON: bool, W: Sink>(
 ) -> Result<Place<'t>, WriteFault>
     requires passed { ArePassed lexer.now.passed (labelling labels.now) (begin_by labels.now) }
     requires facts { facts.now ≡ facts_by lexer.now.scanner (map fact_of labels.now.rules.items) }
+    requires few { length printer.old.spot.text < 2 ^ 63 }
     requires stands { StandsIn printer.old.spot.text start }
     requires countable { (longest : ℕ) × All (λ (l : List ℕ). length l ≤ longest) labels.now.labels.items
         × (bytes_of printer.old.lines + length start.rest * bytes_each longest < 2 ^ 64) }
     ensures told { IfOk result (λ place. (told : List (Token (List ℕ)))
         × LeadsOn labels.now (scanner_of lexer.now.scanner) start.entry place told
         × IsAppended printer.old.lines printer.new.lines (W.contents writer.old) (W.contents writer.new)
-        (labelled_lines (form_if JSON) printer.old.spot.text told) (Ok tt)) }
+        (labelled_lines F.form printer.old.spot.text told) (Ok tt)) }
     ensures cut_short { IfErr result (λ fault. (place : lexed.Place) × ((told : List (Token (List ℕ)))
         × SoFar labels.now (scanner_of lexer.now.scanner) start.entry place told
         × IsAppended printer.old.lines printer.new.lines (W.contents writer.old) (W.contents writer.new)
-        (labelled_lines (form_if JSON) printer.old.spot.text told) (Err fault))) }
+        (labelled_lines F.form printer.old.spot.text told) (Err fault))) }
     ensures counted { IfOk result (λ place. (longest : ℕ)
         → All (λ (l : List ℕ). length l ≤ longest) labels.now.labels.items
         → bytes_of printer.new.lines + length place.rest * bytes_each longest
@@ -137,7 +139,7 @@ fn write_told<'t, const JSON: bool, W: Sink>(
         let first = first_of(rest);
         let token = Front::new(rest, told.taken);
         let label = labels.numbered(told.fact, first);
-        printer.push_if::<JSON, W>(writer, label, place.at(), token)?;
+        push_if::<F, W>(printer, writer, label, place.at(), token)?;
         place.advance(told.taken, None);
     }
 }
@@ -177,7 +179,7 @@ fn longest(labels: &[Label]) -> usize
 
 /// Appends the line of a lexeme's token, if its rule has a label.
 #[inline(never)] // to keep the code that prints a line in one other place
-fn push_token<const JSON: bool, W: Sink>(
+fn push_token<F: LineForm, W: Sink>(
     printer: &mut Printer<'_>,
     writer: &mut W,
     labels: &RuleLabels,
@@ -187,17 +189,17 @@ fn push_token<const JSON: bool, W: Sink>(
 ) -> Result<(), WriteFault>
     requires some { 0 < length token }
     requires within { at + length token ≤ length printer.old.spot.text }
-    requires countable { bytes_of printer.old.lines + length (labelled_lines (form_if JSON) printer.old.spot.text
+    requires countable { bytes_of printer.old.lines + length (labelled_lines F.form printer.old.spot.text
         (token_if (labelling labels.now rule.0 token) at token)) < 2 ^ 64 }
     ensures text { IsAppended printer.old.lines printer.new.lines (W.contents writer.old) (W.contents writer.new)
-        (labelled_lines (form_if JSON) printer.old.spot.text
+        (labelled_lines F.form printer.old.spot.text
         (token_if (labelling labels.now rule.0 token.entry) at token.entry)) result }
     ensures counted { OnOk result (bytes_of printer.new.lines ≡ bytes_of printer.old.lines
-        + length (labelled_lines (form_if JSON) printer.old.spot.text
+        + length (labelled_lines F.form printer.old.spot.text
         (token_if (labelling labels.now rule.0 token.entry) at token.entry))) }
     ensures same { printer.new.spot.text ≡ printer.old.spot.text }
     ensures no_failure { OnOk result (W.failures writer.new ≡ W.failures writer.old) }
     ensures failed { OnErr result (W.failures writer.new ≡ next_count (W.failures writer.old)) }
 {
-    printer.push_if::<JSON, W>(writer, labels.get(rule, token.bytes()), at, token)
+    push_if::<F, W>(printer, writer, labels.get(rule, token.bytes()), at, token)
 }
