@@ -17,17 +17,21 @@ ghost use Rattle.ly_tables.specs.declared.fault.TableFault as file;
 ghost use Rattle.ly_tables.specs.declared.fault.TableFault.TheVariants.{OutOfMemory as NoMemory};
 
 use crate::fault::DriveFault;
-use ly_base::{End, RuleNo, Sym};
-use ly_feed::meaning::{action, terminal};
+use ly_base::{Emitted, OutOfMemory, Sym};
 use ly_feed::{TextFault, lexer_of};
-use ly_listing::{Listing, TokenEnd, TokenNames, list_tokens};
-use ly_print::{AnswerForm, ReadFault, Sink, Source, read_whole, write_whole};
-use ly_tables::{TableSet, read_tables};
+use ly_listing::{
+    FIRST_BYTE, Listing, ListingFault, NOTHING, RuleLabel, RuleLabels, TokenEnd, label_for,
+};
+use ly_print::{AnswerForm, ReadFault, Sink, Source, Terminal, read_whole};
+use ly_tables::{ScanRule, TableSet, read_tables};
 use std::alloc::Global;
+
+/// The number of labels for the first bytes of tokens.
+const LITERALS: u32 = 256;
 
 /// Writes the tokens of the text from a reader in a form, found by the scanner of a table file: one line for each, and
 /// a last line if no rule matches somewhere. The text is read after the table file has been checked. It is read
-/// completely, and nothing is written before all lines are made.
+/// completely, and nothing is written before it is known how the tokens end.
 ///
 /// The errors are those of `DriveFault` except `TooLong`.
 pub fn drive_tokens<R: Source, W: Sink>(
@@ -122,45 +126,55 @@ fn write_tokens<W: Sink>(
     ensures untouched { IfErr result (λ e. WroteNothing (failed_write e) → writer.new ≡ writer.old) }
 {
     let lexer = lexer_of(alloc, set)?;
-    let Listing { lines, end } = list_tokens(alloc, &lexer, &SetTokens { set }, form, text)?;
-    let end = token_end(end)?;
-    write_whole(writer, &lines)?;
-    Ok(end)
+    let labels = set_labels(alloc, form, set)?;
+    let listing = Listing {
+        lexer: &lexer,
+        labels: &labels,
+        form,
+        text,
+        clean: false,
+    };
+    match listing.write(alloc, writer) {
+        Ok(end) => Ok(end),
+        Err(ListingFault::BadCut) => Err(TextFault::FaultyTables),
+        Err(ListingFault::Write { written }) => Err(TextFault::Write { written }),
+        Err(ListingFault::OutOfMemory) => Err(TextFault::OutOfMemory),
+    }
 }
 
-/// The end of the tokens for the end of the lexer's run. If a trailing context leaves no token, the tables are faulty.
-fn token_end(end: End) -> Result<TokenEnd, TextFault>
-    ensures ok { IfOk result (λ t. end ≡ end_of t) }
-    ensures fault { IfErr result (λ e. (e ≡ TextFault.FaultyTables) × ((byte : ℕ) × (end ≡ End.BadCut byte))) }
+/// The labels of the tokens of a table set's scanner: those of the bytes' literals, then those of all terminals.
+fn set_labels(
+    alloc: Global,
+    form: AnswerForm,
+    set: &TableSet,
+) -> Result<RuleLabels, OutOfMemory>
+    ensures { IfOk result (λ l. AreLabelsOfSet form set.now l) }
 {
-    match end {
-        End::Clean => Ok(TokenEnd::Clean),
-        End::Stuck { byte } => Ok(TokenEnd::Stuck { byte: byte as u64 }),
-        End::BadCut { .. } => Err(TextFault::FaultyTables),
+    let literals = set.literals();
+    let terminals = set.terminals();
+    let mut labels = Vec::with_capacity(alloc, literals.len())?;
+    for literal in literals {
+        labels.push(label_for(alloc, form, Terminal::Token(name_of(set, *literal)))?)?;
     }
+    for terminal in terminals {
+        labels.push(label_for(alloc, form, Terminal::Token(terminal))?)?;
+    }
+    let rules = set.scan_rules().iter().map(rule_label).collect(alloc)?;
+    Ok(RuleLabels { labels, rules })
 }
 
-/// The tokens of the lexemes of a table set's scanner.
-#[derive(Clone, Copy)]
-struct SetTokens<'a> {
-    /// The table set.
-    set: &'a TableSet,
-}
-
-impl TokenNames for SetTokens<'_> {
-    ghost naming = { λ t i bytes. token_name_in t.set.now i bytes };
-
-    ghost begins = { λ t i. condition_in (scan_part_of t.set.now) i };
-
-    fn name(&self, rule: RuleNo, lexeme: &[u8]) -> Option<&[u8]> {
-        match terminal(self.set, action(self.set, rule).emits, lexeme) {
-            Some(terminal) => Some(name_of(self.set, terminal)),
-            None => None,
-        }
-    }
-
-    fn begin(&self, rule: RuleNo) -> Option<u32> {
-        action(self.set, rule).begin
+/// The number of the label of a rule's tokens, and the condition that the rule sets.
+fn rule_label(rule: &ScanRule) -> RuleLabel
+    ensures { result ≡ rule_label_of rule.now }
+{
+    let number = match rule.action.emits {
+        Emitted::Nothing => NOTHING,
+        Emitted::Terminal(terminal) => LITERALS + terminal.0,
+        Emitted::FirstByte => FIRST_BYTE,
+    };
+    RuleLabel {
+        number,
+        begin: rule.action.begin,
     }
 }
 

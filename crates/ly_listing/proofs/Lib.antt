@@ -1,1 +1,6 @@
 pub mod ListingLemmas
+pub mod MarkLemmas
+pub mod RoomLemmas
+pub mod SpotLemmas
+pub mod TokenLemmas
+pub mod WritingLemmas

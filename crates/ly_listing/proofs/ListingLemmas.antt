@@ -1,98 +1,83 @@
--- The lines of a text's tokens, lexeme by lexeme.
-use Rattle.std.proofs.Common.{◌≡◌, ◌∙◌, ◌≤◌, ◌+◌, ℕ, List, [], ◌∷◌, ◌++◌, take, length, Bool, Option}
-use Rattle.std.proofs.Common.{None, refl}
-use Rattle.std.proofs.Common.{sym, ap, subst, append_assoc, append-nil, arith, false, length-drop}
-use Rattle.ly_base.specs.Lexed.{Place, Token, moved, start_of, token_if, tokens_from}
+-- The lines of a text's tokens by their names.
+use Rattle.std.proofs.Common.{◌≡◌, ◌∙◌, ◌<◌, ◌+◌, ◌≢◌, ℕ, zero, suc, List, [], ◌∷◌, ◌++◌, All, Option, None, Some, ap, ap₂}
+use Rattle.std.proofs.Common.{append_assoc, arith, codes, drop, length, refl, subst, sym, take}
+use Rattle.std.proofs.lemmas.List.Elements.{All-drop, All-take}
+use Rattle.std.specs.Prelude.{option_map, slice_index}
+use Rattle.ly_base.specs.Bytes.{double_quote, newline}
+use Rattle.ly_base.specs.Lexed.{Lexed, Place, Token, start_of, token_if, tokens_from}
 use Rattle.ly_base.specs.declared.lexeme.End.{End}
-use Rattle.ly_base.specs.declared.lexeme.End.TheVariants.{BadCut, Clean, Stuck}
 use Rattle.ly_base.specs.declared.lexeme.Lexeme.{Lexeme}
-use Rattle.ly_base.proofs.LexedLemmas.{leads_more, leads_on, tokens_more}
-use Rattle.ly_listing.specs.Listings.{ArePassed, IsListing, end_line, token_line, token_lines}
-use Rattle.ly_listing.specs.Private.SoFar.{SoFar}
+use Rattle.ly_listing.specs.Labels.{IsLabelListing, before_end, before_text, begin_by, label_for, labelled_line}
+use Rattle.ly_listing.specs.Labels.{labelled_lines, labelling}
+use Rattle.ly_listing.specs.Listings.{IsListing, end_line, token_line, token_lines}
+use Rattle.ly_listing.specs.declared.rule_labels.RuleLabels.{RuleLabels}
+use Rattle.ly_listing.proofs.RoomLemmas.{lines_append}
+use Rattle.ly_print.specs.Json.{json_content, json_name}
+use Rattle.ly_print.specs.Text.{escaped}
 use Rattle.ly_print.specs.declared.answer_form.AnswerForm.{AnswerForm}
-use Rattle.ly_scan.specs.Lexer.{ScanEndsAt, IsLexemeAt, Scanner}
-use Rattle.ly_scan.specs.Pieces.{PassesOver, and_one, none_yet}
-use Rattle.ly_scan.proofs.PieceLemmas.{lexeme_at}
+use Rattle.ly_print.specs.declared.answer_form.AnswerForm.TheVariants.{Json, Plain}
+use Rattle.ly_scan.specs.Lexer.{IsLexemeAt, ScanEndsAt, Scanner}
+use Rattle.ly_spans.specs.Spans.{json_location}
 
-module _ (form : AnswerForm) (text : List ℕ) where
-  -- the line of a token, if there is one
-  abbrev pub line_if : Option (List ℕ) → ℕ → List ℕ → List ℕ
-  line_if o at bytes = token_lines form text (token_if o at bytes)
+-- the line of a token with a name is that with its label
+named_line : (form : AnswerForm) (text name : List ℕ) (at : ℕ) (bytes : List ℕ)
+    → labelled_line form text (record { terminal = label_for form name; at = at; bytes = bytes })
+    ≡ token_line form text (record { terminal = name; at = at; bytes = bytes })
+named_line Plain text name at bytes = ap (λ xs. xs ++ newline ∷ [])
+    (append_assoc name (double_quote ∷ []) (escaped double_quote bytes ++ double_quote ∷ []))
+named_line Json text name at bytes = simp append_assoc
 
-  lines_append : (xs ys : List (Token (List ℕ)))
+-- the lines of tokens, by what gives the labels and what gives the names
+module _ (form : AnswerForm) (text : List ℕ) (labels : ℕ → List ℕ → Option (List ℕ))
+    (names : ℕ → List ℕ → Option (List ℕ))
+    (same : (i : ℕ) (bytes : List ℕ) → slice_index bytes 0 < 256
+    → labels i bytes ≡ option_map (label_for form) (names i bytes)) where
+  one_line : (o p : Option (List ℕ)) (at : ℕ) (bytes : List ℕ) → o ≡ option_map (label_for form) p
+      → labelled_lines form text (token_if o at bytes) ≡ token_lines form text (token_if p at bytes)
+  one_line o None at bytes is = ap (λ x. labelled_lines form text (token_if x at bytes)) is
+  one_line o (Some name) at bytes is = ap (λ x. labelled_lines form text (token_if x at bytes)) is
+      ∙ ap (λ x. x ++ []) (named_line form text name at bytes)
+
+  first_byte : (bytes : List ℕ) → All (λ b. b < 256) bytes → slice_index bytes 0 < 256
+  first_byte [] all = omega arith
+  first_byte (b ∷ bs) all = all 0 0 (omega arith)
+
+  names_append : (xs ys : List (Token (List ℕ)))
       → token_lines form text (xs ++ ys) ≡ token_lines form text xs ++ token_lines form text ys
-  lines_append [] ys = refl
-  lines_append (x ∷ xs) ys = ap (λ z. token_line form text x ++ z) (lines_append xs ys)
+  names_append [] ys = refl
+  names_append (x ∷ xs) ys = ap (λ z. token_line form text x ++ z) (names_append xs ys)
       ∙ sym (append_assoc (token_line form text x) (token_lines form text xs) (token_lines form text ys))
 
-  module _ (s : Scanner) (naming : ℕ → List ℕ → Option (List ℕ)) (begins : ℕ → Option ℕ) where
-    -- nothing is read yet
-    pub starts : SoFar form s naming begins text (start_of text) []
-    starts = ([], refl, refl)
+  named_lines : (at : ℕ) (rest : List ℕ) (ts : List Lexeme) → All (λ b. b < 256) rest
+      → labelled_lines form text (tokens_from labels at rest ts) ≡ token_lines form text (tokens_from names at rest ts)
+  named_lines at rest [] all = refl
+  named_lines at rest (t ∷ ts) all =
+      let token = take t.taken rest in
+      let one = token_if (labels t.rule.0 token) at token in
+      let other = token_if (names t.rule.0 token) at token in
+      lines_append form text one (tokens_from labels (at + t.taken) (drop t.taken rest) ts)
+      ∙ ap₂ (λ x y. x ++ y) (one_line (labels t.rule.0 token) (names t.rule.0 token) at token
+      (same t.rule.0 token (first_byte token (All-take (λ b. b < 256) t.taken rest all))))
+      (named_lines (at + t.taken) (drop t.taken rest) ts (All-drop (λ b. b < 256) t.taken rest all))
+      ∙ sym (names_append other (tokens_from names (at + t.taken) (drop t.taken rest) ts))
 
-    -- one lexeme more
-    pub one_more : (q : Place) (t : Lexeme) (lines more : List ℕ) → IsLexemeAt s q t
-        → more ≡ lines ++ line_if (naming t.rule.0 (take t.taken q.rest)) q.at (take t.taken q.rest)
-        → SoFar form s naming begins text q lines
-        → SoFar form s naming begins text (moved q t.taken (begins t.rule.0)) more
-    one_more q t lines more is n f = (
-      f.0 ++ t ∷ [],
-      leads_more (IsLexemeAt s) begins (start_of text) q f.0 t f.1 is,
-      n ∙ ap (λ z. z ++ line_if (naming t.rule.0 (take t.taken q.rest)) q.at (take t.taken q.rest)) f.2
-          ∙ sym (ap (token_lines form text) (tokens_more naming (IsLexemeAt s) begins (start_of text) q f.0 t f.1)
-          ∙ lines_append (tokens_from naming 0 text f.0)
-          (token_if (naming t.rule.0 (take t.taken q.rest)) q.at (take t.taken q.rest))),
-    )
+-- the next place depends on the conditions that rules set alone
+lexed_alike : (s : Scanner) (next other : ℕ → Option ℕ) → ((i : ℕ) → next i ≡ other i) → (p : Place)
+    (ts : List Lexeme) (e : End) → Lexed (IsLexemeAt s) (ScanEndsAt s) next p ts e
+    → Lexed (IsLexemeAt s) (ScanEndsAt s) other p ts e
+lexed_alike s next other same p ts e h =
+    let both : next ≡ other = λ x i. same i x in
+    subst (λ (f : ℕ → Option ℕ). Lexed (IsLexemeAt s) (ScanEndsAt s) f p ts e) both h
 
-    -- behind lexemes that are passed over the lines so far are the same
-    pub passes_lines : (passed : List Bool) → ArePassed passed naming begins → (p : Place) (lines : List ℕ)
-        → SoFar form s naming begins text p lines → {r : Place} → PassesOver s passed p r
-        → SoFar form s naming begins text r lines
-    passes_lines passed are p lines f none_yet = f
-    passes_lines passed are p lines f (and_one {r = q} t before fast one is) =
-        let none = are t.rule.0 is in
-        let token = take t.taken q.rest in
-        subst (λ b. SoFar form s naming begins text b lines)
-        (ap (λ n. moved q n (begins t.rule.0)) one ∙ ap (moved q 1) none.0)
-        (one_more q t lines lines (lexeme_at s q false t fast)
-        (sym (append-nil lines) ∙ ap (λ o. lines ++ line_if o q.at token) (sym (none.1 token)))
-        (passes_lines passed are p lines f before))
-
-    -- the end
-    pub all_told : (q : Place) (e : End) (lines more : List ℕ) → ScanEndsAt s q e
-        → more ≡ lines ++ end_line form text e → SoFar form s naming begins text q lines
-        → IsListing form s naming begins text e more
-    all_told q e lines more ends n f = (
-      f.0 ++ [],
-      leads_on (IsLexemeAt s) (ScanEndsAt s) begins (start_of text) q f.0 [] e f.1 ends,
-      n ∙ ap (λ z. z ++ end_line form text e) (f.2
-          ∙ ap (λ ts. token_lines form text (tokens_from naming 0 text ts)) (sym (append-nil f.0))),
-    )
-
--- the bytes that are left are the others of the text, some lexeme on
-pub moved_whole : (q : Place) (n count : ℕ) (begin : Option ℕ) → n ≤ length q.rest
-    → q.at + length q.rest ≡ count → (moved q n begin).at + length (moved q n begin).rest ≡ count
-moved_whole q n count begin within whole = omega (arith, within, whole, length-drop n q.rest)
-
--- and behind lexemes that are passed over
-pub passes_whole : (s : Scanner) (passed : List Bool) (p : Place) (count : ℕ) → p.at + length p.rest ≡ count
-    → {r : Place} → PassesOver s passed p r → r.at + length r.rest ≡ count
-passes_whole s passed p count whole none_yet = whole
-passes_whole s passed p count whole (and_one {r = q} t before fast one is) =
-    moved_whole q 1 count None (omega (arith, one, fast.within)) (passes_whole s passed p count whole before)
-
--- where a run gets stuck is a byte of the text
-pub stuck_within : (s : Scanner) (q : Place) (e : End) (count byte : ℕ) → ScanEndsAt s q e
-    → q.at + length q.rest ≡ count → e ≡ Stuck byte → byte ≤ count
-stuck_within s q Clean count byte ends whole is = absurd cc
-stuck_within s q (BadCut b) count byte ends whole is = absurd cc
-stuck_within s q (Stuck b) count byte ends whole is = let same : b ≡ byte = cc in omega (arith, same, ends.1, whole)
-
--- of a text of which nothing is read all bytes are left
-pub starts_whole : (text : List ℕ) → (start_of text).at + length (start_of text).rest ≡ length text
-starts_whole text = omega arith
-
--- pieces that were put behind one another, one by one
-pub four_pieces : (out a b c d : List ℕ) → (((out ++ a) ++ b) ++ c) ++ d ≡ out ++ (a ++ (b ++ (c ++ d)))
-four_pieces out a b c d = append_assoc ((out ++ a) ++ b) c d ∙ append_assoc (out ++ a) b (c ++ d)
-    ∙ append_assoc out a (b ++ (c ++ d))
+-- a listing by labels is that by the names for which they were made
+pub named_listing : (form : AnswerForm) (s : Scanner) (l : RuleLabels) (text : List ℕ) (e : End) (lines : List ℕ)
+    (names : ℕ → List ℕ → Option (List ℕ)) (begins : ℕ → Option ℕ)
+    → ((i : ℕ) (bytes : List ℕ) → slice_index bytes 0 < 256
+    → labelling l i bytes ≡ option_map (label_for form) (names i bytes))
+    → ((i : ℕ) → begin_by l i ≡ begins i) → All (λ b. b < 256) text → IsLabelListing form s l text e lines
+    → IsListing form s names begins text e lines
+named_listing form s l text e lines names begins same set all h = (
+  h.0,
+  lexed_alike s (begin_by l) begins set (start_of text) h.0 e h.1,
+  h.2 ∙ ap (λ x. x ++ end_line form text e) (named_lines form text (labelling l) names same 0 text h.0 all),
+)

@@ -1,2 +1,4 @@
+pub mod Fault
+pub mod Labels
 pub mod Listings
 pub mod Private

@@ -11,8 +11,8 @@ ghost use Rattle.ly_subset.specs.RuleSets.{HaveMoreSets};
 ghost use Rattle.ly_tokens.specs.Agreement.{Agrees};
 ghost use Rattle.ly_tokens.specs.RowWalk.{cut_in, row_walk};
 ghost use Rattle.ly_tokens.specs.ScannerFault.{HasNoScanner};
+ghost use Rattle.ly_tokens.specs.Private.Labels.{is_passed};
 ghost use Rattle.ly_tokens.specs.Private.RowTable.{begin_of, AreRowsOf, AreRulesOf, IsTableOf};
-ghost use Rattle.ly_tokens.specs.Private.TokenLines.{is_passed};
 
 use crate::scanner::smallest_automaton;
 use crate::scanner_fault::ScannerFault;

@@ -11,15 +11,13 @@
 //! messages.
 #![tactic(auto)]
 
+mod clean;
 mod fault;
 mod file_lexer;
 mod labels;
 mod laws;
-mod marks;
-mod run_end;
 mod scanner;
 mod scanner_fault;
-mod token_lines;
 mod write_tokens;
 
 pub use fault::TokensFault;

@@ -4,7 +4,6 @@ ghost use Rattle.ly_ere.specs.Names.{defined};
 ghost use Rattle.ly_print.specs.Device.{next_count, IsFailedWrite, WroteNothing};
 ghost use Rattle.ly_base.specs.Limits.{version_2};
 ghost use Rattle.ly_print.specs.TextWriter.{IsCutShort};
-ghost use Rattle.ly_print.specs.declared.answer_form.AnswerForm.TheVariants.{Json, Plain};
 ghost use Rattle.ly_base.specs.declared.lexeme.End.{End};
 ghost use Rattle.ly_lexread.specs.Faults.{IsAtMost, IsTooHeavy};
 ghost use Rattle.ly_lexread.specs.LexText.{IsHeavyText, IsLight, LexText};
@@ -19,28 +18,26 @@ ghost use Rattle.ly_scan.specs.Lexers.{scanner_of};
 ghost use Rattle.ly_tokens.specs.Agreement.{Agrees};
 ghost use Rattle.ly_tokens.specs.Answering.{IsTokenOutput};
 ghost use Rattle.ly_tokens.specs.Answers.{Answers, AreTooHeavy, HaveTooManyStates};
-ghost use Rattle.ly_listing.specs.Listings.{end_of, LeavesTokens};
+ghost use Rattle.ly_listing.specs.Listings.{end_of};
 ghost use Rattle.ly_tokens.specs.TokensFault.{HasNoTokens, ReadNothing, IsOfOutput, failed_write};
 ghost use Rattle.ly_tokens.specs.Private.FileAnswers.{FileAnswers};
-ghost use Rattle.ly_tokens.specs.Private.RunEnd.{AreSetBelow};
-ghost use Rattle.ly_tokens.specs.Private.TokenLines.{is_passed};
+ghost use Rattle.ly_tokens.specs.Private.Clean.{AreSetBelow};
+ghost use Rattle.ly_tokens.specs.Private.Labels.{is_passed};
 
+use crate::clean::begins_everywhere;
 use crate::fault::TokensFault;
 use crate::file_lexer::lexer_of;
-use crate::labels::RuleLabels;
-use crate::run_end::run_end;
-use crate::token_lines::{are_countable, write_token_lines};
-use ly_base::{End, Limits};
+use crate::labels::rule_labels;
+use ly_base::Limits;
 use ly_lexread::{LexFile, read_lex};
-use ly_listing::{Listing, TokenEnd, list_tokens};
-use ly_print::{AnswerForm, Sink, Source, TextWriter, read_whole, write_whole};
+use ly_listing::{Listing, ListingFault, TokenEnd};
+use ly_print::{AnswerForm, Sink, Source, read_whole};
 use ly_scan::Lexer;
 use std::alloc::Global;
 
 /// Writes the tokens of a text under a lex file (POSIX, XCU lex), one line for each. If no rule matches somewhere, a
 /// last line reports it. The text is all that the reader returns. It is read completely, and how lexing ends is known,
-/// before a byte is written. After that only a write can fail. Plain lines are written while the tokens are found. JSON
-/// lines, which have the span of each token, are all made before the first one is written.
+/// before a byte is written. After that only a write can fail.
 ///
 /// Its errors are those of `TokensFault`.
 pub fn tokens<R: Source, W: Sink>(
@@ -113,7 +110,8 @@ fn write_answer<R: Source, W: Sink>(
     write_answer_by(alloc, file, &lexer, form, &text, writer)
 }
 
-/// Writes the tokens of a text in a form, with any lexer whose scanner agrees with the rules of the lex file.
+/// Writes the tokens of a text in a form, with any lexer whose scanner agrees with the rules of the lex file. If each
+/// byte alone has a rule in each condition, every text ends cleanly.
 fn write_answer_by<W: Sink>(
     alloc: Global,
     file: &LexFile,
@@ -139,88 +137,19 @@ fn write_answer_by<W: Sink>(
     ensures writer_held { OnOk result (W.failures writer.new ≡ W.failures writer.old) }
     ensures untouched { IfErr result (λ e. WroteNothing (failed_write e) → writer.new ≡ writer.old) }
 {
-    match form {
-        AnswerForm::Plain => write_lines(alloc, file, lexer, text, writer),
-        AnswerForm::Json => write_listing(alloc, file, lexer, text, writer),
-    }
-}
-
-/// Writes the plain lines while the tokens are found.
-fn write_lines<W: Sink>(
-    alloc: Global,
-    file: &LexFile,
-    lexer: &Lexer,
-    text: &[u8],
-    writer: &mut W,
-) -> Result<TokenEnd, TokensFault>
-    requires agrees { Agrees (defined file.now.names) file.now.rules.items (scanner_of lexer.now.scanner) }
-    requires passed { lexer.now.passed ≡ map is_passed file.now.actions.items }
-    requires below { AreSetBelow file.now.actions.items file.now.conditions }
-    requires some { 0 < file.now.conditions }
-    ensures answered { IfOk result (λ end. (answer : List ℕ)
-        × IsTokenOutput Plain (defined file.now.names) file.now.rules.items file.now.actions.items text.now (end_of end)
-        answer
-        × Appends (W.contents writer.old) (W.contents writer.new) answer) }
-    ensures beginning { (written : ℕ) → result ≡ Err (TokensFault.Write written) → (e : End) × ((answer : List ℕ)
-        × IsTokenOutput Plain (defined file.now.names) file.now.rules.items file.now.actions.items text.now e answer
-        × IsCutShort (W.contents writer.old) (W.contents writer.new) written answer) }
-    ensures of_output { IfErr result IsOfOutput }
-    ensures write { IfErr result (λ e. IsFailedWrite (failed_write e)
-        → W.failures writer.new ≡ next_count (W.failures writer.old)) }
-    ensures writer_held { OnOk result (W.failures writer.new ≡ W.failures writer.old) }
-    ensures untouched { IfErr result (λ e. WroteNothing (failed_write e) → writer.new ≡ writer.old) }
-{
-    if !are_countable(&file.actions, text.len()) {
-        return Err(TokensFault::OutOfMemory);
-    }
-    let labels = RuleLabels::new(alloc, &file.actions)?;
-    let facts = lexer.facts(alloc, &labels.facts)?;
-    let lines = TextWriter::new(alloc)?;
-    let walked = run_end(alloc, lexer, text, &labels, &facts, file.conditions);
-    let end = walked.end;
-    write_token_lines(alloc, lexer, text, &labels, &facts, walked, lines, writer)?;
-    Ok(token_end(end))
-}
-
-/// Makes all JSON lines, then writes them.
-fn write_listing<W: Sink>(
-    alloc: Global,
-    file: &LexFile,
-    lexer: &Lexer,
-    text: &[u8],
-    writer: &mut W,
-) -> Result<TokenEnd, TokensFault>
-    requires agrees { Agrees (defined file.now.names) file.now.rules.items (scanner_of lexer.now.scanner) }
-    requires passed { lexer.now.passed ≡ map is_passed file.now.actions.items }
-    requires below { AreSetBelow file.now.actions.items file.now.conditions }
-    requires some { 0 < file.now.conditions }
-    ensures answered { IfOk result (λ end. (answer : List ℕ)
-        × IsTokenOutput Json (defined file.now.names) file.now.rules.items file.now.actions.items text.now (end_of end)
-        answer
-        × Appends (W.contents writer.old) (W.contents writer.new) answer) }
-    ensures beginning { (written : ℕ) → result ≡ Err (TokensFault.Write written) → (e : End) × ((answer : List ℕ)
-        × IsTokenOutput Json (defined file.now.names) file.now.rules.items file.now.actions.items text.now e answer
-        × IsCutShort (W.contents writer.old) (W.contents writer.new) written answer) }
-    ensures of_output { IfErr result IsOfOutput }
-    ensures write { IfErr result (λ e. IsFailedWrite (failed_write e)
-        → W.failures writer.new ≡ next_count (W.failures writer.old)) }
-    ensures writer_held { OnOk result (W.failures writer.new ≡ W.failures writer.old) }
-    ensures untouched { IfErr result (λ e. WroteNothing (failed_write e) → writer.new ≡ writer.old) }
-{
-    let labels = RuleLabels::new(alloc, &file.actions)?;
-    let Listing { lines, end } = list_tokens(alloc, lexer, &labels, AnswerForm::Json, text)?;
-    write_whole(writer, &lines)?;
-    Ok(token_end(end))
-}
-
-/// The end of lexing, if each cut leaves a token.
-fn token_end(end: End) -> TokenEnd
-    requires { LeavesTokens end }
-    ensures { end_of result ≡ end }
-{
-    match end {
-        End::Clean => TokenEnd::Clean,
-        End::Stuck { byte } => TokenEnd::Stuck { byte: byte as u64 },
-        End::BadCut { .. } => unreachable!(),
+    let labels = rule_labels(alloc, form, &file.actions)?;
+    let listing = Listing {
+        lexer,
+        labels: &labels,
+        form,
+        text,
+        clean: begins_everywhere(lexer.scanner(), file.conditions),
+    };
+    match listing.write(alloc, writer) {
+        Ok(end) => Ok(end),
+        Err(ListingFault::Write { written }) => Err(TokensFault::Write { written }),
+        Err(ListingFault::OutOfMemory) => Err(TokensFault::OutOfMemory),
+        // the scanner agrees with the rules, whose cuts leave tokens
+        Err(ListingFault::BadCut) => unreachable!(),
     }
 }
