@@ -4,8 +4,8 @@ ghost use Rattle.ly_base.specs.declared.lexeme.End.{End};
 ghost use Rattle.ly_drive.specs.Answering.{IsDriven};
 ghost use Rattle.ly_drive.specs.DriveFault as drive;
 ghost use Rattle.ly_drive.specs.DriveFault.{IsOfFile};
-ghost use Rattle.ly_drive.specs.TableTokens.{token_name_in, HasBadCut, IsListedBy, IsListedFor};
-ghost use Rattle.ly_feed.specs.ScanPart.{condition_in, scan_part_of};
+ghost use Rattle.ly_drive.specs.Private.SetLabels.{label_number, labels_in, rule_label_of, AreLabelsOfSet};
+ghost use Rattle.ly_drive.specs.TableTokens.{HasBadCut, IsListedBy, IsListedFor};
 ghost use Rattle.ly_feed.specs.Vocabularies.{name_in};
 ghost use Rattle.ly_feed.specs.TextFault.{IsOfEnding, failed_write};
 ghost use Rattle.ly_listing.specs.Listings.{end_of};
@@ -22,7 +22,7 @@ use ly_feed::{TextFault, lexer_of};
 use ly_listing::{
     FIRST_BYTE, Listing, ListingFault, NOTHING, RuleLabel, RuleLabels, TokenEnd, label_for,
 };
-use ly_print::{AnswerForm, ReadFault, Sink, Source, Terminal, read_whole};
+use ly_print::{AnswerForm, Label, ReadFault, Sink, Source, Terminal, are_bytes, read_whole};
 use ly_tables::{ScanRule, TableSet, read_tables};
 use std::alloc::Global;
 
@@ -125,6 +125,7 @@ fn write_tokens<W: Sink>(
     ensures writer_held { OnOk result (W.failures writer.new ≡ W.failures writer.old) }
     ensures untouched { IfErr result (λ e. WroteNothing (failed_write e) → writer.new ≡ writer.old) }
 {
+    are_bytes(text);
     let lexer = lexer_of(alloc, set)?;
     let labels = set_labels(alloc, form, set)?;
     let listing = Listing {
@@ -148,33 +149,49 @@ fn set_labels(
     form: AnswerForm,
     set: &TableSet,
 ) -> Result<RuleLabels, OutOfMemory>
-    ensures { IfOk result (λ l. AreLabelsOfSet form set.now l) }
+    ensures { IfOk result (AreLabelsOfSet form set.now) }
 {
-    let literals = set.literals();
-    let terminals = set.terminals();
-    let mut labels = Vec::with_capacity(alloc, literals.len())?;
-    for literal in literals {
-        labels.push(label_for(alloc, form, Terminal::Token(name_of(set, *literal)))?)?;
+    // it implies that the numbers are within their ranges
+    let _machine = set.machine();
+    Ok(RuleLabels {
+        labels: labels_of(alloc, form, set)?,
+        rules: set.scan_rules().iter().map(rule_label).collect(alloc)?,
+    })
+}
+
+/// The labels of the bytes' literals, then those of all terminals.
+fn labels_of(alloc: Global, form: AnswerForm, set: &TableSet) -> Result<Vec<Label>, OutOfMemory>
+    ensures { IfOk result (λ labels. labels.items ≡ labels_in form set.now) }
+{
+    let mut labels = Vec::with_capacity(alloc, set.literals().len())?;
+    for literal in set.literals() {
+        let name = name_of(set, *literal);
+        labels.push(label_for(alloc, form, Terminal::Token(name))?)?;
     }
-    for terminal in terminals {
-        labels.push(label_for(alloc, form, Terminal::Token(terminal))?)?;
+    for name in set.terminals() {
+        labels.push(label_for(alloc, form, Terminal::Token(name))?)?;
     }
-    let rules = set.scan_rules().iter().map(rule_label).collect(alloc)?;
-    Ok(RuleLabels { labels, rules })
+    Ok(labels)
 }
 
 /// The number of the label of a rule's tokens, and the condition that the rule sets.
 fn rule_label(rule: &ScanRule) -> RuleLabel
     ensures { result ≡ rule_label_of rule.now }
 {
-    let number = match rule.action.emits {
-        Emitted::Nothing => NOTHING,
-        Emitted::Terminal(terminal) => LITERALS + terminal.0,
-        Emitted::FirstByte => FIRST_BYTE,
-    };
     RuleLabel {
-        number,
+        number: number_of(rule.action.emits),
         begin: rule.action.begin,
+    }
+}
+
+/// The number of the label of the tokens that are emitted so.
+fn number_of(emitted: Emitted) -> u32
+    ensures { result ≡ label_number emitted }
+{
+    match emitted {
+        Emitted::Nothing => NOTHING,
+        Emitted::Terminal(terminal) => terminal.0.saturating_add(LITERALS),
+        Emitted::FirstByte => FIRST_BYTE,
     }
 }
 

@@ -20,7 +20,7 @@ use crate::run_end::run_end;
 use crate::token_end::TokenEnd;
 use crate::token_lines::{are_countable, write_token_lines};
 use ly_base::End;
-use ly_print::{AnswerForm, Sink, TextWriter, WriteFault};
+use ly_print::{AnswerForm, Sink, TextWriter, WriteFault, are_bytes};
 use ly_scan::Lexer;
 use std::alloc::Global;
 
@@ -71,6 +71,7 @@ impl<'a> Listing<'a> {
         if !are_countable(&labels.labels, text.len()) {
             return Err(ListingFault::OutOfMemory);
         }
+        are_bytes(text);
         let by_rule = labels.facts(alloc)?;
         let facts = lexer.facts(alloc, &by_rule)?;
         let lines = TextWriter::new(alloc)?;

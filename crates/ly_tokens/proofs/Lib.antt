@@ -1,12 +1,8 @@
 pub mod AgreementLemmas
 pub mod AnswerLaws
 pub mod AnswerLemmas
+pub mod CleanLemmas
 pub mod LabelLemmas
-pub mod LineLemmas
-pub mod ListingLemmas
-pub mod MarkLemmas
-pub mod PrintingLemmas
 pub mod RowAgreementLemmas
 pub mod RowTableLemmas
-pub mod RunEndLemmas
 pub mod ScannerFaultLemmas

@@ -1,12 +1,9 @@
-ghost use Rattle.std.specs.Prelude.{◌≡◌, ◌<◌, ◌≤◌, ◌++◌, ℕ, List, length, map, IfOk, IfSome, OnOk, option_map};
-ghost use Rattle.std.specs.Prelude.{slice_index};
+ghost use Rattle.std.specs.Prelude.{◌≡◌, ◌≤◌, ◌++◌, ℕ, List, length, IfOk, IfSome, OnOk};
 ghost use Rattle.std.specs.Bool.{OnTrue};
 ghost use Rattle.ly_lexread.specs.Action.{meaning_of};
-ghost use Rattle.ly_listing.specs.Labels.{are_labels_passed, begin_by, label_for, labelling};
+ghost use Rattle.ly_listing.specs.Labels.{label_for};
 ghost use Rattle.ly_print.specs.Text.{name_of, named};
-ghost use Rattle.ly_tokens.specs.Answering.{names_by};
-ghost use Rattle.ly_tokens.specs.Printing.{condition_set};
-ghost use Rattle.ly_tokens.specs.Private.Labels.{is_passed, AreLabelsOf, AreLiteralLabels, IsLabelOf, IsOwn};
+ghost use Rattle.ly_tokens.specs.Private.Labels.{AreLabelsOf, AreLiteralLabels, IsLabelOf, IsOwn};
 
 use crate::file_lexer::count_of;
 use ly_base::OutOfMemory;

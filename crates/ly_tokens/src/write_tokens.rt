@@ -31,7 +31,7 @@ use crate::labels::rule_labels;
 use ly_base::Limits;
 use ly_lexread::{LexFile, read_lex};
 use ly_listing::{Listing, ListingFault, TokenEnd};
-use ly_print::{AnswerForm, Sink, Source, read_whole};
+use ly_print::{AnswerForm, Sink, Source, are_bytes, read_whole};
 use ly_scan::Lexer;
 use std::alloc::Global;
 
@@ -137,6 +137,7 @@ fn write_answer_by<W: Sink>(
     ensures writer_held { OnOk result (W.failures writer.new ≡ W.failures writer.old) }
     ensures untouched { IfErr result (λ e. WroteNothing (failed_write e) → writer.new ≡ writer.old) }
 {
+    are_bytes(text);
     let labels = rule_labels(alloc, form, &file.actions)?;
     let listing = Listing {
         lexer,

@@ -12,7 +12,7 @@ use Rattle.ly_tokens.specs.Answering.{IsTokenOutput}
 use Rattle.ly_listing.specs.Listings.{end_of}
 use Rattle.ly_tokens.specs.Private.FileAnswers.{FileAnswers}
 use Rattle.ly_lexread.proofs.BeginLemmas.{begins_below, has_condition}
-use Rattle.ly_tokens.proofs.RunEndLemmas.{set_below}
+use Rattle.ly_tokens.proofs.CleanLemmas.{set_below}
 use Rattle.ly_tokens.proofs.write_tokens.write_answer.Goals as goal
 
 pub write_answer_by-requires-clause-below : goal.write_answer_by-requires-clause-below

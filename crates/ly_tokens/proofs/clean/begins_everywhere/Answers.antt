@@ -1,6 +1,6 @@
 use Rattle.ly_scan.specs.Lexer.{Scanner}
-use Rattle.ly_tokens.proofs.RunEndLemmas.{conditions_below}
-use Rattle.ly_tokens.proofs.run_end.begins_everywhere.Goals as goal
+use Rattle.ly_tokens.proofs.CleanLemmas.{conditions_below}
+use Rattle.ly_tokens.proofs.clean.begins_everywhere.Goals as goal
 
 pub loop-condition-preserved : goal.loop-condition-preserved
 loop-condition-preserved g c =

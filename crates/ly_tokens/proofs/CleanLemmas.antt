@@ -1,22 +1,19 @@
--- How the run over a text ends.
+-- Where every text ends cleanly.
 use Rattle.std.proofs.Common.{◌≡◌, ◌∙◌, ◌<◌, ◌+◌, ℕ, List, [], ◌∷◌, ◌++◌, All, Bool, Option, Some, None, ap, arith}
 use Rattle.std.proofs.Common.{inl, inr, false, length, refl, subst, take, true}
 use Rattle.std.specs.Prelude.{option_and_then, slice_get, unwrap_or}
 use Rattle.std.proofs.lemmas.Bool.{cases_lt}
 use Rattle.std.proofs.lemmas.List.Elements.{All-drop, All-head}
-use Rattle.ly_base.proofs.LexedLemmas.{leads_on}
 use Rattle.ly_base.specs.Lexed.{Lexed, Place, place_after, start_of}
 use Rattle.ly_base.specs.declared.lexeme.End.{End}
 use Rattle.ly_base.specs.declared.lexeme.End.TheVariants.{BadCut, Clean, Stuck}
 use Rattle.ly_base.specs.declared.lexeme.Lexeme.{Lexeme}
 use Rattle.ly_lexread.specs.declared.action.LexAction.{LexAction}
 use Rattle.ly_scan.proofs.LexingLemmas.{lexes}
-use Rattle.ly_scan.proofs.OneLexingLemmas.{one_lexing}
 use Rattle.ly_scan.specs.Lexer.{IsLexemeAt, ScanEndsAt, Scanner}
 use Rattle.ly_listing.specs.Listings.{LeavesTokens}
 use Rattle.ly_tokens.specs.Printing.{condition_set}
-use Rattle.ly_tokens.specs.Private.RunEnd.{AreSetBelow, BeginsEverywhere, EndsFrom, EndsSo, HasRule}
-use Rattle.ly_tokens.specs.Private.TokenLines.{SoFar}
+use Rattle.ly_tokens.specs.Private.Clean.{AreSetBelow, BeginsEverywhere, HasRule}
 
 -- no run is stuck where a byte alone has a rule
 not_stuck : (s : Scanner) (p : Place) (b : ℕ) (more : List ℕ) (byte : ℕ) → p.rest ≡ b ∷ more
@@ -44,16 +41,16 @@ clean_from s next n all below (t ∷ ts) p e low bytes run leaves =
     by_set None e = rw e low
     by_set (Some c) e = rw e (below t.rule.0 c e)
 
-pub clean_everywhere : (s : Scanner) (actions : List LexAction) (n : ℕ) (text : List ℕ) → BeginsEverywhere s n
-    → AreSetBelow actions n → 0 < n → All (λ b. b < 256) text
-    → ((e : End) → EndsSo s actions text e → LeavesTokens e) → EndsSo s actions text Clean
-clean_everywhere s actions n text all below some bytes leaves =
-    let run = lexes s (condition_set actions) (length text) (start_of text) (omega arith) in
-    let clean = clean_from s (condition_set actions) n all below run.0 (start_of text) run.1 some bytes run.2
-    (leaves run.1 (run.0, run.2)) in (
+pub clean_everywhere : (s : Scanner) (next : ℕ → Option ℕ) (n : ℕ) (text : List ℕ) → BeginsEverywhere s n
+    → ((i c : ℕ) → next i ≡ Some c → c < n) → 0 < n → All (λ b. b < 256) text
+    → ((ts : List Lexeme) (e : End) → Lexed (IsLexemeAt s) (ScanEndsAt s) next (start_of text) ts e → LeavesTokens e)
+    → (ts : List Lexeme) × Lexed (IsLexemeAt s) (ScanEndsAt s) next (start_of text) ts Clean
+clean_everywhere s next n text all below some bytes leaves =
+    let run = lexes s next (length text) (start_of text) (omega arith) in
+    let clean = clean_from s next n all below run.0 (start_of text) run.1 some bytes run.2
+    (leaves run.0 run.1 run.2) in (
       run.0,
-      subst (λ e. Lexed (IsLexemeAt s) (ScanEndsAt s) (condition_set actions) (start_of text) run.0 e) clean
-          run.2,
+      subst (λ e. Lexed (IsLexemeAt s) (ScanEndsAt s) next (start_of text) run.0 e) clean run.2,
     )
 
 -- rules of bytes up to one more
@@ -87,30 +84,3 @@ set_below actions n all i c e = by_action (slice_get actions i) refl e
         → c < n
     by_action None at is = absurd cc
     by_action (Some a) at is = all i a c at is
-
--- where a run so far ends, that from its start does
-pub ends_from : (actions : List LexAction) (s : Scanner) (p : Place) (told : List ℕ) (q : Place) (e : End)
-    → ScanEndsAt s q e → SoFar actions s p q told → EndsFrom s actions p e
-ends_from actions s p told q e ends f = (
-  f.0 ++ [],
-  leads_on (IsLexemeAt s) (ScanEndsAt s) (condition_set actions) p q f.0 [] e f.1 ends,
-)
-
--- so does the text's
-pub ends_there : (actions : List LexAction) (s : Scanner) (text told : List ℕ) (q : Place) (e : End) → ScanEndsAt s q e
-    → SoFar actions s (start_of text) q told → EndsSo s actions text e
-ends_there actions s text told q e ends f = ends_from actions s (start_of text) told q e ends f
-
--- and where it ends from the place where the run so far has come
-pub ends_on : (actions : List LexAction) (s : Scanner) (text told : List ℕ) (q : Place) (e : End)
-    → EndsFrom s actions q e → SoFar actions s (start_of text) q told → EndsSo s actions text e
-ends_on actions s text told q e ends f = (
-  f.0 ++ ends.0,
-  leads_on (IsLexemeAt s) (ScanEndsAt s) (condition_set actions) (start_of text) q f.0 ends.0 e f.1 ends.1,
-)
-
--- a run ends in one way
-pub one_run_end : (actions : List LexAction) (s : Scanner) (text : List ℕ) (e d : End) → EndsSo s actions text e
-    → EndsSo s actions text d → e ≡ d
-one_run_end actions s text e d a b
-    = (one_lexing s (condition_set actions) (start_of text) a.0 b.0 e d a.1 b.1).1

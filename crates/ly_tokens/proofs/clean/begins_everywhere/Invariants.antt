@@ -1,5 +1,5 @@
-use Rattle.ly_tokens.specs.Private.RunEnd.{BeginsEverywhere}
-use Rattle.ly_tokens.proofs.run_end.begins_everywhere.Given as goal
+use Rattle.ly_tokens.specs.Private.Clean.{BeginsEverywhere}
+use Rattle.ly_tokens.proofs.clean.begins_everywhere.Given as goal
 
 -- so it is in the conditions so far
 abbrev pub invariant-loop-condition : goal.invariant-loop-condition

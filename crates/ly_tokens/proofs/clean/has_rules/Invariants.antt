@@ -1,6 +1,6 @@
 use Rattle.std.proofs.Common.{◌<◌, ℕ}
-use Rattle.ly_tokens.specs.Private.RunEnd.{HasRule}
-use Rattle.ly_tokens.proofs.run_end.has_rules.Given as goal
+use Rattle.ly_tokens.specs.Private.Clean.{HasRule}
+use Rattle.ly_tokens.proofs.clean.has_rules.Given as goal
 
 -- so it is with the bytes so far
 abbrev pub invariant-loop-byte : goal.invariant-loop-byte

@@ -1,19 +1,8 @@
--- How the run over a text ends.
-use Rattle.std.specs.Prelude.{◌≡◌, ◌<◌, ℕ, List, [], ◌∷◌, Bool, Some}
-use Rattle.ly_base.specs.Lexed.{Lexed, Place, start_of}
-use Rattle.ly_base.specs.declared.lexeme.End.{End}
-use Rattle.ly_base.specs.declared.lexeme.Lexeme.{Lexeme}
+-- Where every text ends cleanly.
+use Rattle.std.specs.Prelude.{◌≡◌, ◌<◌, ℕ, [], ◌∷◌, List, Bool, Some}
 use Rattle.ly_lexread.specs.declared.action.LexAction.{LexAction}
-use Rattle.ly_scan.specs.Lexer.{IsLexemeAt, ScanEndsAt, Scanner}
+use Rattle.ly_scan.specs.Lexer.{Scanner}
 use Rattle.ly_tokens.specs.Printing.{condition_set}
-
--- the run from a place on ends so
-abbrev pub EndsFrom : Scanner → List LexAction → Place → End → Type 0
-EndsFrom s actions p e = (ts : List Lexeme) × Lexed (IsLexemeAt s) (ScanEndsAt s) (condition_set actions) p ts e
-
--- the run over a text ends so
-abbrev pub EndsSo : Scanner → List LexAction → List ℕ → End → Type 0
-EndsSo s actions text e = EndsFrom s actions (start_of text) e
 
 -- a byte alone has a rule in a condition, at the start of a line or not
 abbrev pub HasRule : Scanner → ℕ → Bool → ℕ → Type 0

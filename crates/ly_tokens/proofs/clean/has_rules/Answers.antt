@@ -1,6 +1,6 @@
 use Rattle.ly_scan.specs.Lexer.{Scanner}
-use Rattle.ly_tokens.proofs.RunEndLemmas.{rules_below}
-use Rattle.ly_tokens.proofs.run_end.has_rules.Goals as goal
+use Rattle.ly_tokens.proofs.CleanLemmas.{rules_below}
+use Rattle.ly_tokens.proofs.clean.has_rules.Goals as goal
 
 pub loop-byte-preserved : goal.loop-byte-preserved
 loop-byte-preserved g c =
