@@ -144,11 +144,7 @@ fn write_tokens<W: Sink>(
 }
 
 /// The labels of the tokens of a table set's scanner: those of the bytes' literals, then those of all terminals.
-fn set_labels(
-    alloc: Global,
-    form: AnswerForm,
-    set: &TableSet,
-) -> Result<RuleLabels, OutOfMemory>
+fn set_labels(alloc: Global, form: AnswerForm, set: &TableSet) -> Result<RuleLabels, OutOfMemory>
     ensures { IfOk result (AreLabelsOfSet form set.now) }
 {
     // it implies that the numbers are within their ranges

@@ -32,7 +32,7 @@ StandFrom last end (t ∷ ts) = ((last ≤ t.at) × (t.at + length t.bytes ≤ e
 
 module _ (p : ScanPart) where
   -- what a lexeme takes is there
-  taken_there : (q : Place) (t : Lexeme) → IsLexemeAt (scanner_in p) q t → t.taken ≤ length q.rest
+  pub taken_there : (q : Place) (t : Lexeme) → IsLexemeAt (scanner_in p) q t → t.taken ≤ length q.rest
   taken_there q t is =
       let longest = is.0 in
       let cut = taken_within (cut_in p t.rule.0) t.matched t.taken longest.some_byte is.1 in
@@ -136,7 +136,7 @@ behind_some : (last end : ℕ) (t : Token ℕ) (before ts : List (Token ℕ)) �
 behind_some last end t [] ts f = (f.1, f.0.1)
 behind_some last end t (u ∷ us) ts f = behind_some (t.at + length t.bytes) end u us ts f.1
 
-stand_behind : (end : ℕ) (before ts : List (Token ℕ)) → StandFrom 0 end (before ++ ts)
+pub stand_behind : (end : ℕ) (before ts : List (Token ℕ)) → StandFrom 0 end (before ++ ts)
     → StandFrom (end_behind before) end ts × (end_behind before ≤ end)
 stand_behind end [] ts f = (f, omega arith)
 stand_behind end (t ∷ before) ts f = behind_some 0 end t before ts f

@@ -6,10 +6,12 @@ use Rattle.ly_feed.specs.TokenSpans.{AreSpansOf}
 use Rattle.ly_places.proofs.DerivationLemmas.{accepted_with, fault_with, refused_with, said_by, starts}
 use Rattle.ly_places.proofs.derivation.derive.Goals as goal
 use Rattle.ly_places.specs.Private.Derived.{IsDerived}
+use Rattle.ly_places.specs.declared.derivation.Derivation.{Derivation}
+use Rattle.ly_places.specs.declared.derivation.Derived.TheVariants.{Accepted, Refused}
 use Rattle.ly_places.specs.Shapes.{keeping_rule}
 
 pub keeping_parser-parser-requires : goal.keeping_parser-parser-requires
-keeping_parser-parser-requires c = c.requires ∙ ap (λ s. map keeping_rule s.rules) (sym c.set-set.ensures)
+keeping_parser-parser-requires c = c.requires.rules ∙ ap (λ s. map keeping_rule s.rules) (sym c.set-set.ensures)
 
 pub run-requires-clause-runs : goal.run-requires-clause-runs
 run-requires-clause-runs c =
@@ -47,11 +49,13 @@ returns-in-Accepted c =
     let closed = subst (λ s. IsClosed (scan_part_of s) parser.result.machine w forest (Ok c.in_ok-root.field-0))
     (sym c.set-set.ensures) c.in_ok-root.ensures.closed in
     let v = closed.0 in
-    subst (λ s. IsDerived s text _) c.set-set.ensures
-    (accepted_with set text parser.ensures.machine forest c.in-Accepted.root v _
+    let tokens = c.in_ok-tokens-in-Accepted.tokens in
+    let x : Derivation = record { forest = c.into_forest.result; root = c.in-Accepted.root; tokens = tokens } in
+    subst (λ s. IsDerived s text (Ok (Accepted x))) c.set-set.ensures
+    (accepted_with set text parser.ensures.machine forest c.in-Accepted.root v x
     (said_by set text parser.ensures.machine parser.result.machine w v machine start closed.1)
     (subst (λ ended. IsVerdictOf forest ended v) c.in-Accepted.is closed.2) c.into_forest.ensures refl
-    (subst (λ s. AreSpansOf (scan_part_of s) text c.in_ok-tokens-in-Accepted.tokens.items) (sym c.set-set.ensures)
+    (subst (λ s. AreSpansOf (scan_part_of s) text tokens.items) (sym c.set-set.ensures)
     c.in_ok-tokens-in-Accepted.ensures))
 
 pub returns : goal.returns
@@ -67,7 +71,7 @@ returns c =
     let closed = subst (λ s. IsClosed (scan_part_of s) parser.result.machine w forest (Ok c.in_ok-root.field-0))
     (sym c.set-set.ensures) c.in_ok-root.ensures.closed in
     let v = closed.0 in
-    subst (λ s. IsDerived s text _) c.set-set.ensures
+    subst (λ s. IsDerived s text (Ok (Refused c.in-Refused.syntax_error))) c.set-set.ensures
     (refused_with set text parser.ensures.machine forest c.in-Refused.syntax_error v
     (said_by set text parser.ensures.machine parser.result.machine w v machine start closed.1)
     (subst (λ ended. IsVerdictOf forest ended v) c.in-Refused.is closed.2))
