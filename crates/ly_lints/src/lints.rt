@@ -47,8 +47,8 @@ pub fn lints_of<'a>(
     requires order { IsBreadthFirst files.dfa.now }
     requires sets { AreLookaheads files.resolved.now.automaton files.lookaheads.now }
     ensures unmatched { options.grammar_alone ≡ false → IfOk result (λ lints. AreRising
-        (NeverMatches files.dfa.now (length files.file.now.rules.items)) lints.unmatched.items) }
-    ensures unreduced { IfOk result (λ lints. AreRising (NeverReduces files.resolved.now) lints.unreduced.items) }
+        (NeverMatches files.entry.dfa.now (length files.entry.file.now.rules.items)) lints.unmatched.items) }
+    ensures unreduced { IfOk result (λ lints. AreRising (NeverReduces files.entry.resolved.now) lints.unreduced.items) }
 {
     let unmatched = unmatched_in(alloc, &files, options)?;
     let unreduced = unreduced_rules(alloc, files.resolved)?;
