@@ -1,4 +1,5 @@
 pub mod FaultLemmas
 pub mod LineLemmas
+pub mod SetLabelLemmas
 pub mod SoFarLemmas
 pub mod WholeLemmas

@@ -159,12 +159,14 @@ fn set_labels(alloc: Global, form: AnswerForm, set: &TableSet) -> Result<RuleLab
 fn labels_of(alloc: Global, form: AnswerForm, set: &TableSet) -> Result<Vec<Label>, OutOfMemory>
     ensures { IfOk result (λ labels. labels.items ≡ labels_in form set.now) }
 {
-    let mut labels = Vec::with_capacity(alloc, set.literals().len())?;
-    for literal in set.literals() {
+    let literals = set.literals();
+    let terminals = set.terminals();
+    let mut labels = Vec::with_capacity(alloc, literals.len())?;
+    for literal in literals {
         let name = name_of(set, *literal);
         labels.push(label_for(alloc, form, Terminal::Token(name))?)?;
     }
-    for name in set.terminals() {
+    for name in terminals {
         labels.push(label_for(alloc, form, Terminal::Token(name))?)?;
     }
     Ok(labels)

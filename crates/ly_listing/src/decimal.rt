@@ -33,6 +33,7 @@ impl Model for Decimal {
 
 impl Decimal {
     /// The number.
+    #[inline(always)]
     pub(crate) fn get(&self) -> u64
         ensures { result ≡ self.now }
     {
@@ -40,6 +41,7 @@ impl Decimal {
     }
 
     /// Makes a number.
+    #[inline(never)] // leaves the registers to numbers that differ in the last digit
     pub(crate) fn new(value: u64) -> Decimal
         ensures { result ≡ value }
     {
@@ -56,6 +58,7 @@ impl Decimal {
     }
 
     /// Changes the number.
+    #[inline(always)] // a call would cost more than the digit
     pub(crate) fn set(&mut self, value: u64)
         ensures { self.new ≡ value }
     {
@@ -71,6 +74,7 @@ impl Decimal {
     }
 
     /// Writes the digits into `room` at `at`, and padding after them. Returns the position after the digits.
+    #[inline(always)] // so that the room's length is known
     pub(crate) fn put(&self, room: &mut [u8], at: usize) -> usize
         requires { at + 20 ≤ length room.old }
         ensures bytes { take result room.new ≡ take at room.old ++ decimal self.now }
@@ -83,6 +87,7 @@ impl Decimal {
 }
 
 /// Writes bytes into `room` at `at`. Returns the position after them.
+#[inline(always)] // so that the number of bytes is known
 pub(crate) fn put_bytes(room: &mut [u8], at: usize, bytes: &[u8]) -> usize
     requires { at + length bytes.now ≤ length room.old }
     ensures bytes { take result room.new ≡ take at room.old ++ bytes.now }

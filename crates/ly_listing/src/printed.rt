@@ -57,6 +57,7 @@ impl Printed {
     }
 
     /// Prints another offset.
+    #[inline(always)] // likewise
     pub(crate) fn set(&mut self, offset: u64, location: Location)
         ensures { self.new ≡ record { offset = offset; line = location.line; column = location.column } }
     {
@@ -109,6 +110,7 @@ impl Printed {
 }
 
 /// Prints an offset, its line and its column. Returns the number of bytes.
+#[inline(always)] // so that the room's length is known
 fn put_located(room: &mut [u8], offset: &Decimal, line: &Decimal, column: &Decimal) -> usize
     requires { 80 ≤ length room.old }
     ensures bytes { take result room.new ≡ json_located offset.now line.now column.now ++ codes ",\"end\":" }

@@ -140,8 +140,8 @@ passed_are : (form : AnswerForm) (labels : List (List ℕ)) (actions : List LexA
     → option_and_then (λ (r : RuleLabel). label_at labels r.number (slice_index bytes 0)) (slice_get rules i) ≡ None)
 passed_are form labels [] [] h i is = absurd cc
 passed_are form labels (a ∷ actions) (r ∷ rules) h zero is = (
-  (no_effect form labels a.begin r.begin a.returns r.number 0 cc h.1 h.0).0,
-  λ bytes. (no_effect form labels a.begin r.begin a.returns r.number (slice_index bytes 0) cc h.1 h.0).1,
+  (no_effect form labels a.begin r.begin a.returns r.number 0 (cc) h.1 h.0).0,
+  λ bytes. (no_effect form labels a.begin r.begin a.returns r.number (slice_index bytes 0) (cc) h.1 h.0).1,
 )
 passed_are form labels (a ∷ actions) (r ∷ rules) h (suc i) is = passed_are form labels actions rules h.2 i is
 passed_are form labels [] (r ∷ rules) h i is = absurd h

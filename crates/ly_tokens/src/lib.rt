@@ -5,7 +5,8 @@
 //! `subset_scanner` makes the DFA before minimization. It is public because table generation starts with it too.
 //!
 //! The text is read completely before the first line is written, because a failed read or allocation must leave the
-//! output empty. Holding the lines instead would take more memory.
+//! output empty. Holding the lines instead would take more memory. `ly_listing` walks over the text and writes the lines;
+//! this crate makes the lexer and the labels of the tokens.
 //!
 //! This is a crate of its own since it needs no grammar. It doesn't open files, parse arguments or print error
 //! messages.
