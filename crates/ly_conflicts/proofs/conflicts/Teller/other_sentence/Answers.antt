@@ -1,8 +1,6 @@
-use Rattle.std.proofs.Common.{◌∙◌, ap, subst, sym}
 use Rattle.std.proofs.lemmas.List.Elements.{Contains-get_or}
-use Rattle.ly_resolve.specs.Values.{IsInside}
 use Rattle.ly_conflicts.proofs.conflicts.Teller.other_sentence.Goals as goal
 
-pub conflict-requires : goal.conflict-requires
-conflict-requires c = c.requires.indices _
+pub conflict-conflict-requires : goal.conflict-conflict-requires
+conflict-conflict-requires c = c.requires.indices _
     (Contains-get_or c.args.group.now c.loop-index.index-index 0 c.loop-index-test.true)
