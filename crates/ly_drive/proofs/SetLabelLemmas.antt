@@ -45,7 +45,7 @@ module _ (form : AnswerForm) (s : TableSet) (ranges : IsWithinVersion V2 s) wher
       ≡ option_map (label_for form) (option_map (name_in s.terminals) (slice_get s.literals first))
   first_label first lt =
       let f : ℕ → List ℕ = λ t. label_for form (name_in s.terminals t) in
-      let count : length (map f s.literals) ≡ 256 = length-map f s.literals ∙ ranges.all_literals in
+      let count : length (map f s.literals) ≡ 256 = length-map s.literals f ∙ ranges.all_literals in
       get_front (map f s.literals) (map (label_for form) s.terminals) first (omega (arith, count, lt))
       ∙ slice_get-map f s.literals first ∙ by (slice_get s.literals first)
     where
@@ -61,7 +61,7 @@ module _ (form : AnswerForm) (s : TableSet) (ranges : IsWithinVersion V2 s) wher
       let f : ℕ → List ℕ = λ k. label_for form (name_in s.terminals k) in
       let symbols = ranges.symbols in
       let number : min (t + 256) 4294967295 ≡ t + 256 = omega (arith, lt, symbols) in
-      let count : length (map f s.literals) ≡ 256 = length-map f s.literals ∙ ranges.all_literals in
+      let count : length (map f s.literals) ≡ 256 = length-map s.literals f ∙ ranges.all_literals in
       let past : nat_le (t + 256) 1 ≡ false = grind (arith, nat_tests) in
       let other : nat_eq (t + 256) 2 ≡ false = grind (arith, nat_tests) in
       let there : slice_get s.terminals t ≡ Some (get_or s.terminals t []) = slice_get-get_or s.terminals t [] lt in

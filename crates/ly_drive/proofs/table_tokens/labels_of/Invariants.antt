@@ -1,5 +1,4 @@
 use Rattle.std.proofs.Common.{◌≡◌, ◌++◌, map, take}
-use Rattle.std.specs.Vec.{Vec}
 use Rattle.ly_base.specs.declared.numbers.Sym.{Sym}
 use Rattle.ly_feed.specs.Vocabularies.{name_in}
 use Rattle.ly_listing.specs.Labels.{label_for}
