@@ -6,6 +6,8 @@ use Rattle.std.proofs.lemmas.List.{length-map, map-append, take_more}
 use Rattle.std.proofs.lemmas.Option.{get_or_from_slice_get, slice_get-get_or, slice_get-map, slice_get_within}
 use Rattle.std.specs.Prelude.{if◌then◌else◌, min, nat_eq, nat_le, option_and_then, option_map, slice_get, slice_index}
 use Rattle.std.specs.Prelude.{unwrap_or}
+use Rattle.ly_base.specs.Lexed.{tokens_from}
+use Rattle.ly_base.specs.declared.lexeme.End.{End}
 use Rattle.ly_base.specs.declared.scan_action.Emitted.{Emitted}
 use Rattle.ly_base.specs.declared.scan_action.Emitted.TheVariants.{FirstByte, Nothing, Terminal}
 use Rattle.ly_base.specs.declared.version.Version.TheVariants.{V2}
@@ -14,10 +16,12 @@ use Rattle.ly_drive.specs.TableTokens.{token_name_in}
 use Rattle.ly_feed.specs.Passing.{ArePassedOver}
 use Rattle.ly_feed.specs.ScanPart.{condition_in, scan_part_of, terminal_by}
 use Rattle.ly_feed.specs.Vocabularies.{name_in}
-use Rattle.ly_listing.specs.Labels.{label_at, label_for}
+use Rattle.ly_listing.specs.Labels.{EndsSo, IsLabelListing, label_at, label_for, labelled_lines, labelling}
+use Rattle.ly_listing.specs.Listings.{end_line}
 use Rattle.ly_listing.specs.declared.rule_labels.RuleLabel.{RuleLabel}
 use Rattle.ly_listing.specs.declared.rule_labels.RuleLabels.{RuleLabels}
 use Rattle.ly_print.specs.declared.answer_form.AnswerForm.{AnswerForm}
+use Rattle.ly_scan.specs.Lexer.{Scanner}
 use Rattle.ly_tables.specs.Ranges.{IsEmittedWithin, IsWithinVersion}
 use Rattle.ly_tables.specs.TableSet.{ScanRule, TableSet}
 use Rattle.ly_tables.specs.Values.{scan_rule_from}
@@ -27,6 +31,10 @@ use Rattle.ly_tables.specs.declared.scan_rule.ScanRule as code
 pub map_more : {A B : Type 0} (f : A → B) (xs : List A) (i : ℕ) (d : A) → i < length xs
     → map f (take (i + 1) xs) ≡ map f (take i xs) ++ f (get_or xs i d) ∷ []
 map_more f xs i d lt = ap (map f) (take_more xs i d lt) ∙ map-append f (take i xs) (get_or xs i d ∷ [])
+
+pub map_twice : {A B C : Type 0} (f : A → B) (h : B → C) (xs : List A) → map (λ x. h (f x)) xs ≡ map h (map f xs)
+map_twice f h [] = refl
+map_twice f h (x ∷ xs) = ap (λ ys. h (f x) ∷ ys) (map_twice f h xs)
 
 -- what stands at a place of a list, and behind it
 get_front : {A : Type 0} (xs ys : List A) (k : ℕ) → k < length xs → slice_get (xs ++ ys) k ≡ slice_get xs k
@@ -152,3 +160,11 @@ module _ (form : AnswerForm) (s : TableSet) (ranges : IsWithinVersion V2 s) wher
       by_none i bytes (Some r) none =
           ap (λ ls. label_at ls (label_number r.action.emits) (slice_index bytes 0)) labels
           ∙ no_label r.action.emits none (slice_index bytes 0)
+
+-- a run has a listing by labels
+pub listing_of_run : (form : AnswerForm) (s : Scanner) (l : RuleLabels) (text : List ℕ) (e : End) → EndsSo s l text e
+    → (lines : List ℕ) × IsLabelListing form s l text e lines
+listing_of_run form s l text e run = (
+  labelled_lines form text (tokens_from (labelling l) 0 text run.0) ++ end_line form text e,
+  (run.0, run.1, refl),
+)

@@ -1,4 +1,4 @@
-ghost use Rattle.std.specs.Prelude.{◌≡◌, ◌≢◌, ℕ, List, Err, IfErr, IfOk, IsErrOf, OnOk};
+ghost use Rattle.std.specs.Prelude.{◌≡◌, ◌≢◌, ℕ, List, Err, IfErr, IfOk, IsErrOf, OnOk, map};
 ghost use Rattle.std.specs.Io.KnownBytes.{Appends, IsAtEnd};
 ghost use Rattle.ly_base.specs.declared.lexeme.End.{End};
 ghost use Rattle.ly_drive.specs.Answering.{IsDriven};
@@ -8,6 +8,7 @@ ghost use Rattle.ly_drive.specs.Private.SetLabels.{label_number, labels_in, rule
 ghost use Rattle.ly_drive.specs.TableTokens.{HasBadCut, IsListedBy, IsListedFor};
 ghost use Rattle.ly_feed.specs.Vocabularies.{name_in};
 ghost use Rattle.ly_feed.specs.TextFault.{IsOfEnding, failed_write};
+ghost use Rattle.ly_listing.specs.Labels.{label_for};
 ghost use Rattle.ly_listing.specs.Listings.{end_of};
 ghost use Rattle.ly_print.specs.Device.{next_count, IsFailedWrite, WroteNothing};
 ghost use Rattle.ly_print.specs.TextWriter.{IsCutShort};
@@ -151,7 +152,7 @@ fn set_labels(alloc: Global, form: AnswerForm, set: &TableSet) -> Result<RuleLab
     let _machine = set.machine();
     Ok(RuleLabels {
         labels: labels_of(alloc, form, set)?,
-        rules: set.scan_rules().iter().map(rule_label).collect(alloc)?,
+        rules: rules_of(alloc, set.scan_rules())?,
     })
 }
 
@@ -159,17 +160,37 @@ fn set_labels(alloc: Global, form: AnswerForm, set: &TableSet) -> Result<RuleLab
 fn labels_of(alloc: Global, form: AnswerForm, set: &TableSet) -> Result<Vec<Label>, OutOfMemory>
     ensures { IfOk result (λ labels. labels.items ≡ labels_in form set.now) }
 {
-    let literals = set.literals();
     let terminals = set.terminals();
+    let mut labels = literal_labels(alloc, form, set)?;
+    for name in terminals {
+        labels.push(label_for(alloc, form, Terminal::Token(name))?)?;
+    }
+    Ok(labels)
+}
+
+/// The labels of the bytes' literals.
+fn literal_labels(
+    alloc: Global,
+    form: AnswerForm,
+    set: &TableSet,
+) -> Result<Vec<Label>, OutOfMemory>
+    ensures { IfOk result
+        (λ labels. labels.items ≡ map (λ t. label_for form (name_in set.now.terminals t)) set.now.literals) }
+{
+    let literals = set.literals();
     let mut labels = Vec::with_capacity(alloc, literals.len())?;
     for literal in literals {
         let name = name_of(set, *literal);
         labels.push(label_for(alloc, form, Terminal::Token(name))?)?;
     }
-    for name in terminals {
-        labels.push(label_for(alloc, form, Terminal::Token(name))?)?;
-    }
     Ok(labels)
+}
+
+/// What a listing knows of the rules.
+fn rules_of(alloc: Global, rules: &[ScanRule]) -> Result<Vec<RuleLabel>, OutOfMemory>
+    ensures { IfOk result (λ labels. labels.items ≡ map rule_label_of rules.now) }
+{
+    Ok(rules.iter().map(rule_label).collect(alloc)?)
 }
 
 /// The number of the label of a rule's tokens, and the condition that the rule sets.

@@ -1,16 +1,10 @@
 use Rattle.std.proofs.Common.{◌≡◌, ◌++◌, map, take}
-use Rattle.ly_base.specs.declared.numbers.Sym.{Sym}
 use Rattle.ly_feed.specs.Vocabularies.{name_in}
 use Rattle.ly_listing.specs.Labels.{label_for}
 use Rattle.ly_drive.proofs.table_tokens.labels_of.Given as goal
 
--- there are the labels of the literals so far
-abbrev pub invariant-loop-literal : goal.invariant-loop-literal
-invariant-loop-literal l = l.labels.items
-    ≡ map (λ (t : Sym). label_for l.form (name_in l.set.terminals t.0)) (take l.literal-index l.literals)
-
--- there are those of all literals, and of the terminals so far
+-- there are the labels of the literals, and of the terminals so far
 abbrev pub invariant-loop-name : goal.invariant-loop-name
 invariant-loop-name l = l.labels.items
-    ≡ map (λ (t : Sym). label_for l.form (name_in l.set.terminals t.0)) l.literals
+    ≡ map (λ t. label_for l.form (name_in l.set.terminals t)) l.set.literals
     ++ map (λ n. label_for l.form n.items) (take l.name-index l.terminals)
