@@ -1,0 +1,3 @@
+mod ChangeLemmas
+mod FolderLemmas
+mod WritingLemmas
