@@ -1,3 +1,3 @@
-mod ChangeLemmas
-mod FolderLemmas
-mod WritingLemmas
+pub mod ChangeLemmas
+pub mod FolderLemmas
+pub mod WritingLemmas

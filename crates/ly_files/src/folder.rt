@@ -32,6 +32,9 @@ pub trait Folder {
     fn open(&self, alloc: Global, path: &str) -> io::Result<Self::File>
         ensures { IfOk result (λ file. IsOpened (holds self.now) path.now (Self.File.remaining file)) };
 
+    /// Why a file can't be opened, or its first byte can't be read, as the system says.
+    fn reason(&self, alloc: Global, path: &str) -> Option<io::Error>;
+
     /// The path of a file with links resolved, or the same path if there is no file or it can't be resolved.
     fn resolve(&self, alloc: Global, path: &str) -> Result<String, AllocError>
         ensures { IfOk result (λ place. IsSome (holds self.now) → string_bytes place ≡ path.now) };

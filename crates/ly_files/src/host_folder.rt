@@ -5,7 +5,7 @@ use crate::folder::Folder;
 use ly_print::Counted;
 use std::alloc::{AllocError, Global};
 use std::fs::{self, File, Metadata, OpenFile};
-use std::io::{self, ErrorKind, Write};
+use std::io::{self, ErrorKind, Read, Write};
 use std::os::unix::fs::MetadataExt;
 use std::rt::Files;
 
@@ -24,6 +24,13 @@ impl<F: Files> Folder for HostFolder<'_, F> {
 
     fn open(&self, _alloc: Global, path: &str) -> io::Result<Counted<F::File>> {
         Ok(Counted::new(fs::open(self.0, path)?))
+    }
+
+    fn reason(&self, _alloc: Global, path: &str) -> Option<io::Error> {
+        match fs::open(self.0, path) {
+            Ok(mut file) => file.read(&mut [0]).err(),
+            Err(reason) => Some(reason),
+        }
     }
 
     fn resolve(&self, alloc: Global, path: &str) -> Result<String, AllocError> {

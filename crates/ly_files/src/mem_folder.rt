@@ -143,6 +143,10 @@ impl Folder for MemFolder {
         }
     }
 
+    fn reason(&self, alloc: Global, path: &str) -> Option<io::Error> {
+        self.open(alloc, path).err()
+    }
+
     fn resolve(&self, alloc: Global, path: &str) -> Result<String, AllocError> {
         String::from_str(alloc, path)
     }
