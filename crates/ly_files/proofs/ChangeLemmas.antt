@@ -1,7 +1,7 @@
 -- Changes of files that may be known.
-use Rattle.std.proofs.Common.{◌≡◌, ◌≢◌, ◌⊎◌, ℕ, List, Option, Some, None, inl, inr, refl}
+use Rattle.std.proofs.Common.{◌≡◌, ℕ, List, Option, Some, None, inl, refl}
 use Rattle.std.specs.Prelude.{Err, Ok, OnErr, Result}
-use Rattle.ly_files.specs.Folder.{AreSame, Changed, Files, IsSpared, IsSparedOrSet}
+use Rattle.ly_files.specs.Folder.{Changed, Files, IsSpared, IsSparedOrSet}
 
 -- two changes, one after the other
 pub changed_twice : {R S T : Files → Files → Type 0} → (a b c : Option Files)

@@ -1,11 +1,11 @@
 -- Lemmas on files by their paths.
 use Rattle.std.proofs.Common.{◌≡◌, ◌≢◌, ◌∙◌, ◌⊎◌, ◌++◌, ℕ, Bool, List, [], ◌∷◌, Option, Some, None, ap, arith, false, get_or, inl}
 use Rattle.std.proofs.Common.{inr, length, min, refl, rules, suc, sym, take, true, drop, ◌<◌, ◌≤◌, ◌+◌}
-use Rattle.std.specs.Prelude.{Err, Ok, OnErr, OnOk, Result, bytes_eq, if◌then◌else◌, option_map, string_bytes}
+use Rattle.std.specs.Prelude.{Err, Ok, OnErr, OnOk, Result, bytes_eq, option_map, string_bytes}
 use Rattle.std.proofs.Math.Seq.{drop-drop, take-append_seam, take-suc}
 use Rattle.std.proofs.lemmas.List.{length-take-le, take-append-drop}
 use Rattle.std.proofs.lemmas.Slice.Eq.{bytes_eq-Decides}
-use Rattle.ly_files.specs.Folder.{AreSame, Files, IsBegun, IsCreated, IsRenamed, IsSet, IsSetSomehow, IsSpared, set}
+use Rattle.ly_files.specs.Folder.{AreSame, Files, IsBegun, IsCreated, IsRenamed, IsSet, IsSetSomehow, set}
 use Rattle.ly_files.specs.MemFolder.{changed_by, no_files}
 use Rattle.ly_files.specs.declared.mem_folder.Entry.{Entry}
 
@@ -73,6 +73,7 @@ new_replaces path new bytes f g h beside created renamed p =
   where
     from_new : g new ≡ Some bytes
     from_new = created.1 new ∙ set_here new (Some bytes) f
+
     by : (p ≡ new) ⊎ (bytes_eq p new ≡ false) → (p ≡ path) ⊎ (bytes_eq p path ≡ false)
         → set new None (set path (g new) g) p ≡ set path (Some bytes) f p
     by (inl same) other = rw same
@@ -116,6 +117,7 @@ rest_read bytes rest copied buf read n is within at = sym
   where
     cut : (xs : List ℕ) → length xs ≡ n → take n (xs ++ drop n buf) ≡ xs
     cut xs long = rw long at (take-append_seam xs (drop n buf))
+
     drop_twice : drop (read + n) bytes ≡ drop n (drop read bytes)
     drop_twice = sym (drop-drop n read bytes)
 

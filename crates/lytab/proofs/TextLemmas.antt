@@ -1,5 +1,5 @@
 -- What is written for a text that is known is written for some text.
-use Rattle.std.proofs.Common.{◌≡◌, ◌⊎◌, IfErr, IfOk, inl, inr, List, None, Option, refl, Result, ℕ}
+use Rattle.std.proofs.Common.{◌≡◌, ◌⊎◌, IfErr, IfOk, inl, inr, List, None, Option, refl, Result, Some, subst, ℕ}
 use Rattle.ly_generate.proofs.GenFaultLemmas.{err_weaker, ok_weaker}
 use Rattle.ly_drive.specs.Answering.{IsAnsweredBy, IsBegunBy, IsReadAsNeeded}
 use Rattle.ly_drive.specs.Lines.{AreLinesAnswered, AreLinesStopped}
@@ -22,13 +22,15 @@ use Rattle.lytab.proofs.CarriedLemmas.{fails_lines}
 use Rattle.lytab.specs.Failure.{IsOfWriter, failure_of_file}
 use Rattle.lytab.specs.Lines.{AreLinesFailed, AreLinesStoppedBy, IsFaultMet}
 use Rattle.lytab.specs.Reading.{HasReadFailed, IsReadByFiles}
+use Rattle.lytab.specs.Refusal.{IsRefusalOf}
 use Rattle.lytab.specs.declared.answering.Rules.{Rules}
 use Rattle.lytab.specs.declared.answering.Rules.TheVariants as rules
 use Rattle.lytab.specs.declared.completion.Completion.{Completion}
 use Rattle.lytab.specs.declared.failure.Failure.{Failure}
 use Rattle.lytab.specs.declared.failure.Failure.TheVariants.{CannotRead, CannotWrite, FaultyTables, OutOfMemory}
 use Rattle.lytab.specs.declared.failure.Failure.TheVariants.{Refused, Tables, TooLong, Unexpected, Unreadable}
-use Rattle.lytab.specs.declared.files.FileFault.{FileFault}
+use Rattle.ly_files.specs.declared.file_fault.FileFault.{FileFault}
+use Rattle.ly_files.specs.Folder.{Files, IsOpened, named}
 
 answers_of_some : {form : AnswerForm} {limits : Sizes} {lex : List ℕ} {given : Option (List ℕ)} {e : End}
     {answer : List ℕ}
@@ -177,3 +179,16 @@ pub unfailed : {R : Type 0} {lex yacc : List ℕ} {result : Result Completion Fa
 unfailed not (inl same) = inl same
 unfailed not (inr read) =
     inr (read.0, read.1, record { needed = λ _. read.2; asked = λ failed. absurd (not failed) })
+
+some_refused : (r : Rules) (given : Option (List ℕ)) (f : Failure) → IsRefusalOf r given f → IsRefusalOf r None f
+some_refused r given f h = ?
+
+pub if_refused : (r : Rules) (given : Option (List ℕ)) (result : Result Completion Failure)
+    → IfErr result (IsRefusalOf r given) → IfErr result (IsRefusalOf r None)
+if_refused r given result refused = err_weaker result _ _ (some_refused r given) refused
+
+-- What holds of the bytes of an open file holds of those of the file that its path names.
+pub of_named : (P : Option (List ℕ) → Type 0) (files : Option Files) (path : List ℕ) (given : Option (List ℕ))
+    → IsOpened files path given → (P given → P None) → P given → P (named files path)
+of_named P None path given opened weaker h = weaker h
+of_named P (Some f) path given opened weaker h = subst P opened.1 h

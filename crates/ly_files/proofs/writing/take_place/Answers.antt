@@ -1,6 +1,5 @@
-use Rattle.std.proofs.Common.{rules, ◌∙◌, refl, sym}
-use Rattle.ly_files.specs.Folder.{Changed, IsCreated}
-use Rattle.ly_files.proofs.WritingLemmas.{failed_rename, placed}
+use Rattle.std.proofs.Common.{◌∙◌, refl, sym}
+use Rattle.ly_files.proofs.WritingLemmas.{failed_rename}
 use Rattle.ly_files.proofs.writing.take_place.Goals as goal
 
 pub returns-in-Err : goal.returns-in-Err

@@ -1,4 +1,4 @@
-use Rattle.std.proofs.Common.{rules, Ok, Err, Option, None, refl, ◌∙◌, ap, Result}
+use Rattle.std.proofs.Common.{rules}
 use Rattle.ly_files.proofs.FolderLemmas.{put_or_not}
 use Rattle.ly_files.proofs.mem_folder.MemFolderFolder.create.Goals as goal
 

@@ -1,6 +1,5 @@
-use Rattle.std.proofs.Common.{rules, ap, ◌∙◌, ◌++◌, ◌∷◌, [], Some, None, option_map, sym}
-use Rattle.ly_files.specs.Folder.{set}
-use Rattle.ly_files.specs.MemFolder.{changed_by, files_of, no_files}
+use Rattle.std.proofs.Common.{ap, ◌∙◌, ◌++◌, ◌∷◌, [], Some, None, option_map, sym}
+use Rattle.ly_files.specs.MemFolder.{changed_by, no_files}
 use Rattle.ly_files.specs.declared.mem_folder.Entry.{Entry}
 use Rattle.ly_files.proofs.FolderLemmas.{changed_twice_more, moved_to}
 use Rattle.ly_files.proofs.mem_folder.MemFolderFolder.rename.Goals as goal
