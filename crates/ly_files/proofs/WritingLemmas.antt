@@ -9,8 +9,8 @@ use Rattle.ly_files.specs.declared.file_fault.FileFault.{FileFault}
 use Rattle.ly_files.specs.Fault.{IsWriteFault}
 
 -- a failure that spared the file
-pub failed_and_spared : {A : Type 0} (path bytes : List ℕ) (plain : Bool) (before after : Option Files) (fault : FileFault)
-    → IsWriteFault path fault → Changed (IsSpared path) before after
+pub failed_and_spared : {A : Type 0} (path bytes : List ℕ) (plain : Bool) (before after : Option Files)
+    (fault : FileFault) → IsWriteFault path fault → Changed (IsSpared path) before after
     → HasWritten {A = A} path bytes plain before after (Err fault)
 failed_and_spared path bytes plain before after fault is spared = record {
   written = tt;

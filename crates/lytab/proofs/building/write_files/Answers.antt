@@ -5,6 +5,3 @@ use Rattle.lytab.proofs.building.write_files.Goals as goal
 
 pub returns-clause-written : goal.returns-clause-written
 returns-clause-written g c = ?
-
-pub returns-clause-others : goal.returns-clause-others
-returns-clause-others g c = ?
