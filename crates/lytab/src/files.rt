@@ -105,8 +105,11 @@ fn write_in_place<'a, F: Files>(
     match fs::create(files, path) {
         Ok(file) => {
             let mut device = Counted::new(file);
-            write_to(&mut device, path, bytes)?;
-            Ok(())
+            let written = write_to(&mut device, path, bytes);
+            if written.is_err() {
+                notes.look_at_device(path, &mut device.into_inner());
+            }
+            written
         }
         Err(reason) => {
             notes.write_reason(path, &reason);

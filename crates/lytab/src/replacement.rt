@@ -6,15 +6,18 @@ use crate::files::{FileFault, write_to};
 use crate::notes::Notes;
 use ly_print::{Counted, Sink};
 use std::alloc::{AllocError, Global};
-use std::fs::{self, File, Metadata, OpenFile};
+use std::fs::{self, File, Metadata, OpenFile, Permissions};
 use std::io;
 use std::io::{ErrorKind, Write};
-use std::os::unix::fs::MetadataExt;
+use std::os::unix::fs::{MetadataExt, PermissionsExt};
 use std::path::PathBuf;
 use std::rt::Files;
 
 /// How many paths are tried for a new file.
 const TRIES: u32 = 100;
+
+/// The bits of a mode for reading, writing and executing.
+const PERMISSIONS: u32 = 0o777;
 
 /// A new file beside the one that it will replace.
 #[derive(Drop)]
@@ -67,6 +70,7 @@ impl<T: Write + OpenFile + Drop> Replacement<T> {
         let ended = match write_to(&mut device, path, bytes) {
             Ok(()) => take_place(files, &device.into_inner(), &self.path, &self.place),
             Err(fault) => {
+                notes.look_at_device(path, &mut device.into_inner());
                 let _ = fs::remove_file(files, &self.path);
                 return Err(fault);
             }
@@ -101,7 +105,8 @@ fn may_be_replaced<F: Files>(files: &F, place: &PathBuf, older: &Metadata) -> bo
     older.is_file() && older.nlink() == 1 && File::options().write(true).open(files, place).is_ok()
 }
 
-/// Gives a new file the permissions of the older one, if there is one. Returns an error if they have different owners.
+/// Gives a new file the permissions of the older one, if there is one, but not the bits setuid and setgid, which the
+/// operating system takes from a file that is written to. Returns an error if they have different owners.
 fn take_after<T: OpenFile>(new: &T, older: Option<Metadata>) -> io::Result<()> {
     let Some(older) = older else {
         return Ok(());
@@ -110,7 +115,8 @@ fn take_after<T: OpenFile>(new: &T, older: Option<Metadata>) -> io::Result<()> {
     if older.uid() != metadata.uid() || older.gid() != metadata.gid() {
         return Err(io::Error::from(ErrorKind::Unsupported));
     }
-    new.set_permissions(older.permissions())
+    let mode = older.permissions().mode() & PERMISSIONS;
+    new.set_permissions(Permissions::from_mode(mode))
 }
 
 /// A new file beside a path, with its own path. `None` if none can be created there.
