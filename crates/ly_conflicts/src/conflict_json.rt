@@ -61,10 +61,7 @@ fn write_finding(
 ) {
     buffer.push_json_key(b"file");
     buffer.push_json(files.yacc.name.as_bytes());
-    let code: &[u8] = match told.conflict.kind {
-        ConflictKind::ShiftReduce => b"ShiftReduce",
-        ConflictKind::ReduceReduce => b"ReduceReduce",
-    };
+    let code = code_of(told.conflict.kind);
     let mut message = buffer.beside();
     write_summary(&mut message, files.spec, told);
     let place = place_of_rule(files, places, told.conflict.rule);
@@ -79,8 +76,16 @@ fn write_finding(
     }
 }
 
+/// The name of a kind of conflict among findings.
+pub(crate) fn code_of(kind: ConflictKind) -> &'static [u8] {
+    match kind {
+        ConflictKind::ShiftReduce => b"ShiftReduce",
+        ConflictKind::ReduceReduce => b"ReduceReduce",
+    }
+}
+
 /// The place of a rule.
-fn place_of_rule<'f>(files: &Analysis<'f>, places: &Places, rule: RuleNo) -> FindingPlace<'f> {
+pub(crate) fn place_of_rule<'f>(files: &Analysis<'f>, places: &Places, rule: RuleNo) -> FindingPlace<'f> {
     FindingPlace {
         file: files.yacc,
         at: Some(places.location_of_rule(rule.0 as usize)),

@@ -10,6 +10,7 @@ ghost use Rattle.ly_conflicts.specs.GroupReport.{IsOtherIn};
 
 use crate::ambiguity::{Finder, MOST};
 use crate::conflict_json::write_conflict;
+use crate::conflict_sarif::write_results;
 use crate::conflict_messages::{write_told, write_untold};
 use crate::group_report::{GroupReport, OtherSentence, Readings, Shown, Spot};
 use crate::groups::{BOUND, Group, TOLD, groups_of};
@@ -17,7 +18,7 @@ use crate::meeting::is_met;
 use crate::suggestions::{Suggesting, Suggestion};
 use crate::ways::Drawn;
 use crate::yields::Yields;
-use ly_analysis::{Analysis, Cores, Options, Places, first_of, write_numbered};
+use ly_analysis::{Analysis, Cores, Form, Options, Places, first_of, write_numbered};
 use ly_base::{OutOfMemory, Sym};
 use ly_counterexamples::{Budget, Example, Examples};
 use ly_join::{Grammar, Spec, Symbol};
@@ -47,8 +48,8 @@ struct Teller<'a> {
 }
 
 /// Prints the number of conflicts, and each conflict with a counterexample; or, for JSON, prints these as members of an
-/// object. Conflicts of one state that differ only in the terminal, and whose searches had the same result, form a
-/// group that is printed as one.
+/// object, and for SARIF the conflicts as results with commas between them. Conflicts of one state that differ only in
+/// the terminal, and whose searches had the same result, form a group that is printed as one.
 pub fn write_conflicts(
     alloc: Global,
     buffer: &mut TextBuffer,
@@ -57,7 +58,7 @@ pub fn write_conflicts(
     options: Options,
 ) -> Result<(), OutOfMemory> {
     let resolved = files.resolved;
-    if !options.json {
+    if options.form == Form::Plain {
         write_counts(buffer, ConflictCounts::of(resolved));
         if resolved.conflicts().is_empty() {
             return Ok(());
@@ -75,15 +76,19 @@ pub fn write_conflicts(
     let suggestion = teller.suggestion(alloc, places, &groups)?;
     let told = teller.all_told(alloc, &groups, budget)?;
     let untold = groups.len().saturating_sub(TOLD);
-    if options.json {
-        write_json(alloc, buffer, files, places, &told)?;
-        write_rest(buffer, files.spec, suggestion, untold);
-    } else {
-        if let Some(suggestion) = suggestion {
-            suggestion.write(buffer, files.spec, groups.len());
+    match options.form {
+        Form::Json => {
+            write_json(alloc, buffer, files, places, &told)?;
+            write_rest(buffer, files.spec, suggestion, untold);
         }
-        write_all(alloc, buffer, files, places, &told)?;
-        write_untold(buffer, untold);
+        Form::Sarif => write_results(buffer, files, places, &told),
+        Form::Plain => {
+            if let Some(suggestion) = suggestion {
+                suggestion.write(buffer, files.spec, groups.len());
+            }
+            write_all(alloc, buffer, files, places, &told)?;
+            write_untold(buffer, untold);
+        }
     }
     Ok(())
 }

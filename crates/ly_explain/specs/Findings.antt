@@ -1,6 +1,8 @@
 -- The findings about two accepted files.
-use Rattle.std.specs.Prelude.{◌≡◌, ◌++◌, ℕ, Bool, List, MatchOption, None, Option, Some, codes, false, true}
+use Rattle.std.specs.Prelude.{◌≡◌, ◌++◌, ℕ, List, MatchOption, None, Option, Some, codes}
 use Rattle.std.specs.Fmt.{decimal}
+use Rattle.ly_analysis.specs.declared.analysis.Form.{Form}
+use Rattle.ly_analysis.specs.declared.analysis.Form.TheVariants.{Json, Plain, Sarif}
 use Rattle.ly_join.specs.Joined.{Spec}
 use Rattle.ly_report.specs.Counts.{AreCounts}
 use Rattle.ly_report.specs.declared.counts.ConflictCounts.{ConflictCounts}
@@ -21,7 +23,8 @@ abbrev pub json_front : Option Findings → List ℕ
 json_front None = codes "{\"accepted\":false,\"counts\":null"
 json_front (Some found) = codes "{\"accepted\":true,\"counts\":" ++ json_counts found.conflicts
 
--- a JSON text begins with these findings
-abbrev pub IsInForm : Bool → Option Findings → List ℕ → Type 0
-IsInForm true findings text = (rest : List ℕ) × (text ≡ json_front findings ++ rest)
-IsInForm false findings text = Unit {0}
+-- JSON begins with these findings, and SARIF with the version of the format
+abbrev pub IsInForm : Form → Option Findings → List ℕ → Type 0
+IsInForm Json findings text = (rest : List ℕ) × (text ≡ json_front findings ++ rest)
+IsInForm Sarif findings text = (rest : List ℕ) × (text ≡ codes "{\"version\":\"2.1.0\"" ++ rest)
+IsInForm Plain findings text = Unit {0}

@@ -271,6 +271,7 @@ fn name_of_pattern_lint(pattern_lint: PatternLint) -> &'static [u8] {
         PatternLint::Backspace => b"EscapedBackspace",
         PatternLint::Braces => b"EscapedBraces",
         PatternLint::Unicode => b"EscapedUnicode",
+        PatternLint::WordEdge(_) => b"EscapedWordEdge",
         PatternLint::Reluctant => b"ReluctantOperator",
         PatternLint::ManyBytes => b"CharacterInBrackets",
         PatternLint::Interval => b"IntervalOfAll",

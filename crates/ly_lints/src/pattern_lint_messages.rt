@@ -13,6 +13,10 @@ pub(crate) fn write_pattern_lint(buffer: &mut TextBuffer, pattern_lint: PatternL
         PatternLint::Unicode => {
             b"\\u is the letter u; write the character itself, or its bytes, as in \\xc3\\xa9"
         }
+        PatternLint::WordEdge(b'<') => {
+            b"\\< is the byte <; there is no pattern for the start of a word"
+        }
+        PatternLint::WordEdge(_) => b"\\> is the byte >; there is no pattern for the end of a word",
         PatternLint::Reluctant => {
             b"this ? makes the part before it optional: there are no lazy operators, and the longest match always wins"
         }

@@ -13,6 +13,7 @@ mod excerpt;
 mod finding;
 mod json;
 mod named_file;
+mod sarif;
 mod shown_text;
 
 pub use buffer::TextBuffer;

@@ -14,6 +14,7 @@ use Rattle.ly_print.specs.declared.answer_form.AnswerForm.{AnswerForm}
 use Rattle.ly_cli.specs.Request.{Request, build, check, explain, lines, run, run_placed, table_tokens}
 use Rattle.ly_cli.specs.Request.{tokens, try, try_placed}
 use Rattle.ly_cli.specs.declared.command.Answering.{Answering}
+use Rattle.ly_cli.specs.declared.command.ReportForm.{ReportForm}
 use Rattle.ly_cli.specs.declared.command.Strictness.{Strictness}
 use Rattle.lytab.specs.Answering.{AreTokensBegun, AreTokensPrinted, IsAnsweredByFiles, IsAnsweredByTables}
 use Rattle.lytab.specs.Answering.{IsBegunByFiles, IsBegunByTables, text_from}
@@ -354,7 +355,7 @@ text_named f None bytes = refl
 text_named f (Some path) bytes = refl
 
 explanation_told : {A B D : Type 0} (f : A → B) (contents : D → Option (List ℕ)) (lex states graph : Option A)
-    (strictness : Strictness) (form : AnswerForm) (before after : Option (List ℕ))
+    (strictness : Strictness) (form : ReportForm) (before after : Option (List ℕ))
     (r : Result Completion Failure)
     → HasExplained contents lex states graph strictness form before after r
     → HasExplained contents (option_map f lex) (option_map f states) (option_map f graph) strictness form
@@ -398,7 +399,7 @@ carried_build contents f lex yacc tables path version expected points r e told r
 )
 
 pub carried_explain : {A R D : Type 0} (contents : D → Option (List ℕ)) (f : A → List ℕ) (lex : Option A)
-    (yacc : List ℕ) (states graph : Option A) (strictness : Strictness) (form : AnswerForm)
+    (yacc : List ℕ) (states graph : Option A) (strictness : Strictness) (form : ReportForm)
     (r : Result Completion Failure) (e : Ends R)
     → DoneOrUnchanged r e.before e.after
     (HasExplained contents lex states graph strictness form e.before e.after r)

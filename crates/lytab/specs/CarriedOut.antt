@@ -1,7 +1,7 @@
 -- What a command has written, or why it failed, and what it read of standard input. The contents of the named files are
 -- unknown to contracts, so this holds for some bytes.
-use Rattle.std.specs.Prelude.{◌≡◌, ◌⊎◌, ◌++◌, ℕ, Bool, IfErr, IfOk, List, MatchResult}
-use Rattle.std.specs.Prelude.{None, OnErr, OnOk, Option, Result, Some, codes, false, length, true}
+use Rattle.std.specs.Prelude.{◌≡◌, ◌⊎◌, ◌++◌, ℕ, IfErr, IfOk, List, MatchResult}
+use Rattle.std.specs.Prelude.{None, OnErr, OnOk, Option, Result, Some, codes, length}
 use Rattle.std.specs.Fmt.{decimal}
 use Rattle.std.specs.Io.KnownBytes.{IsAtEnd}
 use Rattle.std.specs.declared.alloc.Global.{Global}
@@ -19,6 +19,8 @@ use Rattle.ly_print.specs.declared.answer_form.AnswerForm.TheVariants.{Json, Pla
 use Rattle.ly_report.specs.Counts.{AreCounts}
 use Rattle.ly_report.specs.Report.{counts_line}
 use Rattle.ly_report.specs.declared.counts.ConflictCounts.{ConflictCounts}
+use Rattle.ly_analysis.specs.declared.analysis.Form.{Form}
+use Rattle.ly_analysis.specs.declared.analysis.Form.TheVariants as shown_as
 use Rattle.ly_explain.specs.Findings.{IsInForm}
 use Rattle.ly_explain.specs.declared.surveying.Explanation.{Explanation}
 use Rattle.ly_tables.specs.TableSet.{TableSet}
@@ -26,6 +28,8 @@ use Rattle.ly_tables.specs.TableText.{TableText}
 use Rattle.ly_tables.specs.declared.set_counts.SetCounts.{SetCounts}
 use Rattle.ly_cli.specs.Request.{Request, build, check, explain, lines, run, run_placed, table_tokens}
 use Rattle.ly_cli.specs.Request.{tokens, try, try_placed}
+use Rattle.ly_cli.specs.declared.command.ReportForm.{ReportForm}
+use Rattle.ly_cli.specs.declared.command.ReportForm.TheVariants as report_form
 use Rattle.ly_cli.specs.declared.command.Strictness.{Strictness}
 use Rattle.lytab.specs.Answering.{IsAnsweredByFiles, IsAnsweredByTables, AreTokensBegun, AreTokensPrinted}
 use Rattle.lytab.specs.Answering.{IsBegunByFiles, IsBegunByTables, text_from}
@@ -131,22 +135,23 @@ abbrev pub lex_text : {A : Type 0} → Option A → List ℕ → List ℕ
 lex_text (Some path) bytes = bytes
 lex_text None bytes = no_rules
 
--- whether the form is JSON
-abbrev pub is_json : AnswerForm → Bool
-is_json Plain = false
-is_json Json = true
+-- the form in which a report is made
+abbrev pub form_of : ReportForm → Form
+form_of report_form.Plain = shown_as.Plain
+form_of report_form.Json = shown_as.Json
+form_of report_form.Sarif = shown_as.Sarif
 
 -- the report of a lex file and a yacc file was written in this form, with the right verdict; the states of their parser
 -- and a graph of them were written if files are named for them and they exist; and the result is whether the files pass
 pub record HasExplained {D A : Type 0} (contents : D → Option (List ℕ))
     (lex_path states_path graph_path : Option A)
-    (strictness : Strictness) (form : AnswerForm) (before after : Option (List ℕ))
+    (strictness : Strictness) (form : ReportForm) (before after : Option (List ℕ))
     (result : Result Completion Failure) : Type 0 where
   pub lex : List ℕ
   pub yacc : List ℕ
   pub explanation : Explanation
   pub explained : IsExplained version_2 (lex_text lex_path lex) yacc explanation
-  pub in_form : IsInForm (is_json form) explanation.findings explanation.text.items
+  pub in_form : IsInForm (form_of form) explanation.findings explanation.text.items
   pub states_written : IsWrittenIf contents states_path explanation.states
   pub picture_written : IsWrittenIf contents graph_path explanation.picture
   pub text : WroteAllOrPrefix result before after explanation.text.items

@@ -16,7 +16,7 @@ returns-clause-said g c =
       yacc = _;
       explanation = explanation;
       explained = c.in_ok-explanation.ensures.explained;
-      in_form = subst (λ json. IsInForm json explanation.findings explanation.text.items) c.is_json.ensures
+      in_form = subst (λ form. IsInForm form explanation.findings explanation.text.items) c.form_of.ensures
           c.in_ok-explanation.ensures.form;
       states_written = c.in_ok-write_files.ensures.states;
       picture_written = c.in_ok-write_files.ensures.picture;
