@@ -3,7 +3,8 @@ ghost use Rattle.std.specs.Prelude.{MatchResult, string_bytes, true};
 ghost use Rattle.clap.specs.Words.{first_value, found_of, kind_of, subcommand_rows_of};
 ghost use Rattle.ly_cli.specs.CommandLine.{answering_by, build_by, check_by, count_by, strictness_by, expected_by};
 ghost use Rattle.ly_cli.specs.CommandLine.{explain_by, form_by, is_said, line_faults, line_takes, request_by};
-ghost use Rattle.ly_cli.specs.CommandLine.{report_form_by, request_of, run_by, subcommand_in, tokens_by, try_by, version_by, Mean};
+ghost use Rattle.ly_cli.specs.CommandLine.{report_form_by, request_of, run_by, subcommand_in, tokens_by, try_by};
+ghost use Rattle.ly_cli.specs.CommandLine.{version_by, Mean};
 ghost use Rattle.ly_cli.specs.Command.{said};
 ghost use Rattle.ly_cli.specs.Request.{Request};
 
@@ -35,8 +36,8 @@ const NO_LINES: &str = "error: the argument '--lines' cannot be used with '--pla
 /// `build LEX YACC TABLES [--report FILE] [--format 1|2] [--expect COUNT] [--where]`,
 /// `run TABLES [TEXT] [--lines] [--json] [--places] [--where]`,
 /// `try LEX YACC [TEXT] [--json] [--places] [--where]`, `check TABLES [--json] [--where]` or
-/// `explain LEX YACC [--json|--sarif] [--states FILE] [--graph FILE] [--strict] [--expect COUNT]`, or this with `--yacc YACC`
-/// in place of both files. `--places` implies `--json`.
+/// `explain LEX YACC [--json|--sarif] [--states FILE] [--graph FILE] [--strict] [--expect COUNT]`, or this with
+/// `--yacc YACC` in place of both files. `--places` implies `--json`.
 ///
 /// Returns `Help` if a help text or the version is requested. Returns `Bad` if `clap` rejects the arguments for another
 /// reason, if `--format` is neither 1 nor 2, if `--expect` has no number, if `--lines` comes with `--places` or `--json`

@@ -1,8 +1,9 @@
 ghost use Rattle.std.specs.Prelude.{◌≡◌, IfOk, codes, false};
 ghost use Rattle.clap.specs.Words.{App, app_of, rule_of, with_subcommand};
 ghost use Rattle.ly_cli.specs.CommandLine.{IsApp, build_app, build_paths_app, check_app, expect_rule, explain_app};
-ghost use Rattle.ly_cli.specs.CommandLine.{explain_forms_app, explain_paths_app, files_app, flag_rule, format_rule, graph_rule};
-ghost use Rattle.ly_cli.specs.CommandLine.{line_app, other_rule, path_rule, report_rule, run_app, run_paths_app};
+ghost use Rattle.ly_cli.specs.CommandLine.{explain_forms_app, explain_paths_app, files_app, flag_rule, format_rule};
+ghost use Rattle.ly_cli.specs.CommandLine.{graph_rule, line_app, other_rule, path_rule, report_rule, run_app};
+ghost use Rattle.ly_cli.specs.CommandLine.{run_paths_app};
 ghost use Rattle.ly_cli.specs.CommandLine.{states_rule, text_rule, tokens_app, tokens_paths_app, top_app, try_app};
 
 use clap::{Arg, ArgAction, Command};

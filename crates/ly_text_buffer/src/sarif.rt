@@ -8,8 +8,8 @@ use crate::shown_text::next_unit;
 use ly_base::Location;
 
 impl TextBuffer {
-    /// Appends the start of a result, an object that isn't closed yet: the rule, the level, the message and the location.
-    /// A result without a location is put at the first line of its file, since code scanning asks for a line.
+    /// Appends the start of a result, an object that isn't closed yet: the rule, the level, the message and the
+    /// location. A result without a location is put at the first line of its file, since code scanning asks for a line.
     pub fn push_sarif_result(
         &mut self,
         level: &[u8],
