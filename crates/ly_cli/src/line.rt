@@ -149,9 +149,7 @@ fn check_line<'a>(alloc: Global) -> Result<Command<'a>, AllocError>
 fn explain_line<'a>(alloc: Global) -> Result<Command<'a>, AllocError>
     ensures { IfOk result (IsApp explain_app) }
 {
-    explain_forms(alloc)?
-        .arg(strict(alloc))?
-        .arg(expect(alloc))
+    explain_forms(alloc)?.arg(strict(alloc))?.arg(expect(alloc))
 }
 
 /// The subcommand `explain` with its paths and the flags for what is read and in which form the report is.

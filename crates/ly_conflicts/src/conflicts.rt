@@ -10,8 +10,8 @@ ghost use Rattle.ly_conflicts.specs.GroupReport.{IsOtherIn};
 
 use crate::ambiguity::{Finder, MOST};
 use crate::conflict_json::write_conflict;
+use crate::conflict_messages::{write_group, write_omitted};
 use crate::conflict_sarif::write_results;
-use crate::conflict_messages::{write_told, write_untold};
 use crate::group_report::{GroupReport, OtherSentence, Readings, Shown, Spot};
 use crate::groups::{BOUND, Group, TOLD, groups_of};
 use crate::meeting::is_met;
@@ -36,7 +36,7 @@ const OTHERS: usize = 60;
 
 /// The data for the report of conflicts.
 #[derive(Clone, Copy)]
-struct Teller<'a> {
+struct Reporter<'a> {
     /// The conflicts, and the search for their counterexamples.
     examples: &'a Examples<'a>,
     /// The items of the states.
@@ -65,29 +65,29 @@ pub fn write_conflicts(
         }
     }
     let yields = Yields::of(alloc, resolved.lr0().reduced())?;
-    let teller = Teller {
+    let reporter = Reporter {
         examples: &Examples::new(alloc, resolved)?,
         cores: &Cores::of(alloc, resolved.lr0())?,
         yields: &yields,
         spec: files.spec,
     };
     let mut budget = Budget::new(LOOKS);
-    let groups = groups_of(alloc, teller.examples, &mut budget)?;
-    let suggestion = teller.suggestion(alloc, places, &groups)?;
-    let told = teller.all_told(alloc, &groups, budget)?;
-    let untold = groups.len().saturating_sub(TOLD);
+    let groups = groups_of(alloc, reporter.examples, &mut budget)?;
+    let suggestion = reporter.suggestion(alloc, places, &groups)?;
+    let reports = reporter.reports(alloc, &groups, budget)?;
+    let omitted = groups.len().saturating_sub(TOLD);
     match options.form {
         Form::Json => {
-            write_json(alloc, buffer, files, places, &told)?;
-            write_rest(buffer, files.spec, suggestion, untold);
+            write_json(alloc, buffer, files, places, &reports)?;
+            write_rest(buffer, files.spec, suggestion, omitted);
         }
-        Form::Sarif => write_results(buffer, files, places, &told),
+        Form::Sarif => write_results(buffer, files, places, &reports),
         Form::Plain => {
             if let Some(suggestion) = suggestion {
                 suggestion.write(buffer, files.spec, groups.len());
             }
-            write_all(alloc, buffer, files, places, &told)?;
-            write_untold(buffer, untold);
+            write_all(alloc, buffer, files, places, &reports)?;
+            write_omitted(buffer, omitted);
         }
     }
     Ok(())
@@ -101,8 +101,8 @@ fn write_all(
     places: &Places,
     groups: &[GroupReport<'_>],
 ) -> Result<(), OutOfMemory> {
-    for told in groups {
-        write_told(alloc, buffer, files, places, told)?;
+    for report in groups {
+        write_group(alloc, buffer, files, places, report)?;
     }
     Ok(())
 }
@@ -117,9 +117,9 @@ fn write_json(
 ) -> Result<(), OutOfMemory> {
     buffer.push_json_key(b"conflicts");
     buffer.push(b"[");
-    for (place, told) in groups.iter().enumerate() {
+    for (place, report) in groups.iter().enumerate() {
         buffer.push(if place > 0 { b"," } else { b"" });
-        write_conflict(alloc, buffer, files, places, told)?;
+        write_conflict(alloc, buffer, files, places, report)?;
     }
     buffer.push(b"]");
     Ok(())
@@ -138,7 +138,12 @@ fn write_counts(buffer: &mut TextBuffer, counts: ConflictCounts) {
 }
 
 /// Prints as JSON the token whose precedence settles the most groups, and the number of groups that aren't printed.
-fn write_rest(buffer: &mut TextBuffer, spec: &Spec, suggestion: Option<Suggestion>, untold: usize) {
+fn write_rest(
+    buffer: &mut TextBuffer,
+    spec: &Spec,
+    suggestion: Option<Suggestion>,
+    omitted: usize,
+) {
     buffer.push_json_key(b"suggestion");
     match suggestion {
         Some(suggestion) => {
@@ -156,10 +161,10 @@ fn write_rest(buffer: &mut TextBuffer, spec: &Spec, suggestion: Option<Suggestio
         }
         None => buffer.push(b"null"),
     }
-    buffer.push_json_number(b"omitted", untold as u64);
+    buffer.push_json_number(b"omitted", omitted as u64);
 }
 
-impl Teller<'_> {
+impl Reporter<'_> {
     /// The precedence that resolves the most groups, if it resolves more than one.
     fn suggestion(
         &self,
@@ -178,25 +183,25 @@ impl Teller<'_> {
     }
 
     /// Collects the data of the groups of conflicts, up to a number of groups.
-    fn all_told<'g>(
+    fn reports<'g>(
         &self,
         alloc: Global,
         groups: &'g [Group],
         budget: Budget,
     ) -> Result<Vec<GroupReport<'g>>, OutOfMemory>
         requires { AreGroups self.now.examples.now groups.now }
-        ensures { IfOk result (λ told. AreGroupReports self.now.examples.now groups.now told.items) }
+        ensures { IfOk result (λ reports. AreGroupReports self.now.examples.now groups.now reports.items) }
     {
         let mut finder = Finder::new(self.examples, self.cores, self.yields, budget);
         let mut all = Vec::new(alloc);
         for group in first_of(groups, TOLD) {
-            all.push(self.told(alloc, group, &mut finder)?)?;
+            all.push(self.report(alloc, group, &mut finder)?)?;
         }
         Ok(all)
     }
 
     /// Collects the data of a group of conflicts.
-    fn told<'g>(
+    fn report<'g>(
         &self,
         alloc: Global,
         group: &'g Group,
@@ -204,7 +209,7 @@ impl Teller<'_> {
     ) -> Result<GroupReport<'g>, OutOfMemory>
         requires group { IsGroup self.now.examples.now group.now }
         requires same { finder.old.examples.now ≡ self.now.examples.now }
-        ensures told { IfOk result (IsGroupReport self.now.examples.now group.now.conflicts.items) }
+        ensures report { IfOk result (IsGroupReport self.now.examples.now group.now.conflicts.items) }
         ensures stays { finder.new.examples ≡ finder.old.examples }
     {
         let conflict = self.conflict(group.conflicts[0]);

@@ -38,11 +38,7 @@ fn in_sarif(alloc: Global, said: &[u8]) -> Result<Vec<u8>, OutOfMemory>
 }
 
 /// A report as JSON, given all of it after the numbers of conflicts.
-fn in_json(
-    alloc: Global,
-    findings: &Option<Findings>,
-    said: &[u8],
-) -> Result<Vec<u8>, OutOfMemory>
+fn in_json(alloc: Global, findings: &Option<Findings>, said: &[u8]) -> Result<Vec<u8>, OutOfMemory>
     ensures { IfOk result (λ text. IsInForm Form.Json findings.now text.items) }
 {
     let mut buffer = TextBuffer::new(alloc);

@@ -8,7 +8,8 @@ use ly_text_buffer::{Extent, FindingPlace, TextBuffer};
 use std::alloc::Global;
 
 /// The log after its version, up to the first result.
-pub(crate) const RESULTS_BEGIN: &[u8] = b",\"$schema\":\"https://json.schemastore.org/sarif-2.1.0.json\",\
+pub(crate) const RESULTS_BEGIN: &[u8] =
+    b",\"$schema\":\"https://json.schemastore.org/sarif-2.1.0.json\",\
     \"runs\":[{\"tool\":{\"driver\":{\"name\":\"lytab\",\"rules\":[]}},\"columnKind\":\"unicodeCodePoints\",\
     \"results\":[";
 

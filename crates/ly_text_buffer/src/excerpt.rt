@@ -60,7 +60,12 @@ fn shown_part(line: &[u8], start: usize) -> (&[u8], bool) {
     if behind.len() <= WIDEST {
         return (behind, false);
     }
-    (behind.get(..start_of_unit(behind, WIDEST)).unwrap_or(behind), true)
+    (
+        behind
+            .get(..start_of_unit(behind, WIDEST))
+            .unwrap_or(behind),
+        true,
+    )
 }
 
 /// Appends the blanks that are as wide as the characters among the first bytes of a line are when they are printed.
@@ -76,7 +81,11 @@ fn push_distance(buffer: &mut TextBuffer, line: &[u8], bytes: usize) {
             return;
         }
         for _ in 0..unit.width() {
-            buffer.push(if rest.first() == Some(&b'\t') { b"\t" } else { b" " });
+            buffer.push(if rest.first() == Some(&b'\t') {
+                b"\t"
+            } else {
+                b" "
+            });
         }
         rest = behind;
     }

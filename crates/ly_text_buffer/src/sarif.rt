@@ -87,7 +87,11 @@ fn push_physical(buffer: &mut TextBuffer, place: FindingPlace<'_>) {
 fn push_artifact(buffer: &mut TextBuffer, place: FindingPlace<'_>) {
     let path = place.file.name.as_bytes();
     buffer.push(b"\"artifactLocation\":{\"uri\":\"");
-    buffer.push(if path.starts_with(b"/") { b"file://" } else { b"" });
+    buffer.push(if path.starts_with(b"/") {
+        b"file://"
+    } else {
+        b""
+    });
     for byte in path {
         push_uri_byte(buffer, *byte);
     }
@@ -106,7 +110,10 @@ fn push_uri_byte(buffer: &mut TextBuffer, byte: u8) {
 
 /// The hexadecimal digit with a value.
 fn digit(value: u8) -> u8 {
-    b"0123456789ABCDEF".get(value as usize).copied().unwrap_or(b'?')
+    b"0123456789ABCDEF"
+        .get(value as usize)
+        .copied()
+        .unwrap_or(b'?')
 }
 
 /// Appends the region of a place: its line and its columns, from the first character to the one after the last.

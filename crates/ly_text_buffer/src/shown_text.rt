@@ -67,7 +67,10 @@ fn push_escapes(buffer: &mut TextBuffer, bytes: &[u8]) {
 
 /// The hexadecimal digit with a value.
 fn digit(value: u8) -> u8 {
-    b"0123456789abcdef".get(value as usize).copied().unwrap_or(b'?')
+    b"0123456789abcdef"
+        .get(value as usize)
+        .copied()
+        .unwrap_or(b'?')
 }
 
 /// The first unit of bytes, and the rest. `None` if there are no bytes.
@@ -86,7 +89,14 @@ pub(crate) fn next_unit(bytes: &[u8]) -> Option<(Unit<'_>, &[u8])> {
         None => (1, false),
     };
     let (unit, behind) = bytes.split_at(length.min(bytes.len()));
-    Some((if is_plain { Unit::Plain(unit) } else { Unit::Escaped(unit) }, behind))
+    Some((
+        if is_plain {
+            Unit::Plain(unit)
+        } else {
+            Unit::Escaped(unit)
+        },
+        behind,
+    ))
 }
 
 /// The character of several bytes at the start, if the bytes there are UTF-8.

@@ -2,7 +2,7 @@ use Rattle.std.proofs.Common.{subst}
 use Rattle.std.specs.Prelude.{IfOk}
 use Rattle.ly_resolve.specs.Values.{conflict_from}
 use Rattle.ly_conflicts.specs.GroupReport.{IsShown}
-use Rattle.ly_conflicts.proofs.conflicts.Teller.shown.Goals as goal
+use Rattle.ly_conflicts.proofs.conflicts.Reporter.shown.Goals as goal
 
 pub returns-in-Some-Merged-clause-shown : goal.returns-in-Some-Merged-clause-shown
 returns-in-Some-Merged-clause-shown c =

@@ -4,7 +4,7 @@ use Rattle.std.proofs.lemmas.List.{length-map}
 use Rattle.ly_base.proofs.ListLemmas.{some_at}
 use Rattle.ly_resolve.specs.Values.{conflict_from}
 use Rattle.ly_conflicts.proofs.GroupsLemmas.{at_index}
-use Rattle.ly_conflicts.proofs.conflicts.Teller.conflict.Goals as goal
+use Rattle.ly_conflicts.proofs.conflicts.Reporter.conflict.Goals as goal
 
 pub unwrap-requires : goal.unwrap-requires
 unwrap-requires c =

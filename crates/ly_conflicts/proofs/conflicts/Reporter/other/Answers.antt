@@ -2,7 +2,7 @@ use Rattle.std.proofs.Common.{subst}
 use Rattle.std.specs.Prelude.{Contains, IfOk}
 use Rattle.std.proofs.lemmas.Option.{slice_get_within}
 use Rattle.ly_conflicts.specs.GroupReport.{IsOtherIn}
-use Rattle.ly_conflicts.proofs.conflicts.Teller.other.Goals as goal
+use Rattle.ly_conflicts.proofs.conflicts.Reporter.other.Goals as goal
 
 pub other_sentence-requires-clause-indices : goal.other_sentence-requires-clause-indices
 other_sentence-requires-clause-indices c = λ i has.

@@ -2,7 +2,7 @@ use Rattle.std.proofs.Common.{◌≤◌, arith, length, refl, slice_index_or}
 use Rattle.std.proofs.lemmas.List.Elements.{Contains-get_or}
 use Rattle.std.proofs.lemmas.Option.{slice_get-get_or, slice_get_within}
 use Rattle.ly_conflicts.proofs.ToldLemmas.{terminal_more}
-use Rattle.ly_conflicts.proofs.conflicts.Teller.terminals.Goals as goal
+use Rattle.ly_conflicts.proofs.conflicts.Reporter.terminals.Goals as goal
 
 pub conflict-requires : goal.conflict-requires
 conflict-requires c =

@@ -1,7 +1,7 @@
 use Rattle.std.proofs.Common.{◌≡◌, ◌<◌, ℕ, Some, length, option_map, slice_get}
 use Rattle.ly_resolve.specs.Conflicts.{Conflict}
 use Rattle.ly_conflicts.specs.Groups.{IsConflictAt}
-use Rattle.ly_conflicts.proofs.conflicts.Teller.terminals.Given as goal
+use Rattle.ly_conflicts.proofs.conflicts.Reporter.terminals.Given as goal
 
 -- the terminals so far
 abbrev pub invariant-loop-index : goal.invariant-loop-index

@@ -1,5 +1,5 @@
 use Rattle.std.proofs.lemmas.List.Elements.{Contains-get_or}
-use Rattle.ly_conflicts.proofs.conflicts.Teller.other_sentence.Goals as goal
+use Rattle.ly_conflicts.proofs.conflicts.Reporter.other_sentence.Goals as goal
 
 pub conflict-conflict-requires : goal.conflict-conflict-requires
 conflict-conflict-requires c = c.requires.indices _

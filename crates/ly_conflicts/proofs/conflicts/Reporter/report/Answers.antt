@@ -6,7 +6,7 @@ use Rattle.ly_counterexamples.specs.Examples.{IsSearchResult}
 use Rattle.ly_conflicts.specs.Groups.{most_demands}
 use Rattle.ly_conflicts.specs.GroupReport.{AreTerminalsOf}
 use Rattle.ly_conflicts.proofs.ToldLemmas.{first_at, first_index}
-use Rattle.ly_conflicts.proofs.conflicts.Teller.told.Goals as goal
+use Rattle.ly_conflicts.proofs.conflicts.Reporter.report.Goals as goal
 
 pub terminals-requires : goal.terminals-requires
 terminals-requires c = λ i has.
@@ -25,8 +25,8 @@ shown-requires-clause-example c =
     (first_at r c.args.group.now c.requires.group c.index.result.now c.conflict-conflict.result first.0
     c.conflict-conflict.ensures) c.requires.group.example
 
-pub returns-clause-told : goal.returns-clause-told
-returns-clause-told c =
+pub returns-clause-report : goal.returns-clause-report
+returns-clause-report c =
     let r = c.args.self.now.examples.now in
     let group = c.requires.group in
     let first = first_index r c.args.group.now group c.index.result.now c.index.ensures in

@@ -1,10 +1,10 @@
 use Rattle.std.proofs.Common.{◌∙◌, ap, arith, sym, Some}
 use Rattle.std.proofs.lemmas.Option.{slice_get-get_or}
 use Rattle.ly_conflicts.proofs.ToldLemmas.{told_all, told_group, told_more}
-use Rattle.ly_conflicts.proofs.conflicts.Teller.all_told.Goals as goal
+use Rattle.ly_conflicts.proofs.conflicts.Reporter.reports.Goals as goal
 
-pub told-requires-clause-group : goal.told-requires-clause-group
-told-requires-clause-group c =
+pub report-requires-clause-group : goal.report-requires-clause-group
+report-requires-clause-group c =
     let items = c.first_of-group-items.result.now in
     let n = c.loop-group.group-index in
     told_group c.args.self.now.examples.now c.args.groups.now items c.first_of-group-items.ensures c.requires n
@@ -16,11 +16,11 @@ loop-group-preserved c =
     let items = c.first_of-group-items.result.now in
     let n = c.loop-group.group-index in
     let more = told_more c.args.self.now.examples.now c.args.groups.now items c.first_of-group-items.ensures n
-    c.loop-group.all.items c.push.new.self.items c.group-item.result c.in_ok-told.field-0
+    c.loop-group.all.items c.push.new.self.items c.group-item.result c.in_ok-report.field-0
     (slice_get-get_or items n c.group-item.result c.loop-group-test.true ∙ ap Some (sym c.group-item.is))
-    c.in_ok-told.ensures.told c.in_ok-push.ensures.items c.loop-group.invariant.count c.loop-group.invariant.each in
+    c.in_ok-report.ensures.report c.in_ok-push.ensures.items c.loop-group.invariant.count c.loop-group.invariant.each in
     record {
-      same = ap (λ g. g.now) c.in_ok-told.ensures.stays ∙ c.loop-group.invariant.same;
+      same = ap (λ g. g.now) c.in_ok-report.ensures.stays ∙ c.loop-group.invariant.same;
       count = more.0;
       each = more.1;
     }

@@ -2,9 +2,9 @@ use Rattle.std.proofs.Common.{◌≡◌, ℕ, Some, length, slice_get}
 use Rattle.ly_conflicts.specs.declared.groups.Group.{Group}
 use Rattle.ly_conflicts.specs.declared.group_report.GroupReport.{GroupReport}
 use Rattle.ly_conflicts.specs.GroupReport.{IsGroupReport}
-use Rattle.ly_conflicts.proofs.conflicts.Teller.all_told.Given as goal
+use Rattle.ly_conflicts.proofs.conflicts.Reporter.reports.Given as goal
 
--- the groups so far are told
+-- the groups so far are reported
 abbrev pub invariant-loop-group : goal.invariant-loop-group
 invariant-loop-group l = record {
   same : l.finder.examples.now ≡ l.self.examples.now;
