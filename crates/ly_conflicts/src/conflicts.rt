@@ -1,6 +1,7 @@
 //! The report of the conflicts: the resolution, why precedence doesn't settle it, and a counterexample where both
 //! actions are possible.
-ghost use Rattle.std.specs.Prelude.{◌≡◌, ◌<◌, ℕ, Contains, IfOk, length};
+ghost use Rattle.std.specs.Prelude.{◌≡◌, ◌<◌, ℕ, Contains, IfOk, length, OnErr, OnOk};
+ghost use Rattle.ly_text_buffer.specs.TextBuffer.{SaysMore};
 ghost use Rattle.ly_resolve.specs.Conflicts as spec;
 ghost use Rattle.ly_resolve.specs.Values.{conflict_from, IsInside};
 ghost use Rattle.ly_conflicts.specs.Groups.{AreGroups, IsGroup};
@@ -50,7 +51,26 @@ struct Reporter<'a> {
 /// Prints the number of conflicts, and each conflict with a counterexample; or, for JSON, prints these as members of an
 /// object, and for SARIF the conflicts as results with commas between them. Conflicts of one state that differ only in
 /// the terminal, and whose searches had the same result, form a group that is printed as one.
+///
+/// Returns `OutOfMemory` if an allocation outside the page fails. Then the page is unchanged.
 pub fn write_conflicts(
+    alloc: Global,
+    buffer: &mut TextBuffer,
+    files: &Analysis<'_>,
+    places: &Places,
+    options: Options,
+) -> Result<(), OutOfMemory>
+    ensures ok { OnOk result (SaysMore buffer.old buffer.new) }
+    ensures refused { OnErr result (buffer.new ≡ buffer.old) }
+{
+    let mut page = buffer.beside();
+    write_page(alloc, &mut page, files, places, options)?;
+    buffer.push_buffer(page);
+    Ok(())
+}
+
+/// Prints the conflicts on a page of their own.
+fn write_page(
     alloc: Global,
     buffer: &mut TextBuffer,
     files: &Analysis<'_>,

@@ -23,8 +23,16 @@ abbrev pub json_front : Option Findings → List ℕ
 json_front None = codes "{\"accepted\":false,\"counts\":null"
 json_front (Some found) = codes "{\"accepted\":true,\"counts\":" ++ json_counts found.conflicts
 
--- JSON begins with these findings, and SARIF with the version of the format
+-- a text as JSON begins with these findings
+abbrev pub IsJson : Option Findings → List ℕ → Type 0
+IsJson findings text = (rest : List ℕ) × (text ≡ json_front findings ++ rest)
+
+-- a text as SARIF begins with the version of the format
+abbrev pub IsSarif : List ℕ → Type 0
+IsSarif text = (rest : List ℕ) × (text ≡ codes "{\"version\":\"2.1.0\"" ++ rest)
+
+-- the text is in the form, with these findings
 abbrev pub IsInForm : Form → Option Findings → List ℕ → Type 0
-IsInForm Json findings text = (rest : List ℕ) × (text ≡ json_front findings ++ rest)
-IsInForm Sarif findings text = (rest : List ℕ) × (text ≡ codes "{\"version\":\"2.1.0\"" ++ rest)
+IsInForm Json findings text = IsJson findings text
+IsInForm Sarif findings text = IsSarif text
 IsInForm Plain findings text = Unit {0}

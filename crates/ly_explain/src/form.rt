@@ -1,6 +1,5 @@
-ghost use Rattle.std.specs.Prelude.{IfOk, Option};
-ghost use Rattle.ly_explain.specs.Findings.{IsInForm};
-ghost use Rattle.ly_explain.specs.declared.surveying.Findings.{Findings as Found};
+ghost use Rattle.std.specs.Prelude.{IfOk};
+ghost use Rattle.ly_explain.specs.Findings.{IsInForm, IsJson, IsSarif};
 
 use crate::surveying::Findings;
 use ly_analysis::{Analysis, Form, Options, Places};
@@ -29,7 +28,7 @@ pub(crate) fn text_in_form(
 
 /// A report as SARIF, given all of it after the version of the format.
 fn in_sarif(alloc: Global, said: &[u8]) -> Result<Vec<u8>, OutOfMemory>
-    ensures { (findings : Option Found) → IfOk result (λ text. IsInForm Form.Sarif findings text.items) }
+    ensures { IfOk result (λ text. IsSarif text.items) }
 {
     let mut buffer = TextBuffer::new(alloc);
     buffer.push(b"{\"version\":\"2.1.0\"");
@@ -39,7 +38,7 @@ fn in_sarif(alloc: Global, said: &[u8]) -> Result<Vec<u8>, OutOfMemory>
 
 /// A report as JSON, given all of it after the numbers of conflicts.
 fn in_json(alloc: Global, findings: &Option<Findings>, said: &[u8]) -> Result<Vec<u8>, OutOfMemory>
-    ensures { IfOk result (λ text. IsInForm Form.Json findings.now text.items) }
+    ensures { IfOk result (λ text. IsJson findings.now text.items) }
 {
     let mut buffer = TextBuffer::new(alloc);
     match findings {

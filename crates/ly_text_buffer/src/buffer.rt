@@ -1,5 +1,5 @@
 ghost use Rattle.std.specs.Prelude.{◌≡◌, ℕ, List, [], ◌++◌, length, map};
-ghost use Rattle.std.specs.Prelude.{IfOk, OnOk, OnErr, IfSome};
+ghost use Rattle.std.specs.Prelude.{IfOk, OnOk, OnErr, true};
 ghost use Rattle.std.specs.Fmt.{decimal};
 ghost use Rattle.ly_print.specs.Text.{literal, name_of};
 ghost use Rattle.ly_join.specs.Grammar.{symbol_of, terminal as symbol_at};

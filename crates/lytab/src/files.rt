@@ -88,7 +88,13 @@ pub fn write_file<'a, F: Files>(
 {
     match Replacement::begin(files, alloc, path)? {
         Some(replacement) => replacement.complete(files, path, bytes, notes),
-        None => write_in_place(files, path, bytes, notes),
+        None => {
+            let written = write_in_place(files, path, bytes, notes);
+            if written.is_err() {
+                notes.look_at_place(files, path);
+            }
+            written
+        }
     }
 }
 
@@ -105,11 +111,8 @@ fn write_in_place<'a, F: Files>(
     match fs::create(files, path) {
         Ok(file) => {
             let mut device = Counted::new(file);
-            let written = write_to(&mut device, path, bytes);
-            if written.is_err() {
-                notes.look_at_device(path, &mut device.into_inner());
-            }
-            written
+            write_to(&mut device, path, bytes)?;
+            Ok(())
         }
         Err(reason) => {
             notes.write_reason(path, &reason);

@@ -12,7 +12,7 @@ use ly_engine::{GenFault, Outcome, TextFault, TokenEnd};
 use ly_text_buffer::{NamedFile, TextBuffer};
 use std::alloc::Global;
 use std::fmt::Display;
-use std::fs;
+use std::fs::{self, File};
 use std::io::{self, Read, Write};
 use std::rt::Files;
 
@@ -257,6 +257,15 @@ impl Notes {
             self.buffer.push(b"error: ");
             self.buffer.push_words(reason);
             self.buffer.push(b"\n");
+        }
+    }
+
+    /// Why a file couldn't be written in place, if one more byte at its end fails for a reason.
+    pub fn look_at_place<F: Files>(&mut self, files: &F, path: &str) {
+        if self.are_wanted
+            && let Ok(mut file) = File::options().append(true).open(files, path)
+        {
+            self.look_at_device(path, &mut file);
         }
     }
 

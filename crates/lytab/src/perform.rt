@@ -59,7 +59,8 @@ pub fn perform<F: Files, R: Source + Recall, W: Sink, E: Write>(
         Ok(command) => {
             let mut notes = Notes::new(alloc, &command);
             let ended = carry_out(files, alloc, command, input, output, &mut notes);
-            concluded(alloc, ended, notes.finish(), faults)
+            let status = concluded(alloc, ended, notes.finish(), faults);
+            status
         }
         Err(CommandFault::Help(text)) => {
             let said = Completion::Done.said(output, text.as_bytes());
@@ -70,8 +71,12 @@ pub fn perform<F: Files, R: Source + Recall, W: Sink, E: Write>(
             BAD_WORDS
         }
         Err(CommandFault::OutOfMemory) => {
-            let notes = Ok(Vec::new(alloc));
-            concluded(alloc, Err(Failure::OutOfMemory), notes, faults)
+            concluded(
+                alloc,
+                Err(Failure::OutOfMemory),
+                Ok(Vec::new(alloc)),
+                faults,
+            )
         }
     }
 }
