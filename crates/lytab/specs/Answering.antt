@@ -5,6 +5,7 @@ use Rattle.ly_base.specs.Limits.{version_2}
 use Rattle.ly_base.specs.declared.lexeme.End.{End}
 use Rattle.ly_base.specs.declared.version.Version.TheVariants.{V2}
 use Rattle.ly_drive.specs.Answering.{IsAnsweredBy, IsBegunBy, IsDriven}
+use Rattle.ly_files.specs.Folder.{Files, named}
 use Rattle.ly_feed.specs.declared.outcome.Outcome.{Outcome}
 use Rattle.ly_generate.specs.Generated.{IsGenerated}
 use Rattle.ly_print.specs.declared.answer_form.AnswerForm.{AnswerForm}
@@ -20,10 +21,10 @@ use Rattle.lytab.specs.declared.answering.Rules.{Rules}
 use Rattle.lytab.specs.declared.answering.Rules.TheVariants as rules
 use Rattle.lytab.specs.declared.completion.Completion.{Completion}
 
--- the text that is parsed, if it is known: without a path it is what standard input had; that of a file isn't known
-abbrev pub text_from : {A : Type 0} → Option A → Option (List ℕ) → Option (List ℕ)
-text_from None given = given
-text_from (Some path) given = None
+-- the text that is parsed, if it is known: without a path it is what standard input had, and else that of a file
+abbrev pub text_from : Option (List ℕ) → Option Files → Option (List ℕ) → Option (List ℕ)
+text_from None files given = given
+text_from (Some path) files given = named files path
 
 -- The tokens that a lex file defines for the text of a reader were written in a form.
 abbrev pub AreTokensPrinted :

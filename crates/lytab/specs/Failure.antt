@@ -11,13 +11,13 @@ use Rattle.ly_tables.specs.declared.fault.TableFault.TheVariants as file
 use Rattle.lytab.specs.declared.failure.Failure.{Failure}
 use Rattle.lytab.specs.declared.failure.Failure.TheVariants.{CannotRead, CannotWrite, FaultyTables, OutOfMemory}
 use Rattle.lytab.specs.declared.failure.Failure.TheVariants.{Refused, Tables, TooLong, Unexpected, Unreadable}
-use Rattle.lytab.specs.declared.files.FileFault.{FileFault}
-use Rattle.lytab.specs.declared.files.FileFault.TheVariants as of_file
+use Rattle.ly_files.specs.declared.file_fault.FileFault.{FileFault}
+use Rattle.ly_files.specs.declared.file_fault.FileFault.TheVariants as of_file
 
 -- the failure for a file that isn't read or written
 abbrev pub failure_of_file : FileFault → Failure
-failure_of_file (of_file.CannotRead path) = CannotRead path
-failure_of_file (of_file.CannotWrite path) = CannotWrite path
+failure_of_file (of_file.CannotRead path reason) = CannotRead path
+failure_of_file (of_file.CannotWrite path reason) = CannotWrite path
 failure_of_file of_file.OutOfMemory = OutOfMemory
 
 -- a file, or standard input, can't be read

@@ -3,6 +3,7 @@ use Rattle.std.specs.Prelude.{◌≡◌, ◌≢◌, ℕ, List, [], Option, Some,
 use Rattle.ly_base.specs.Limits.{Sizes, least_of, sizes_in, version_2}
 use Rattle.ly_base.specs.declared.version.Version.{Version}
 use Rattle.ly_drive.specs.Answering.{IsDriven, IsFaultyOn, IsTooLong}
+use Rattle.ly_files.specs.Folder.{Files, IsFile}
 use Rattle.ly_generate.specs.Accepted.{IsRefusedFor}
 use Rattle.ly_generate.specs.GenFault.{gen_line}
 use Rattle.ly_generate.specs.Generated.{IsGenerated}
@@ -78,17 +79,20 @@ pub record HasOtherCounts (limits : Sizes) (version : Version) (expected : Optio
   pub is_expected : expected ≡ Some wanted
   pub others : (counts.shift_reduce ≡ wanted) × (counts.reduce_reduce ≡ 0) → ⊥
 
--- if a table file of a version is built from some lex file and some yacc file, with this expected count
-abbrev pub IsRefusalOfBuild : Version → Option ℕ → Failure → Type 0
-IsRefusalOfBuild version expected (Refused fault line) = (lex yacc : List ℕ)
+-- if a table file of a version is built from the lex file and the yacc file with these paths, with this expected count
+abbrev pub IsRefusalOfBuild : Version → Option ℕ → Option Files → List ℕ → List ℕ → Failure → Type 0
+IsRefusalOfBuild version expected files lex_path yacc_path (Refused fault line) = (lex yacc : List ℕ)
+    × IsFile files lex_path lex × IsFile files yacc_path yacc
     × IsRefusedFor (least_of version_2 (sizes_in version)) lex yacc fault × (line ≡ gen_line fault lex yacc)
-IsRefusalOfBuild version expected (Unexpected counts wanted) = HasOtherCounts version_2 version expected counts wanted
-IsRefusalOfBuild version expected f = IsOfDevice f
+IsRefusalOfBuild version expected files lex_path yacc_path (Unexpected counts wanted) =
+    (o : HasOtherCounts version_2 version expected counts wanted) × IsFile files lex_path o.lex
+    × IsFile files yacc_path o.yacc
+IsRefusalOfBuild version expected files lex_path yacc_path f = IsOfDevice f
 
--- if some table file is checked
-abbrev pub IsRefusalOfCheck : Failure → Type 0
-IsRefusalOfCheck (Tables fault) = (tables : List ℕ) × IsRefusedAs tables fault
-IsRefusalOfCheck f = IsOfDevice f
+-- if the table file with this path is checked
+abbrev pub IsRefusalOfCheck : Option Files → List ℕ → Failure → Type 0
+IsRefusalOfCheck files path (Tables fault) = (tables : List ℕ) × IsFile files path tables × IsRefusedAs tables fault
+IsRefusalOfCheck files path f = IsOfDevice f
 
 -- What a failure implies for these rules and for what a reader returned. A read or write error and out of memory imply
 -- nothing. For `--lines` the definitions are in `Lines`.

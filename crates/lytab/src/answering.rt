@@ -1,5 +1,5 @@
 //! The commands that parse a text.
-ghost use Rattle.std.specs.Prelude.{◌≡◌, IfErr, IfOk, IsSome, None, Ok, OnOk};
+ghost use Rattle.std.specs.Prelude.{◌≡◌, IfErr, IfOk, IsSome, None, Ok, OnOk, option_map};
 ghost use Rattle.std.specs.Io.KnownBytes.{IsAtEnd};
 ghost use Rattle.lytab.specs.Answering.{AreTokensBegun, AreTokensPrinted, IsAnswerBegun, IsParsedBy};
 ghost use Rattle.lytab.specs.Answering.{IsAnsweredByFiles, IsAnsweredByTables, IsBegunByFiles, IsBegunByTables};
@@ -22,9 +22,9 @@ use crate::notes::Notes;
 use crate::remembering::{Recall, Remembering};
 use ly_drive::{DriveFault, TextFault, drive, drive_lines, drive_tokens};
 use ly_engine::{AnswerFault, GenFault, TokensFault, answer, answer_placed, drive_placed, tokens};
-use ly_print::{AnswerForm, Counted, Sink, Source};
+use ly_files::Folder;
+use ly_print::{AnswerForm, Sink, Source};
 use std::alloc::Global;
-use std::rt::Files;
 
 /// What a text is parsed with, as the bytes of the files, and the form of the output.
 #[derive(Clone, Copy)]
@@ -78,8 +78,8 @@ pub enum Rules<'a> {
 }
 
 /// Parses a text, or standard input without a path. A file is opened before anything is judged.
-pub fn answer_text<'a, F: Files, R: Source + Recall, W: Sink>(
-    files: &F,
+pub fn answer_text<'a, D: Folder, R: Source + Recall, W: Sink>(
+    folder: &D,
     alloc: Global,
     rules: Rules<'_>,
     text: Option<&'a str>,
@@ -87,16 +87,16 @@ pub fn answer_text<'a, F: Files, R: Source + Recall, W: Sink>(
     output: &mut W,
     notes: &mut Notes,
 ) -> Result<Completion, Failure<'a>>
-    ensures answered { IfOk result (IsParsedBy rules.entry (text_from text.entry (R.remaining input.old))
+    ensures answered { IfOk result (IsParsedBy rules.entry (text_from (option_map (λ p. p.now) text.entry) (D.holds folder.now) (R.remaining input.old))
         (W.contents output.old) (W.contents output.new)) }
-    ensures refused { IfErr result (IsRefusalOf rules.entry (text_from text.entry (R.remaining input.old))) }
+    ensures refused { IfErr result (IsRefusalOf rules.entry (text_from (option_map (λ p. p.now) text.entry) (D.holds folder.now) (R.remaining input.old))) }
     ensures told { text.entry ≡ None → DeviceFailuresReported result (R.failures input.old) (R.failures input.new)
         (W.failures output.old) (W.failures output.new) }
     ensures unread { IsSome text.entry → input.new ≡ input.old }
     ensures written { WriteFailuresReported result (W.failures output.old) (W.failures output.new) }
     ensures beginning { IfErr result (λ f. IsOfWriter f → IsAnswerBegun rules.entry
-        (text_from text.entry (R.remaining input.old)) (W.contents output.old) (W.contents output.new)) }
-    ensures stopped { IfErr result (AreLinesStoppedBy rules.entry (text_from text.entry (R.remaining input.old))
+        (text_from (option_map (λ p. p.now) text.entry) (D.holds folder.now) (R.remaining input.old)) (W.contents output.old) (W.contents output.new)) }
+    ensures stopped { IfErr result (AreLinesStoppedBy rules.entry (text_from (option_map (λ p. p.now) text.entry) (D.holds folder.now) (R.remaining input.old))
         (W.contents output.old) (W.contents output.new)) }
     ensures kept { IfErr result (λ f. (IsOfWriter f → ⊥) → W.failures output.new ≡ W.failures output.old) }
     ensures untouched { IsOneText rules.entry → IfErr result (λ f. (IsOfWriter f → ⊥) → output.new ≡ output.old) }
@@ -108,10 +108,10 @@ pub fn answer_text<'a, F: Files, R: Source + Recall, W: Sink>(
 {
     match text {
         Some(path) => {
-            let file = Counted::new(open(files, path, notes)?);
+            let file = open(folder, alloc, path, notes)?;
             let mut file = Remembering::new(alloc, file, notes.are_wanted());
             let ended = answer_by(alloc, rules, path, &mut file, output, notes);
-            notes.look_at_text(files, path, &ended);
+            notes.look_at_text(folder, path, &ended);
             ended
         }
         None => answer_by(alloc, rules, STANDARD, input, output, notes),

@@ -12,15 +12,15 @@ use crate::failure::Failure;
 use crate::files::read_file;
 use crate::notes::Notes;
 use ly_base::Version;
+use ly_files::Folder;
 use ly_print::{AnswerForm, Sink};
 use ly_tables::{SetCounts, TableFault, counts, read_tables};
 use std::alloc::{AllocError, Global};
 use std::fmt::Write;
-use std::rt::Files;
 
 /// Reads a table file, and writes its sizes to standard output; as JSON its version too.
-pub fn check_tables<'a, F: Files, W: Sink>(
-    files: &F,
+pub fn check_tables<'a, D: Folder, W: Sink>(
+    folder: &D,
     alloc: Global,
     path: &'a str,
     form: AnswerForm,
@@ -28,12 +28,12 @@ pub fn check_tables<'a, F: Files, W: Sink>(
     notes: &mut Notes,
 ) -> Result<Completion, Failure<'a>>
     ensures checked { DoneOrUnchanged result (W.contents output.old) (W.contents output.new)
-        (HasChecked form (W.contents output.old) (W.contents output.new) result) }
-    ensures refused { IfErr result IsRefusalOfCheck }
+        (HasChecked form path.now (D.holds folder.now) (W.contents output.old) (W.contents output.new) result) }
+    ensures refused { IfErr result (IsRefusalOfCheck (D.holds folder.now) path.now) }
     ensures devices { OutputFailuresReported result output.old output.new (W.failures output.old)
         (W.failures output.new) }
 {
-    let bytes = read_file(files, alloc, path, notes)?;
+    let bytes = read_file(folder, alloc, path, notes)?;
     let (counts, version) = counts_of(alloc, &bytes)?;
     let line = line_in(alloc, form, &counts, version)?;
     Completion::Done.said(output, line.as_bytes())

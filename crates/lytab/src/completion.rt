@@ -78,7 +78,7 @@ impl Completion {
     {
         match write_to(output, STANDARD, text) {
             Ok(()) => Ok(self),
-            Err(fault) => Err(Failure::from(fault)),
+            Err(failure) => Err(failure),
         }
     }
 

@@ -4,11 +4,12 @@ ghost use Rattle.ly_generate.specs.GenFault.{gen_line};
 ghost use Rattle.lytab.specs.Failure.{failure_of_file, failure_status, IsOfAnswering, IsOfDriving};
 ghost use Rattle.lytab.specs.declared.failure.Failure.TheVariants as failure;
 
-use crate::files::{FileFault, STANDARD};
+use crate::files::STANDARD;
 use crate::shown_path::ShownPath;
 use ly_base::OutOfMemory;
 use ly_drive::{DriveFault, TextFault};
 use ly_engine::{ConflictCounts, GenFault};
+use ly_files::FileFault;
 use ly_join::JoinFault;
 use ly_report::push_terminal;
 use ly_tables::TableFault;
@@ -55,8 +56,8 @@ impl<'a> From<FileFault<'a>> for Failure<'a> {
 
     fn from(fault: FileFault<'a>) -> Self {
         match fault {
-            FileFault::CannotRead(path) => Failure::CannotRead(path),
-            FileFault::CannotWrite(path) => Failure::CannotWrite(path),
+            FileFault::CannotRead(path, _) => Failure::CannotRead(path),
+            FileFault::CannotWrite(path, _) => Failure::CannotWrite(path),
             FileFault::OutOfMemory => Failure::OutOfMemory,
         }
     }

@@ -1,139 +1,90 @@
-//! Files that are read and written whole.
-ghost use Rattle.std.specs.Prelude.{◌≡◌, ◌⊎◌, ◌<◌, ℕ, IfErr, length, OnErr, OnOk, take};
+//! Files that are read and written whole, with notes of why that fails.
+ghost use Rattle.std.specs.Prelude.{◌≡◌, ◌<◌, ℕ, IfErr, IfOk, OnErr, OnOk, length, option_map, take};
 ghost use Rattle.std.specs.Io.KnownBytes.{Appends};
+ghost use Rattle.ly_files.specs.Fault.{IsReadFault};
+ghost use Rattle.ly_files.specs.Folder.{IsFile, IsOpened};
+ghost use Rattle.ly_files.specs.Folders.{HasWritten};
 ghost use Rattle.ly_print.specs.Device.{next_count};
-ghost use Rattle.lytab.specs.Files.{HasTaken, IsWrittenIf};
-ghost use Rattle.lytab.specs.declared.files.FileFault.TheVariants as file_fault;
+ghost use Rattle.lytab.specs.Files.{AreWritten, IsLeftIf, set_if};
 
+use crate::failure::Failure;
 use crate::notes::Notes;
-use crate::replacement::Replacement;
-use ly_print::{Counted, ReadFault, Sink, read_whole, write_whole};
-use std::alloc::{AllocError, Global};
-use std::fs;
-use std::rt::Files;
+use ly_files::{FileFault, Folder};
+use ly_print::{Sink, write_whole};
+use std::alloc::Global;
 
 /// The name of standard input and output.
 pub const STANDARD: &str = "-";
 
-/// Why a file, or standard input or output, wasn't read or written.
-#[derive(Clone, Copy)]
-pub enum FileFault<'a> {
-    /// The file with this path can't be read.
-    CannotRead(&'a str),
-    /// The file with this path can't be written.
-    CannotWrite(&'a str),
-    /// Out of memory.
-    OutOfMemory,
-}
-
-impl From<AllocError> for FileFault<'_> {
-    ghost from_gives = { λ _ f. f ≡ file_fault.OutOfMemory };
-
-    fn from(_error: AllocError) -> Self {
-        FileFault::OutOfMemory
-    }
-}
-
-/// Opens a file for reading.
-pub fn open<'a, F: Files>(
-    files: &F,
+/// Opens a file for reading. If that fails, the reason is noted.
+pub fn open<'a, D: Folder>(
+    folder: &D,
+    alloc: Global,
     path: &'a str,
     notes: &mut Notes,
-) -> Result<F::File, FileFault<'a>>
-    ensures { IfErr result (λ fault. fault ≡ FileFault.CannotRead path.entry) }
+) -> Result<D::File, FileFault<'a>>
+    ensures opened { IfOk result (λ file. IsOpened (D.holds folder.now) path.now (D.File.remaining file)) }
+    ensures failed { IfErr result (IsReadFault path.now) }
 {
-    match fs::open(files, path) {
+    match folder.open(alloc, path) {
         Ok(file) => Ok(file),
         Err(reason) => {
             notes.write_reason(path, &reason);
-            Err(FileFault::CannotRead(path))
+            Err(FileFault::CannotRead(path, Some(reason)))
         }
     }
 }
 
-/// Reads a file whole.
-pub fn read_file<'a, F: Files>(
-    files: &F,
+/// Reads a file whole. If that fails, the reason is noted.
+pub fn read_file<'a, D: Folder>(
+    folder: &D,
     alloc: Global,
     path: &'a str,
     notes: &mut Notes,
 ) -> Result<Vec<u8>, FileFault<'a>>
-    ensures { IfErr result (λ fault. (fault ≡ FileFault.CannotRead path.entry) ⊎ (fault ≡ FileFault.OutOfMemory)) }
+    ensures read { IfOk result (λ bytes. IsFile (D.holds folder.now) path.now bytes.items) }
+    ensures failed { IfErr result (IsReadFault path.now) }
 {
-    let mut file = Counted::new(open(files, path, notes)?);
-    match read_whole(alloc, &mut file) {
-        Ok(bytes) => Ok(bytes),
-        Err(ReadFault::Read) => {
-            notes.look_again(files, path);
-            Err(FileFault::CannotRead(path))
-        }
-        Err(ReadFault::OutOfMemory) => Err(FileFault::OutOfMemory),
+    let read = ly_files::read_file(folder, alloc, path);
+    if let Err(fault) = &read {
+        notes.write_fault_of_file(folder, fault);
     }
+    read
 }
 
-/// Writes these bytes to a file, in place of an older one.
-///
-/// A new file beside it is renamed once it is complete. On a failure the older file is unchanged, and if there was
-/// none, none is created. What can't be replaced like this (`Replacement::begin`) is overwritten in place.
-pub fn write_file<'a, F: Files>(
-    files: &F,
+/// Writes a file like `ly_files::write_file`. If that fails, the reason is noted.
+pub fn write_file<'a, D: Folder>(
+    folder: &mut D,
     alloc: Global,
     path: &'a str,
     bytes: &[u8],
     notes: &mut Notes,
 ) -> Result<(), FileFault<'a>>
-    ensures written { OnOk result (HasTaken ⟦<Counted<F::File> as Sink>⟧.contents bytes.now) }
-    ensures failed { IfErr result (λ fault. (fault ≡ FileFault.CannotWrite path.entry)
-        ⊎ (fault ≡ FileFault.OutOfMemory)) }
+    ensures { HasWritten path.now bytes.now (D.is_plain folder.old) (D.holds folder.old) (D.holds folder.new) result }
 {
-    match Replacement::begin(files, alloc, path)? {
-        Some(replacement) => replacement.complete(files, path, bytes, notes),
-        None => {
-            let written = write_in_place(files, path, bytes, notes);
-            if written.is_err() {
-                notes.look_at_place(files, path);
-            }
-            written
-        }
+    let written = ly_files::write_file(folder, alloc, path, bytes);
+    if let Err(fault) = &written {
+        notes.write_fault_of_file(folder, fault);
     }
-}
-
-/// Writes bytes to a file under its own name, and replaces its content.
-fn write_in_place<'a, F: Files>(
-    files: &F,
-    path: &'a str,
-    bytes: &[u8],
-    notes: &mut Notes,
-) -> Result<(), FileFault<'a>>
-    ensures written { OnOk result (HasTaken ⟦<Counted<F::File> as Sink>⟧.contents bytes.now) }
-    ensures failed { IfErr result (λ fault. fault ≡ FileFault.CannotWrite path.entry) }
-{
-    match fs::create(files, path) {
-        Ok(file) => {
-            let mut device = Counted::new(file);
-            write_to(&mut device, path, bytes)?;
-            Ok(())
-        }
-        Err(reason) => {
-            notes.write_reason(path, &reason);
-            Err(FileFault::CannotWrite(path))
-        }
-    }
+    written
 }
 
 /// Writes a file if a path is named for it and there are bytes for it.
-pub fn write_if_named<'a, F: Files>(
-    files: &F,
+pub fn write_if_named<'a, D: Folder>(
+    folder: &mut D,
     alloc: Global,
     path: Option<&'a str>,
     bytes: &Option<Vec<u8>>,
     notes: &mut Notes,
 ) -> Result<(), FileFault<'a>>
-    ensures { OnOk result (IsWrittenIf ⟦<Counted<F::File> as Sink>⟧.contents path.entry bytes.now) }
+    ensures written { OnOk result
+        (AreWritten (set_if (option_map (λ p. p.now) path.entry) bytes.now) (D.holds folder.old) (D.holds folder.new)) }
+    ensures left { OnErr result
+        (IsLeftIf (option_map (λ p. p.now) path.entry) (D.holds folder.old) (D.holds folder.new)) }
 {
     match path {
         Some(path) => match bytes {
-            Some(bytes) => write_file(files, alloc, path, bytes, notes),
+            Some(bytes) => write_file(folder, alloc, path, bytes, notes),
             None => Ok(()),
         },
         None => Ok(()),
@@ -145,16 +96,16 @@ pub fn write_to<'a, W: Sink>(
     writer: &mut W,
     path: &'a str,
     bytes: &[u8],
-) -> Result<(), FileFault<'a>>
+) -> Result<(), Failure<'a>>
     ensures written { OnOk result (Appends (W.contents writer.old) (W.contents writer.new) bytes.now) }
     ensures beginning { OnErr result ((written : ℕ) × (written < length bytes.now)
         × Appends (W.contents writer.old) (W.contents writer.new) (take written bytes.now)) }
-    ensures failed { IfErr result (λ fault. fault ≡ FileFault.CannotWrite path.entry) }
+    ensures failed { IfErr result (λ failure. failure ≡ Failure.CannotWrite path.entry) }
     ensures no_failure { OnOk result (W.failures writer.new ≡ W.failures writer.old) }
     ensures counted { OnErr result (W.failures writer.new ≡ next_count (W.failures writer.old)) }
 {
     match write_whole(writer, bytes) {
         Ok(()) => Ok(()),
-        Err(_) => Err(FileFault::CannotWrite(path)),
+        Err(_) => Err(Failure::CannotWrite(path)),
     }
 }

@@ -5,7 +5,7 @@
 //! their exit statuses and the lines on standard error.
 //!
 //! Files are read whole and in the order of the arguments before anything is judged. But for `run --lines`, nothing is
-//! written before the result is known. A regular file is replaced only once its new content is complete (`files`).
+//! written before the result is known. A regular file is replaced only once its new content is complete (`ly_files`).
 #![tactic(auto)]
 
 ghost use Rattle.std.specs.Prelude.{◌≡◌, ◌⊎◌};
@@ -20,10 +20,10 @@ mod files;
 mod notes;
 mod perform;
 mod remembering;
-mod replacement;
 mod shown_path;
 
 use crate::remembering::Remembering;
+use ly_files::HostFolder;
 use ly_print::Counted;
 use std::env;
 use std::io::{self, ErrorKind, Write};
@@ -40,7 +40,7 @@ fn main(rt: HostRuntime) -> ExitCode {
         Err(why) => return ExitCode::from(without_words(&why, &mut rt.stderr())),
     };
     let status = perform::perform(
-        &rt,
+        &mut HostFolder(&rt),
         alloc,
         words.as_slice(),
         &mut Remembering::new(alloc, Counted::new(rt.stdin()), may_point(&words)),

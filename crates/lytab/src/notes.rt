@@ -9,12 +9,11 @@ use ly_base::{Limits, Location, OutOfMemory, locate};
 use ly_cli::Command;
 use ly_diagnostics::{write_faults, write_lex_faults};
 use ly_engine::{GenFault, Outcome, TextFault, TokenEnd};
+use ly_files::{FileFault, Folder};
 use ly_text_buffer::{NamedFile, TextBuffer};
 use std::alloc::Global;
 use std::fmt::Display;
-use std::fs::{self, File};
-use std::io::{self, Read, Write};
-use std::rt::Files;
+use std::io::{self, Write};
 
 /// How many bytes of a token are printed.
 const LONGEST: usize = 60;
@@ -250,7 +249,18 @@ impl Notes {
         self.buffer.push(b"\n");
     }
 
-    /// Why a file can't be opened.
+    /// Why a file can't be read or written. If the reason isn't known, the file is opened again to find it.
+    pub fn write_fault_of_file<D: Folder>(&mut self, folder: &D, fault: &FileFault<'_>) {
+        match fault {
+            FileFault::CannotRead(path, Some(reason)) | FileFault::CannotWrite(path, reason) => {
+                self.write_reason(path, reason);
+            }
+            FileFault::CannotRead(path, None) => self.look_again(folder, path),
+            FileFault::OutOfMemory => {}
+        }
+    }
+
+    /// Why a file can't be opened or written.
     pub fn write_reason(&mut self, path: &str, reason: &io::Error) {
         if self.are_wanted {
             self.write_file(path);
@@ -260,40 +270,22 @@ impl Notes {
         }
     }
 
-    /// Why a file couldn't be written in place, if one more byte at its end fails for a reason.
-    pub fn look_at_place<F: Files>(&mut self, files: &F, path: &str) {
-        if self.are_wanted
-            && let Ok(mut file) = File::options().append(true).open(files, path)
-        {
-            self.look_at_device(path, &mut file);
-        }
-    }
-
-    /// Why a file couldn't be written, if one more byte fails for a reason. What is in the file is incomplete already.
-    pub fn look_at_device<T: Write>(&mut self, path: &str, file: &mut T) {
-        if self.are_wanted {
-            if let Err(reason) = file.write(b"\n") {
-                self.write_reason(path, &reason);
-            }
-        }
-    }
-
     /// Why a text can't be read, if a command failed because of that.
-    pub fn look_at_text<F: Files>(
+    pub fn look_at_text<D: Folder>(
         &mut self,
-        files: &F,
+        folder: &D,
         path: &str,
         ended: &Result<Completion, Failure<'_>>,
     ) {
         if let Err(Failure::CannotRead(_)) = ended {
-            self.look_again(files, path);
+            self.look_again(folder, path);
         }
     }
 
     /// Why a file can't be read, if opening it again yields a reason.
-    pub fn look_again<F: Files>(&mut self, files: &F, path: &str) {
+    fn look_again<D: Folder>(&mut self, folder: &D, path: &str) {
         if self.are_wanted {
-            if let Some(reason) = reason(files, path) {
+            if let Some(reason) = folder.reason(self.alloc, path) {
                 self.write_reason(path, &reason);
             }
         }
@@ -303,13 +295,5 @@ impl Notes {
     fn write_file(&mut self, path: &str) {
         self.buffer.push_words(&ShownPath(path));
         self.buffer.push(b": ");
-    }
-}
-
-/// Why a file can't be opened, or its first byte can't be read.
-pub fn reason<F: Files>(files: &F, path: &str) -> Option<io::Error> {
-    match fs::open(files, path) {
-        Ok(mut file) => file.read(&mut [0]).err(),
-        Err(reason) => Some(reason),
     }
 }

@@ -5,6 +5,7 @@ ghost use Rattle.ly_cli.specs.Paths.{AskFor};
 ghost use Rattle.ly_cli.specs.Request.{Request};
 ghost use Rattle.lytab.specs.CarriedOut.{HasPerformed, IsCarriedOut, IsStatusOf};
 ghost use Rattle.lytab.specs.Devices.{IsOutputAfter};
+ghost use Rattle.lytab.specs.Files.{AreFilesLeft};
 
 use crate::answering::{Rules, answer_text};
 use crate::building::build_tables;
@@ -17,11 +18,11 @@ use crate::notes::Notes;
 use crate::remembering::Recall;
 use ly_base::{Limits, OutOfMemory};
 use ly_cli::{Command, CommandFault, read_command};
-use ly_print::{Counted, Sink, Source};
+use ly_files::Folder;
+use ly_print::{Sink, Source};
 use ly_text_buffer::NamedFile;
 use std::alloc::Global;
 use std::io::Write;
-use std::rt::Files;
 
 const BAD_WORDS: u8 = 4;
 
@@ -31,10 +32,11 @@ const BAD_WORDS: u8 = 4;
 /// rejected, 3 for a read or write error or if memory runs out, and 4 for a usage error. The output goes to `output`,
 /// and the line of a failure to `faults`. The report of explained files is output too, even if they are rejected.
 ///
-/// No contract knows what files contain, so what it states about the output holds for some bytes. Only tests show that
-/// these are the bytes of the named files, what is written to files and to `faults`, and which failure occurs.
-pub fn perform<F: Files, R: Source + Recall, W: Sink, E: Write>(
-    files: &F,
+/// The files are those of a folder, and what is known of them is known of what is read and written: the paths that the
+/// arguments name are read, a table file, a report and drawings are written to their paths, and each other file stays
+/// as it is. Of the host's files nothing is known. Only tests show what is written to `faults`.
+pub fn perform<D: Folder, R: Source + Recall, W: Sink, E: Write>(
+    folder: &mut D,
     alloc: Global,
     words: &[String],
     input: &mut R,
@@ -46,19 +48,23 @@ pub fn perform<F: Files, R: Source + Recall, W: Sink, E: Write>(
         → result ≤ 3 }
     ensures taken { (request : Request) → AskFor (map string_bytes words.now) request → result ≤ 3 }
     ensures performed { (request : Request) → Mean (map string_bytes words.now) request
-        → HasPerformed ⟦<Counted<F::File> as Sink>⟧.contents request (record {
+        → HasPerformed request (record {
           input_before = input.old;
           input_after = input.new;
           given = R.remaining input.old;
           left = R.remaining input.new;
+          files_before = D.holds folder.old;
+          files_after = D.holds folder.new;
           before = W.contents output.old;
           after = W.contents output.new;
         }) (W.failures output.old) (W.failures output.new) result }
+    ensures bad { result ≡ 4 → (D.holds folder.new ≡ D.holds folder.old) × (input.new ≡ input.old)
+        × (output.new ≡ output.old) }
 {
     match read_command(alloc, words) {
         Ok(command) => {
             let mut notes = Notes::new(alloc, &command);
-            let ended = carry_out(files, alloc, command, input, output, &mut notes);
+            let ended = carry_out(folder, alloc, command, input, output, &mut notes);
             let status = concluded(alloc, ended, notes.finish(), faults);
             status
         }
@@ -107,70 +113,73 @@ fn concluded<E: Write>(
 
 /// Carries out a command. The files that it reads are opened in the order of the arguments. All but the text are read
 /// whole before anything is judged.
-fn carry_out<'a, F: Files, R: Source + Recall, W: Sink>(
-    files: &F,
+fn carry_out<'a, D: Folder, R: Source + Recall, W: Sink>(
+    folder: &mut D,
     alloc: Global,
     command: Command<'a>,
     input: &mut R,
     output: &mut W,
     notes: &mut Notes,
 ) -> Result<Completion, Failure<'a>>
-    ensures carried_out { IsCarriedOut ⟦<Counted<F::File> as Sink>⟧.contents (said command.entry) result (record {
+    ensures carried_out { IsCarriedOut (said command.entry) result (record {
       input_before = input.old;
       input_after = input.new;
       given = R.remaining input.old;
       left = R.remaining input.new;
+      files_before = D.holds folder.old;
+      files_after = D.holds folder.new;
       before = W.contents output.old;
       after = W.contents output.new;
     }) }
+    ensures files { AreFilesLeft (said command.entry) result (D.holds folder.old) (D.holds folder.new) }
     ensures devices { IsOutputAfter (said command.entry) result output.old output.new (W.failures output.old)
         (W.failures output.new) }
 {
     match command {
         Command::Tokens { lex, text, by } => {
-            let bytes = read_file(files, alloc, lex, notes)?;
+            let bytes = read_file(folder, alloc, lex, notes)?;
             let rules = Rules::Tokens {
                 lex: &bytes,
                 form: by.form,
             };
-            let ended = answer_text(files, alloc, rules, text, input, output, notes);
+            let ended = answer_text(folder, alloc, rules, text, input, output, notes);
             notes.explain_lex(alloc, NamedFile::new(lex, &bytes), &ended);
             ended
         }
         Command::TableTokens { tables, text, by } => {
-            let bytes = read_file(files, alloc, tables, notes)?;
+            let bytes = read_file(folder, alloc, tables, notes)?;
             let rules = Rules::TableTokens {
                 tables: &bytes,
                 form: by.form,
             };
-            let ended = answer_text(files, alloc, rules, text, input, output, notes);
+            let ended = answer_text(folder, alloc, rules, text, input, output, notes);
             notes.explain_tables(tables, &ended);
             ended
         }
         Command::Run { tables, text, by } => {
-            let bytes = read_file(files, alloc, tables, notes)?;
+            let bytes = read_file(folder, alloc, tables, notes)?;
             let rules = Rules::Tables {
                 tables: &bytes,
                 form: by.form,
             };
-            let ended = answer_text(files, alloc, rules, text, input, output, notes);
+            let ended = answer_text(folder, alloc, rules, text, input, output, notes);
             notes.explain_tables(tables, &ended);
             ended
         }
         Command::Lines { tables, text, by } => {
-            let bytes = read_file(files, alloc, tables, notes)?;
+            let bytes = read_file(folder, alloc, tables, notes)?;
             let rules = Rules::Lines {
                 tables: &bytes,
                 form: by.form,
             };
-            let ended = answer_text(files, alloc, rules, text, input, output, notes);
+            let ended = answer_text(folder, alloc, rules, text, input, output, notes);
             notes.explain_tables(tables, &ended);
             ended
         }
         Command::RunPlaced { tables, text, .. } => {
-            let bytes = read_file(files, alloc, tables, notes)?;
+            let bytes = read_file(folder, alloc, tables, notes)?;
             let rules = Rules::TablesPlaced(&bytes);
-            let ended = answer_text(files, alloc, rules, text, input, output, notes);
+            let ended = answer_text(folder, alloc, rules, text, input, output, notes);
             notes.explain_tables(tables, &ended);
             ended
         }
@@ -180,13 +189,13 @@ fn carry_out<'a, F: Files, R: Source + Recall, W: Sink>(
             text,
             ..
         } => {
-            let lex_bytes = read_file(files, alloc, lex, notes)?;
-            let yacc_bytes = read_file(files, alloc, yacc, notes)?;
+            let lex_bytes = read_file(folder, alloc, lex, notes)?;
+            let yacc_bytes = read_file(folder, alloc, yacc, notes)?;
             let rules = Rules::BothPlaced {
                 lex: &lex_bytes,
                 yacc: &yacc_bytes,
             };
-            let ended = answer_text(files, alloc, rules, text, input, output, notes);
+            let ended = answer_text(folder, alloc, rules, text, input, output, notes);
             let lex = NamedFile::new(lex, &lex_bytes);
             let yacc = NamedFile::new(yacc, &yacc_bytes);
             notes.explain(alloc, lex, yacc, &Limits::V2, &ended);
@@ -198,14 +207,14 @@ fn carry_out<'a, F: Files, R: Source + Recall, W: Sink>(
             text,
             by,
         } => {
-            let lex_bytes = read_file(files, alloc, lex, notes)?;
-            let yacc_bytes = read_file(files, alloc, yacc, notes)?;
+            let lex_bytes = read_file(folder, alloc, lex, notes)?;
+            let yacc_bytes = read_file(folder, alloc, yacc, notes)?;
             let rules = Rules::Both {
                 lex: &lex_bytes,
                 yacc: &yacc_bytes,
                 form: by.form,
             };
-            let ended = answer_text(files, alloc, rules, text, input, output, notes);
+            let ended = answer_text(folder, alloc, rules, text, input, output, notes);
             let lex = NamedFile::new(lex, &lex_bytes);
             let yacc = NamedFile::new(yacc, &yacc_bytes);
             notes.explain(alloc, lex, yacc, &Limits::V2, &ended);
@@ -216,9 +225,9 @@ fn carry_out<'a, F: Files, R: Source + Recall, W: Sink>(
             version,
             expected,
             ..
-        } => { build_tables(files, alloc, paths, version, expected, output, notes) }
+        } => { build_tables(folder, alloc, paths, version, expected, output, notes) }
         Command::Check { tables, by } => {
-            let ended = check_tables(files, alloc, tables, by.form, output, notes);
+            let ended = check_tables(folder, alloc, tables, by.form, output, notes);
             notes.explain_tables(tables, &ended);
             ended
         }
@@ -226,6 +235,6 @@ fn carry_out<'a, F: Files, R: Source + Recall, W: Sink>(
             paths,
             strictness,
             form,
-        } => { explain_files(files, alloc, paths, strictness, form, output, notes) }
+        } => { explain_files(folder, alloc, paths, strictness, form, output, notes) }
     }
 }

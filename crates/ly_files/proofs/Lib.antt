@@ -1,0 +1,3 @@
+pub mod ChangeLemmas
+pub mod FolderLemmas
+pub mod WritingLemmas

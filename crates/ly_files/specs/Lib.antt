@@ -1,0 +1,4 @@
+pub mod Fault
+pub mod Folder
+pub mod Folders
+pub mod MemFolder
