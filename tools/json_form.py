@@ -357,8 +357,8 @@ def sentence_lines(group):
     if group["sentence"] is not None:
         return tree_lines("", group)
     if group["other"] is None:
-        return ["    No ambiguous sentence found: the search reached its limit."]
-    missing = f"    No ambiguous sentence found before {group['before'][0]}: the search reached its limit."
+        return ["    No ambiguous sentence found within the limits of the search."]
+    missing = f"    No ambiguous sentence found before {group['before'][0]} within the limits of the search."
     return [missing] + tree_lines(f"Before {group['other']['before']} ", group["other"])
 
 

@@ -113,7 +113,7 @@ fn write_sentence(
         buffer.push(b" before ");
         buffer.push_terminal(spec, report.conflict.terminal);
     }
-    buffer.push(b": the search reached its limit.\n");
+    buffer.push(b" within the limits of the search.\n");
     match &report.other {
         Some(other) => {
             let terminal = Some(other.conflict.terminal);
