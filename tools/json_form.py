@@ -2,6 +2,7 @@
 docs/texts-and-faults.md alone. `json` of Python writes the strings."""
 import json
 import re
+import urllib.parse
 
 # a name, which is a literal in single quotes or any bytes but a double quote, and the text behind it in double quotes
 LITERAL = rb"'(?:[^'\\]|\\x[0-9a-f]{2}|\\.)'"
@@ -184,6 +185,58 @@ def is_span(text, start, end):
     return right and whole and b"\n" not in inside and end[1:] == [start[1], start[2] + len(inside)]
 
 
+def sarif(value, text_of):
+    """The log of `explain --sarif` by the findings of `explain --json`; text_of gives the bytes of a file."""
+    findings = value["conflicts"] + value["warnings"] if value["accepted"] else value["faults"]
+    driver = {"name": "lytab", "rules": []}
+    results = [sarif_result(finding, text_of) for finding in findings]
+    run = {"tool": {"driver": driver}, "columnKind": "unicodeCodePoints", "results": results}
+    return {"version": "2.1.0", "$schema": "https://json.schemastore.org/sarif-2.1.0.json", "runs": [run]}
+
+
+def sarif_result(finding, text_of):
+    """A finding as a result: its message with the suggestion on a line of its own, and its places."""
+    text = finding["message"] + ("\n" + finding["advice"] if finding.get("advice") else "")
+    made = {"ruleId": finding["code"], "level": finding["severity"], "message": {"text": text}}
+    made["locations"] = [sarif_place(finding, text_of)]
+    if "related" in finding:
+        made["relatedLocations"] = [
+            sarif_place(it, text_of) | {"message": {"text": it["message"]}} for it in finding["related"]
+        ]
+    if "fixes" in finding:
+        made["fixes"] = [sarif_fix(it, text_of) for it in finding["fixes"]]
+    return made
+
+
+def sarif_place(place, text_of):
+    """The file of a place as a URI, and its region."""
+    where = {"artifactLocation": {"uri": sarif_uri(place["file"])}, "region": sarif_region(place, text_of)}
+    return {"physicalLocation": where}
+
+
+def sarif_uri(path):
+    """A path as a URI, in which each byte but letters, digits, `-._~/` stands behind a percent sign."""
+    return ("file://" if path.startswith("/") else "") + urllib.parse.quote(path, safe="/")
+
+
+def sarif_region(place, text_of):
+    """A span by its line and its columns, which count characters; the first line where there is no span."""
+    if not place["start"]:
+        return {"startLine": 1}
+    text = text_of(place["file"])
+    first = place["start"][0] - place["start"][2] + 1
+    columns = [len(text[first : it[0]].decode(errors="surrogateescape")) + 1 for it in (place["start"], place["end"])]
+    line = place["start"][1]
+    return {"startLine": line, "startColumn": columns[0], "endLine": line, "endColumn": columns[1]}
+
+
+def sarif_fix(fix, text_of):
+    """A replacement as a fix."""
+    replaced = {"deletedRegion": sarif_region(fix, text_of), "insertedContent": {"text": fix["replacement"]}}
+    change = {"artifactLocation": {"uri": sarif_uri(fix["file"])}, "replacements": [replaced]}
+    return {"description": {"text": "replace the name"}, "artifactChanges": [change]}
+
+
 def explained(value):
     """The lines that an answer of `explain --json` says."""
     if not value["accepted"]:
@@ -304,8 +357,8 @@ def sentence_lines(group):
     if group["sentence"] is not None:
         return tree_lines("", group)
     if group["other"] is None:
-        return ["    No ambiguous sentence found: the search reached its limit."]
-    missing = f"    No ambiguous sentence found before {group['before'][0]}: the search reached its limit."
+        return ["    No ambiguous sentence found within the limits of the search."]
+    missing = f"    No ambiguous sentence found before {group['before'][0]} within the limits of the search."
     return [missing] + tree_lines(f"Before {group['other']['before']} ", group["other"])
 
 

@@ -25,10 +25,10 @@ def summary(trees, scanner, found):
             f"{counts[1]}; harmless: {counts[2]}")
 
 
-def convert(lex_path, yacc_path, lex_out, yacc_out):
-    """Converts both files, with notes on standard error."""
+def convert(lex_path, yacc_path, lex_out, yacc_out, keeps_actions=False):
+    """Converts both files, with notes on standard error. Actions within rules may be kept as empty nonterminals."""
     grammar = Grammar(yacc_path).read()
-    trees = Trees(grammar)
+    trees = Trees(grammar, keeps_actions)
     scanner = Scanner(lex_path, trees).read()
     trees.take_names(scanner.returned_for)
     for path, text in ((lex_out, scanner.written()), (yacc_out, trees.written(scanner.actions.returned))):

@@ -17,10 +17,12 @@ def constructor(left):
 
 class Body:
     """A body without actions and ends of the input. `numbers` has, for each `$` number of the bison file, the number of
-    the symbol, or None; `references` has the numbers by names."""
+    the symbol, or None; `references` has the numbers by names; `actions` are the empty nonterminals for the actions
+    within the rule, if they are kept."""
 
     def __init__(self, rule, line):
         self.left, self.line, self.symbols, self.numbers, self.references = rule.left, line, [], [], {}
+        self.actions = []
         self.precedence = rule.precedence.word if rule.precedence else None
         self.action = rule.last_action()
 
@@ -30,6 +32,12 @@ class Body:
         self.references[symbol.word] = len(self.symbols)
         if symbol.reference:
             self.references[symbol.reference] = len(self.symbols)
+
+    def add_action(self, name):
+        """Adds an empty nonterminal for an action within the rule."""
+        self.actions.append(name)
+        self.symbols.append(name)
+        self.numbers.append(len(self.symbols))
 
     def passed(self):
         """The number of the symbol whose value the action passes on; None if it does more."""
@@ -44,8 +52,9 @@ class Body:
 class Trees:
     """What a grammar becomes: its declarations, and its bodies without `error`."""
 
-    def __init__(self, grammar):
+    def __init__(self, grammar, keeps_actions=False):
         self.grammar, self.names, self.notes = grammar, Names(grammar), grammar.notes
+        self.keeps_actions, self.actions, self.on_line = keeps_actions, set(), {}
         self.lefts = {rule.left for rule in grammar.rules}
         self.tokens = {it.word for made in grammar.declarations for it in made.symbols if it.word not in grammar.ends}
         self.bodies = self.without_errors([self.body(rule) for rule in grammar.rules])
@@ -78,7 +87,9 @@ class Trees:
         grammar, line = self.grammar, self.grammar.line_of(rule)
         body, ends = Body(rule, line), []
         for it in rule.parts:
-            if isinstance(it, Action):
+            if isinstance(it, Action) and it is not body.action and self.keeps_actions and not it.is_predicate:
+                body.add_action(self.action_name(it))
+            elif isinstance(it, Action):
                 if it is not body.action:
                     what = "a predicate is dropped" if it.is_predicate else "an action within a rule is dropped"
                     self.notes.add(grammar.line_of(it), what, CHANGE if it.is_predicate else HARMLESS)
@@ -99,6 +110,16 @@ class Trees:
             what = f"{ends[0].word}, the end of the input, is left out of a rule of {rule.left}"
             self.notes.add(line, what, HARMLESS if is_last else CHANGE)
         return body
+
+    def action_name(self, it):
+        """A name for an action within a rule, by its line."""
+        line = self.grammar.line_of(it)
+        self.on_line[line] = self.on_line.get(line, 0) + 1
+        name = self.names.new(f"action_{line}" + (f"_{self.on_line[line]}" if self.on_line[line] > 1 else ""))
+        self.actions.add(name)
+        self.names.given[name] = name
+        self.notes.add(line, f"an action within a rule is the empty nonterminal {name}", HARMLESS)
+        return name
 
     def without_errors(self, bodies):
         """The bodies that are left, without those that need a left side that has none left."""
@@ -129,7 +150,7 @@ class Trees:
     def used(self):
         """The tokens of the bodies, by their names."""
         words = [word for body in self.bodies for word in body.symbols]
-        return list(dict.fromkeys(self.names.of(it) for it in words if it not in self.lefts))
+        return list(dict.fromkeys(self.names.of(it) for it in words if it not in self.lefts | self.actions))
 
     def is_punctuation(self, word):
         """Whether a token has one text, without letters and digits."""
@@ -143,12 +164,13 @@ class Trees:
 
     def action(self, name, body):
         """The action of a rule, as lytab has it."""
-        if body.action is None and len(body.symbols) <= 1:
-            return ""
+        parts = [i for i, word in enumerate(body.symbols, 1) if word not in self.actions]
+        if body.action is None and len(parts) <= 1:
+            return f"{{ $$ = ${parts[0]}; }}" if parts[:1] > [1] else ""
         passed = body.passed()
         if passed:
             return f"{{ $$ = ${passed}; }}"
-        children = [i for i, word in enumerate(body.symbols, 1) if not self.is_punctuation(word)]
+        children = [i for i in parts if not self.is_punctuation(body.symbols[i - 1])]
         return f"{{ $$ = {name}({','.join(f'${i}' for i in children)}); }}"
 
     def declarations(self, returned):
@@ -168,6 +190,9 @@ class Trees:
             lines.append("%token " + " ".join(dict.fromkeys(others)))
         if self.grammar.start:
             lines.append(f"%start {self.names.of(self.grammar.start.word)}")
+        elif self.bodies and self.bodies[0].actions:
+            # (the rule of that action comes first)
+            lines.append(f"%start {self.names.of(self.start())}")
         return lines
 
     def written(self, returned):
@@ -180,9 +205,12 @@ class Trees:
         for body in self.bodies:
             left = body.left
             numbers[left] = numbers.get(left, 0) + 1
-            head = f"{self.names.of(left)} :" if left != last else "    |"
-            if left != last and last is not None:
+            is_new = left != last or body.actions
+            head = f"{self.names.of(left)} :" if is_new else "    |"
+            if is_new and last is not None:
                 lines.append("    ;")
+            # (as bison has it, the rule of an action precedes the body)
+            lines += [f"{it} : ;" for it in body.actions]
             name = constructor(left)
             name += ("_" if name[-1:].isdigit() else "") + str(numbers[left]) if counts[left] > 1 else ""
             parts = [*map(self.names.of, body.symbols)]

@@ -11,7 +11,7 @@ use ly_subset::Dfa;
 use ly_text_buffer::{NamedFile, TextBuffer};
 
 /// Options of the report.
-#[derive(Clone, Copy, Debug, Default, PartialEq, Eq)]
+#[derive(Clone, Copy, Debug, PartialEq, Eq)]
 pub struct Options {
     /// Whether to add the states of the parser.
     pub states: bool,
@@ -19,8 +19,19 @@ pub struct Options {
     pub picture: bool,
     /// Whether to leave out the lex file, because there is none.
     pub grammar_alone: bool,
-    /// Whether to return JSON instead of English text.
-    pub json: bool,
+    /// The form of the report.
+    pub form: Form,
+}
+
+/// The form of a report.
+#[derive(Clone, Copy, Debug, PartialEq, Eq)]
+pub enum Form {
+    /// English text.
+    Plain,
+    /// An object of JSON.
+    Json,
+    /// A log of SARIF 2.1.0.
+    Sarif,
 }
 
 /// Two accepted files, with their automata.

@@ -15,7 +15,7 @@ mod decided;
 mod lines;
 mod places;
 
-pub use analysis::{Analysis, Options, first_of, write_numbered};
+pub use analysis::{Analysis, Form, Options, first_of, write_numbered};
 pub use bodies::{behind_dot, body_of, rest_of};
 pub use cores::{Cores, END, Prefix, goto_of, symbol_to};
 pub use cut::{ends, write_large, write_left_out, write_prefix, write_symbols, write_terminals};

@@ -15,9 +15,11 @@ use Rattle.ly_print.specs.declared.answer_form.AnswerForm.{AnswerForm}
 use Rattle.ly_print.specs.declared.answer_form.AnswerForm.TheVariants.{Json, Plain}
 use Rattle.ly_cli.specs.Paths.{ArePathWords, AskFor, IsCount, IsMeant, IsPathWord, StandAlone, as_list, count_words}
 use Rattle.ly_cli.specs.Paths.{flags_of, form_words, name_of, number_of, operands_of, pointing_words, strict_words}
-use Rattle.ly_cli.specs.Paths.{words_at, written_of}
+use Rattle.ly_cli.specs.Paths.{report_form_words, words_at, written_of}
 use Rattle.ly_cli.specs.Request.{Request, build, check, explain, lines, run, run_placed, table_tokens}
 use Rattle.ly_cli.specs.Request.{tokens, try, try_placed}
+use Rattle.ly_cli.specs.declared.command.ReportForm.{ReportForm}
+use Rattle.ly_cli.specs.declared.command.ReportForm.TheVariants as report_form
 use Rattle.ly_cli.specs.declared.command.Strictness.{Strictness}
 use Rattle.ly_cli.proofs.PathLemmas.{AreWords, IsLongName, Word, all_taken, held_after, level_taken, long, path}
 use Rattle.ly_cli.proofs.PathLemmas.{rest_passes, rows_are, text_of}
@@ -340,7 +342,7 @@ module _ (lex yacc : Text) (paths : IsPathWord lex × IsPathWord yacc) where
     graph_are : (j : ℕ) → AreWords (graph_words j)
     graph_are j = drawn_are j file_words files_are
 
-    graph_met : (j : ℕ) → Met (explain (Some lex) yacc None (Some picture) unasked Plain)
+    graph_met : (j : ℕ) → Met (explain (Some lex) yacc None (Some picture) unasked report_form.Plain)
         (flat_map (λ group. group) (insert file_names (within_two j) (codes "--graph" ∷ picture ∷ [])))
     graph_met zero = met (graph_words 0) (graph_are 0) refl refl refl refl
     graph_met (suc zero) = met (graph_words 1) (graph_are 1) refl refl refl refl
@@ -357,7 +359,7 @@ module _ (lex yacc : Text) (paths : IsPathWord lex × IsPathWord yacc) where
       all_are : (i j : ℕ) → AreWords (all_words i j)
       all_are i j = drawn_are j (listed i) (are_inserted file_words i _ files_are (states_name, (f, tt)))
 
-      all_met : (i j : ℕ) → Met (explain (Some lex) yacc (Some file) (Some picture) unasked Plain)
+      all_met : (i j : ℕ) → Met (explain (Some lex) yacc (Some file) (Some picture) unasked report_form.Plain)
           (flat_map (λ group. group) (insert (insert file_names (within_two i) (codes "--states" ∷ file ∷ []))
           (within_three j) (codes "--graph" ∷ picture ∷ [])))
       all_met zero zero = met (all_words 0 0) (all_are 0 0) refl refl refl refl
@@ -384,7 +386,7 @@ module _ (lex yacc : Text) (paths : IsPathWord lex × IsPathWord yacc) where
     states_are : (i : ℕ) → AreWords (states_words i)
     states_are i = are_words (states_groups i) (are_inserted file_words i _ files_are (states_name, (f, tt)))
 
-    states_met : (i : ℕ) → Met (explain (Some lex) yacc (Some file) None unasked Plain)
+    states_met : (i : ℕ) → Met (explain (Some lex) yacc (Some file) None unasked report_form.Plain)
         (flat_map (λ group. group) (insert file_names (within_two i) (codes "--states" ∷ file ∷ [])))
     states_met zero = met (states_words 0) (states_are 0) refl refl refl refl
     states_met (suc zero) = met (states_words 1) (states_are 1) refl refl refl refl
@@ -393,20 +395,22 @@ module _ (lex yacc : Text) (paths : IsPathWord lex × IsPathWord yacc) where
 -- the words of `explain`
 explain_met : (lex yacc : Text) (states graph : Option Text) (i j : ℕ) (format : Option Version)
     → IsPathWord lex × IsPathWord yacc → ArePathWords (as_list states ++ as_list graph)
-    → Met (explain (Some lex) yacc states graph unasked Plain)
-    (words_at i j (explain (Some lex) yacc states graph unasked Plain) format)
+    → Met (explain (Some lex) yacc states graph unasked report_form.Plain)
+    (words_at i j (explain (Some lex) yacc states graph unasked report_form.Plain) format)
 explain_met lex yacc None None i j format paths r =
     met (path lex ∷ path yacc ∷ []) (paths.0, (paths.1, tt)) refl refl refl refl
 explain_met lex yacc None (Some picture) i j format paths r =
-    subst (λ groups. Met (explain (Some lex) yacc None (Some picture) unasked Plain) (flat_map (λ group. group) groups))
+    subst (λ groups. Met (explain (Some lex) yacc None (Some picture) unasked report_form.Plain)
+    (flat_map (λ group. group) groups))
     (insert_two (lex ∷ []) (yacc ∷ []) (codes "--graph" ∷ picture ∷ []) j)
     (graph_met lex yacc paths picture r.0 j)
 explain_met lex yacc (Some file) None i j format paths r =
-    subst (λ groups. Met (explain (Some lex) yacc (Some file) None unasked Plain) (flat_map (λ group. group) groups))
+    subst (λ groups. Met (explain (Some lex) yacc (Some file) None unasked report_form.Plain)
+    (flat_map (λ group. group) groups))
     (insert_two (lex ∷ []) (yacc ∷ []) (codes "--states" ∷ file ∷ []) i)
     (states_met lex yacc paths file r.0 i)
 explain_met lex yacc (Some file) (Some picture) i j format paths r =
-    subst (λ groups. Met (explain (Some lex) yacc (Some file) (Some picture) unasked Plain)
+    subst (λ groups. Met (explain (Some lex) yacc (Some file) (Some picture) unasked report_form.Plain)
     (flat_map (λ group. group) groups))
     (insert_both_in_two (lex ∷ []) (yacc ∷ []) (codes "--states" ∷ file ∷ []) (codes "--graph" ∷ picture ∷ []) i j)
     (all_met lex yacc paths picture r.1.0 file r.0 i j)
@@ -419,6 +423,9 @@ strict_name = record { is_read = refl; no_dashes = refl }
 
 json_name : IsLongName (codes "json")
 json_name = record { is_read = refl; no_dashes = refl }
+
+sarif_name : IsLongName (codes "sarif")
+sarif_name = record { is_read = refl; no_dashes = refl }
 
 -- a count that is said
 count_said : {A B : Type 0} (f : A → B) (o : Option A) (x : A) → o ≡ Some x → option_map f o ≡ Some (f x)
@@ -457,7 +464,7 @@ build_at lex yacc table_file None version expected i j (Some v) (Some count) e s
     absurd (true≢false (ap is_some alone.1))
 
 -- how files are judged with a count, and what is asked for then
-strictness_asked : (lex : Option Text) (yacc : Text) (strict : Bool) (form : AnswerForm) (o : Option (Option ℕ))
+strictness_asked : (lex : Option Text) (yacc : Text) (strict : Bool) (form : ReportForm) (o : Option (Option ℕ))
     (expected : Option ℕ) → o ≡ Some expected
     → option_and_then (λ (d : Strictness). Some (explain lex yacc None None d form))
     (option_map (λ (e : Option ℕ). record { strict = strict; expected = e }) o)
@@ -465,127 +472,166 @@ strictness_asked : (lex : Option Text) (yacc : Text) (strict : Bool) (form : Ans
 strictness_asked lex yacc strict form o expected is = rw is refl
 
 -- the words of `explain` with a count
-counted_explain_met : (lex yacc count : Text) (strict : Bool) (form : AnswerForm) (expected : Option ℕ)
+counted_explain_met : (lex yacc count : Text) (strict : Bool) (form : ReportForm) (expected : Option ℕ)
     → expected_by (Some count) ≡ Some expected → IsPathWord count → IsPathWord lex × IsPathWord yacc
     → Met (explain (Some lex) yacc None None (record { strict = strict; expected = expected }) form)
-    (form_words form ++ (strict_words strict ++ codes "--expect" ∷ count ∷ lex ∷ yacc ∷ []))
-counted_explain_met lex yacc count true Plain expected is c paths =
+    (report_form_words form ++ (strict_words strict ++ codes "--expect" ∷ count ∷ lex ∷ yacc ∷ []))
+counted_explain_met lex yacc count true report_form.Plain expected is c paths =
     met (long (codes "strict") ∷ long (codes "expect") ∷ path count ∷ path lex ∷ path yacc ∷ [])
     (strict_name, (expect_name, (c, (paths.0, (paths.1, tt))))) refl refl refl
-    (strictness_asked (Some lex) yacc true Plain (expected_by (Some count)) expected is)
-counted_explain_met lex yacc count false Plain expected is c paths =
+    (strictness_asked (Some lex) yacc true report_form.Plain (expected_by (Some count)) expected is)
+counted_explain_met lex yacc count false report_form.Plain expected is c paths =
     met (long (codes "expect") ∷ path count ∷ path lex ∷ path yacc ∷ [])
     (expect_name, (c, (paths.0, (paths.1, tt)))) refl refl refl
-    (strictness_asked (Some lex) yacc false Plain (expected_by (Some count)) expected is)
-counted_explain_met lex yacc count true Json expected is c paths =
+    (strictness_asked (Some lex) yacc false report_form.Plain (expected_by (Some count)) expected is)
+counted_explain_met lex yacc count true report_form.Json expected is c paths =
     met (long (codes "json") ∷ long (codes "strict") ∷ long (codes "expect") ∷ path count ∷ path lex ∷ path yacc ∷ [])
     (json_name, (strict_name, (expect_name, (c, (paths.0, (paths.1, tt)))))) refl refl refl
-    (strictness_asked (Some lex) yacc true Json (expected_by (Some count)) expected is)
-counted_explain_met lex yacc count false Json expected is c paths =
+    (strictness_asked (Some lex) yacc true report_form.Json (expected_by (Some count)) expected is)
+counted_explain_met lex yacc count true report_form.Sarif expected is c paths =
+    met (long (codes "sarif") ∷ long (codes "strict") ∷ long (codes "expect") ∷ path count ∷ path lex ∷ path yacc ∷ [])
+    (sarif_name, (strict_name, (expect_name, (c, (paths.0, (paths.1, tt)))))) refl refl refl
+    (strictness_asked (Some lex) yacc true report_form.Sarif (expected_by (Some count)) expected is)
+counted_explain_met lex yacc count false report_form.Json expected is c paths =
     met (long (codes "json") ∷ long (codes "expect") ∷ path count ∷ path lex ∷ path yacc ∷ [])
     (json_name, (expect_name, (c, (paths.0, (paths.1, tt))))) refl refl refl
-    (strictness_asked (Some lex) yacc false Json (expected_by (Some count)) expected is)
+    (strictness_asked (Some lex) yacc false report_form.Json (expected_by (Some count)) expected is)
+counted_explain_met lex yacc count false report_form.Sarif expected is c paths =
+    met (long (codes "sarif") ∷ long (codes "expect") ∷ path count ∷ path lex ∷ path yacc ∷ [])
+    (sarif_name, (expect_name, (c, (paths.0, (paths.1, tt))))) refl refl refl
+    (strictness_asked (Some lex) yacc false report_form.Sarif (expected_by (Some count)) expected is)
 
 -- the words of `explain` for a grammar by itself
 alone_name : IsLongName (codes "yacc")
 alone_name = record { is_read = refl; no_dashes = refl }
 
-counted_alone_met : (yacc count : Text) (strict : Bool) (form : AnswerForm) (expected : Option ℕ)
+counted_alone_met : (yacc count : Text) (strict : Bool) (form : ReportForm) (expected : Option ℕ)
     → expected_by (Some count) ≡ Some expected → IsPathWord count → IsPathWord yacc
     → Met (explain None yacc None None (record { strict = strict; expected = expected }) form)
-    (codes "--yacc" ∷ (form_words form ++ (strict_words strict ++ codes "--expect" ∷ count ∷ yacc ∷ [])))
-counted_alone_met yacc count true Plain expected is c p =
+    (codes "--yacc" ∷ (report_form_words form ++ (strict_words strict ++ codes "--expect" ∷ count ∷ yacc ∷ [])))
+counted_alone_met yacc count true report_form.Plain expected is c p =
     met (long (codes "yacc") ∷ long (codes "strict") ∷ long (codes "expect") ∷ path count ∷ path yacc ∷ [])
     (alone_name, (strict_name, (expect_name, (c, (p, tt))))) refl refl refl
-    (strictness_asked None yacc true Plain (expected_by (Some count)) expected is)
-counted_alone_met yacc count false Plain expected is c p =
+    (strictness_asked None yacc true report_form.Plain (expected_by (Some count)) expected is)
+counted_alone_met yacc count false report_form.Plain expected is c p =
     met (long (codes "yacc") ∷ long (codes "expect") ∷ path count ∷ path yacc ∷ [])
     (alone_name, (expect_name, (c, (p, tt)))) refl refl refl
-    (strictness_asked None yacc false Plain (expected_by (Some count)) expected is)
-counted_alone_met yacc count true Json expected is c p =
+    (strictness_asked None yacc false report_form.Plain (expected_by (Some count)) expected is)
+counted_alone_met yacc count true report_form.Json expected is c p =
     met (long (codes "yacc") ∷ long (codes "json") ∷ long (codes "strict") ∷ long (codes "expect") ∷ path count
     ∷ path yacc ∷ [])
     (alone_name, (json_name, (strict_name, (expect_name, (c, (p, tt)))))) refl refl refl
-    (strictness_asked None yacc true Json (expected_by (Some count)) expected is)
-counted_alone_met yacc count false Json expected is c p =
+    (strictness_asked None yacc true report_form.Json (expected_by (Some count)) expected is)
+counted_alone_met yacc count true report_form.Sarif expected is c p =
+    met (long (codes "yacc") ∷ long (codes "sarif") ∷ long (codes "strict") ∷ long (codes "expect") ∷ path count
+    ∷ path yacc ∷ [])
+    (alone_name, (sarif_name, (strict_name, (expect_name, (c, (p, tt)))))) refl refl refl
+    (strictness_asked None yacc true report_form.Sarif (expected_by (Some count)) expected is)
+counted_alone_met yacc count false report_form.Json expected is c p =
     met (long (codes "yacc") ∷ long (codes "json") ∷ long (codes "expect") ∷ path count ∷ path yacc ∷ [])
     (alone_name, (json_name, (expect_name, (c, (p, tt))))) refl refl refl
-    (strictness_asked None yacc false Json (expected_by (Some count)) expected is)
+    (strictness_asked None yacc false report_form.Json (expected_by (Some count)) expected is)
+counted_alone_met yacc count false report_form.Sarif expected is c p =
+    met (long (codes "yacc") ∷ long (codes "sarif") ∷ long (codes "expect") ∷ path count ∷ path yacc ∷ [])
+    (alone_name, (sarif_name, (expect_name, (c, (p, tt))))) refl refl refl
+    (strictness_asked None yacc false report_form.Sarif (expected_by (Some count)) expected is)
 
-alone_at : (yacc : Text) (states graph : Option Text) (strict : Bool) (expected : Option ℕ) (form : AnswerForm)
+alone_at : (yacc : Text) (states graph : Option Text) (strict : Bool) (expected : Option ℕ) (form : ReportForm)
     (i j : ℕ) (format : Option Version) (count : Option Text)
     → IsCount (explain None yacc states graph (record { strict = strict; expected = expected }) form) count
     → (states ≡ None) × (graph ≡ None) → IsPathWord yacc
     → Met (explain None yacc states graph (record { strict = strict; expected = expected }) form)
-    (codes "--yacc" ∷ ((form_words form ++ (strict_words strict ++ count_words count))
+    (codes "--yacc" ∷ ((report_form_words form ++ (strict_words strict ++ count_words count))
     ++ words_at i j (explain None yacc states graph (record { strict = strict; expected = expected }) form) format))
 alone_at yacc states graph strict (Some n) form i j format None says alone p =
     absurd (true≢false (sym (ap (λ o. is_some (unwrap_or o None)) says.0)))
-alone_at yacc None None true None Plain i j format None says alone p =
+alone_at yacc None None true None report_form.Plain i j format None says alone p =
     met (long (codes "yacc") ∷ long (codes "strict") ∷ path yacc ∷ []) (alone_name, (strict_name, (p, tt)))
     refl refl refl refl
-alone_at yacc None None false None Plain i j format None says alone p =
+alone_at yacc None None false None report_form.Plain i j format None says alone p =
     met (long (codes "yacc") ∷ path yacc ∷ []) (alone_name, (p, tt)) refl refl refl refl
-alone_at yacc None None true None Json i j format None says alone p =
+alone_at yacc None None true None report_form.Json i j format None says alone p =
     met (long (codes "yacc") ∷ long (codes "json") ∷ long (codes "strict") ∷ path yacc ∷ [])
     (alone_name, (json_name, (strict_name, (p, tt)))) refl refl refl refl
-alone_at yacc None None false None Json i j format None says alone p =
+alone_at yacc None None true None report_form.Sarif i j format None says alone p =
+    met (long (codes "yacc") ∷ long (codes "sarif") ∷ long (codes "strict") ∷ path yacc ∷ [])
+    (alone_name, (sarif_name, (strict_name, (p, tt)))) refl refl refl refl
+alone_at yacc None None false None report_form.Json i j format None says alone p =
     met (long (codes "yacc") ∷ long (codes "json") ∷ path yacc ∷ []) (alone_name, (json_name, (p, tt)))
     refl refl refl refl
-alone_at yacc None None true expected Plain i j format (Some count) says alone p =
-    counted_alone_met yacc count true Plain expected says.0 says.1.0 p
-alone_at yacc None None false expected Plain i j format (Some count) says alone p =
-    counted_alone_met yacc count false Plain expected says.0 says.1.0 p
-alone_at yacc None None true expected Json i j format (Some count) says alone p =
-    counted_alone_met yacc count true Json expected says.0 says.1.0 p
-alone_at yacc None None false expected Json i j format (Some count) says alone p =
-    counted_alone_met yacc count false Json expected says.0 says.1.0 p
+alone_at yacc None None false None report_form.Sarif i j format None says alone p =
+    met (long (codes "yacc") ∷ long (codes "sarif") ∷ path yacc ∷ []) (alone_name, (sarif_name, (p, tt)))
+    refl refl refl refl
+alone_at yacc None None true expected report_form.Plain i j format (Some count) says alone p =
+    counted_alone_met yacc count true report_form.Plain expected says.0 says.1.0 p
+alone_at yacc None None false expected report_form.Plain i j format (Some count) says alone p =
+    counted_alone_met yacc count false report_form.Plain expected says.0 says.1.0 p
+alone_at yacc None None true expected report_form.Json i j format (Some count) says alone p =
+    counted_alone_met yacc count true report_form.Json expected says.0 says.1.0 p
+alone_at yacc None None true expected report_form.Sarif i j format (Some count) says alone p =
+    counted_alone_met yacc count true report_form.Sarif expected says.0 says.1.0 p
+alone_at yacc None None false expected report_form.Json i j format (Some count) says alone p =
+    counted_alone_met yacc count false report_form.Json expected says.0 says.1.0 p
+alone_at yacc None None false expected report_form.Sarif i j format (Some count) says alone p =
+    counted_alone_met yacc count false report_form.Sarif expected says.0 says.1.0 p
 alone_at yacc (Some file) graph strict expected form i j format count says alone p =
     absurd (true≢false (ap is_some alone.0))
 alone_at yacc None (Some file) strict expected form i j format count says alone p =
     absurd (true≢false (ap is_some alone.1))
 
--- whether an answer is one of JSON
-abbrev is_json : AnswerForm → Bool
-is_json Json = true
-is_json Plain = false
+-- whether a report isn't text for people
+abbrev is_data : ReportForm → Bool
+is_data report_form.Json = true
+is_data report_form.Sarif = true
+is_data report_form.Plain = false
 
 -- the words of `explain`, with a count if one is said
-explain_at : (lex yacc : Text) (states graph : Option Text) (strict : Bool) (expected : Option ℕ) (form : AnswerForm)
+explain_at : (lex yacc : Text) (states graph : Option Text) (strict : Bool) (expected : Option ℕ) (form : ReportForm)
     (i j : ℕ) (format : Option Version) (count : Option Text)
     → IsCount (explain (Some lex) yacc states graph (record { strict = strict; expected = expected }) form) count
     → StandAlone (explain (Some lex) yacc states graph (record { strict = strict; expected = expected }) form) count
     format
     → IsPathWord lex × IsPathWord yacc → ArePathWords (as_list states ++ as_list graph)
     → Met (explain (Some lex) yacc states graph (record { strict = strict; expected = expected }) form)
-    ((form_words form ++ (strict_words strict ++ count_words count))
+    ((report_form_words form ++ (strict_words strict ++ count_words count))
     ++ words_at i j (explain (Some lex) yacc states graph (record { strict = strict; expected = expected }) form)
     format)
 explain_at lex yacc states graph strict (Some n) form i j format None says alone paths r =
     absurd (true≢false (sym (ap (λ o. is_some (unwrap_or o None)) says.0)))
-explain_at lex yacc states graph false None Plain i j format None says alone paths r =
+explain_at lex yacc states graph false None report_form.Plain i j format None says alone paths r =
     explain_met lex yacc states graph i j format paths r
-explain_at lex yacc None None true None Plain i j format None says alone paths r =
+explain_at lex yacc None None true None report_form.Plain i j format None says alone paths r =
     met (long (codes "strict") ∷ path lex ∷ path yacc ∷ []) (strict_name, (paths.0, (paths.1, tt))) refl refl refl refl
-explain_at lex yacc None None true None Json i j format None says alone paths r =
+explain_at lex yacc None None true None report_form.Json i j format None says alone paths r =
     met (long (codes "json") ∷ long (codes "strict") ∷ path lex ∷ path yacc ∷ [])
     (json_name, (strict_name, (paths.0, (paths.1, tt)))) refl refl refl refl
-explain_at lex yacc None None false None Json i j format None says alone paths r =
+explain_at lex yacc None None true None report_form.Sarif i j format None says alone paths r =
+    met (long (codes "sarif") ∷ long (codes "strict") ∷ path lex ∷ path yacc ∷ [])
+    (sarif_name, (strict_name, (paths.0, (paths.1, tt)))) refl refl refl refl
+explain_at lex yacc None None false None report_form.Json i j format None says alone paths r =
     met (long (codes "json") ∷ path lex ∷ path yacc ∷ []) (json_name, (paths.0, (paths.1, tt))) refl refl refl refl
-explain_at lex yacc None None true expected Plain i j format (Some count) says alone paths r =
-    counted_explain_met lex yacc count true Plain expected says.0 says.1.0 paths
-explain_at lex yacc None None false expected Plain i j format (Some count) says alone paths r =
-    counted_explain_met lex yacc count false Plain expected says.0 says.1.0 paths
-explain_at lex yacc None None true expected Json i j format (Some count) says alone paths r =
-    counted_explain_met lex yacc count true Json expected says.0 says.1.0 paths
-explain_at lex yacc None None false expected Json i j format (Some count) says alone paths r =
-    counted_explain_met lex yacc count false Json expected says.0 says.1.0 paths
+explain_at lex yacc None None false None report_form.Sarif i j format None says alone paths r =
+    met (long (codes "sarif") ∷ path lex ∷ path yacc ∷ []) (sarif_name, (paths.0, (paths.1, tt))) refl refl refl refl
+explain_at lex yacc None None true expected report_form.Plain i j format (Some count) says alone paths r =
+    counted_explain_met lex yacc count true report_form.Plain expected says.0 says.1.0 paths
+explain_at lex yacc None None false expected report_form.Plain i j format (Some count) says alone paths r =
+    counted_explain_met lex yacc count false report_form.Plain expected says.0 says.1.0 paths
+explain_at lex yacc None None true expected report_form.Json i j format (Some count) says alone paths r =
+    counted_explain_met lex yacc count true report_form.Json expected says.0 says.1.0 paths
+explain_at lex yacc None None true expected report_form.Sarif i j format (Some count) says alone paths r =
+    counted_explain_met lex yacc count true report_form.Sarif expected says.0 says.1.0 paths
+explain_at lex yacc None None false expected report_form.Json i j format (Some count) says alone paths r =
+    counted_explain_met lex yacc count false report_form.Json expected says.0 says.1.0 paths
+explain_at lex yacc None None false expected report_form.Sarif i j format (Some count) says alone paths r =
+    counted_explain_met lex yacc count false report_form.Sarif expected says.0 says.1.0 paths
 explain_at lex yacc states graph true expected form i j format count says (inl plain) paths r =
     absurd (true≢false plain.0)
 explain_at lex yacc states graph false expected form i j format (Some count) says (inl plain) paths r =
     absurd (true≢false (ap is_some plain.1))
-explain_at lex yacc states graph false None Json i j format None says (inl plain) paths r =
-    absurd (true≢false (ap is_json plain.2))
+explain_at lex yacc states graph false None report_form.Json i j format None says (inl plain) paths r =
+    absurd (true≢false (ap is_data plain.2))
+explain_at lex yacc states graph false None report_form.Sarif i j format None says (inl plain) paths r =
+    absurd (true≢false (ap is_data plain.2))
 explain_at lex yacc (Some file) graph strict expected form i j format count says (inr alone) paths r =
     absurd (true≢false (ap is_some alone.0))
 explain_at lex yacc None (Some file) strict expected form i j format count says (inr alone) paths r =

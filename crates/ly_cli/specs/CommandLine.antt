@@ -16,6 +16,8 @@ use Rattle.ly_print.specs.declared.answer_form.AnswerForm.TheVariants.{Json, Pla
 use Rattle.ly_cli.specs.Request.{Request, build, check, explain, lines, run, run_placed, table_tokens}
 use Rattle.ly_cli.specs.Request.{tokens, try, try_placed}
 use Rattle.ly_cli.specs.declared.command.Answering.{Answering}
+use Rattle.ly_cli.specs.declared.command.ReportForm.{ReportForm}
+use Rattle.ly_cli.specs.declared.command.ReportForm.TheVariants as report_form
 use Rattle.ly_cli.specs.declared.command.Strictness.{Strictness}
 
 -- a required path
@@ -61,6 +63,10 @@ lines_rule = flag_rule (codes "LINES") (codes "lines")
 -- `--json`
 abbrev pub json_rule : Rule
 json_rule = flag_rule (codes "JSON") (codes "json")
+
+-- `--sarif`
+abbrev pub sarif_rule : Rule
+sarif_rule = flag_rule (codes "SARIF") (codes "sarif")
 
 -- `--places`
 abbrev pub places_rule : Rule
@@ -119,9 +125,11 @@ abbrev pub explain_paths_app : App
 explain_paths_app = app_with (codes "explain")
     (path_rule (codes "LEX") ∷ other_rule ∷ states_rule ∷ graph_rule ∷ [])
 
+abbrev pub explain_forms_app : App
+explain_forms_app = with_rule (with_rule (with_rule explain_paths_app alone_rule) json_rule) sarif_rule
+
 abbrev pub explain_app : App
-explain_app =
-    with_rule (with_rule (with_rule (with_rule explain_paths_app alone_rule) json_rule) strict_rule) expect_rule
+explain_app = with_rule (with_rule explain_forms_app strict_rule) expect_rule
 
 -- the program's name alone, which has a version and requires a subcommand
 abbrev pub top_app : App
@@ -146,6 +154,12 @@ is_said value id = option_map_or (λ word. bytes_eq word (codes "true")) (value 
 -- the form of the output, by `--json`
 abbrev pub form_by : (Text → Option Text) → AnswerForm
 form_by value = if is_said value (codes "JSON") then Json else Plain
+
+-- the form of the report, by `--json` and `--sarif`, of which at most one may be given
+abbrev pub report_form_by : (Text → Option Text) → Option ReportForm
+report_form_by value = if is_said value (codes "JSON")
+    then if is_said value (codes "SARIF") then None else Some report_form.Json
+    else if is_said value (codes "SARIF") then Some report_form.Sarif else Some report_form.Plain
 
 -- how a result is written, by the flags among the arguments
 abbrev pub answering_by : (Text → Option Text) → Answering
@@ -216,16 +230,16 @@ abbrev pub check_by : (Text → Option Text) → Option Request
 check_by value = option_map (λ table_file. check table_file (answering_by value)) (value (codes "TABLES"))
 
 -- a yacc file is checked alone, or both files are
-abbrev pub explained : Bool → Text → Option Text → Option Text → Option Text → Strictness → AnswerForm → Option Request
+abbrev pub explained : Bool → Text → Option Text → Option Text → Option Text → Strictness → ReportForm → Option Request
 explained false lex (Some yacc) states graph strictness form =
     Some (explain (Some lex) yacc states graph strictness form)
 explained true yacc None states graph strictness form = Some (explain None yacc states graph strictness form)
 explained _ first second states graph strictness form = None
 
 abbrev pub explain_by : (Text → Option Text) → Option Request
-explain_by value = option_and_then (λ first. option_and_then (λ strictness.
+explain_by value = option_and_then (λ first. option_and_then (λ form. option_and_then (λ strictness.
     explained (is_said value (codes "GRAMMAR")) first (value (codes "YACC")) (value (codes "STATES"))
-    (value (codes "GRAPH")) strictness (form_by value)) (strictness_by value)) (value (codes "LEX"))
+    (value (codes "GRAPH")) strictness form) (strictness_by value)) (report_form_by value)) (value (codes "LEX"))
 
 abbrev pub request_named : Text → (Text → Option Text) → Option Request
 request_named name value =

@@ -11,6 +11,8 @@ use Rattle.ly_cli.specs.CommandLine.{expected_by}
 use Rattle.ly_cli.specs.Request.{Request, build, check, explain, lines, run, run_placed, table_tokens}
 use Rattle.ly_cli.specs.Request.{tokens, try, try_placed}
 use Rattle.ly_cli.specs.declared.command.Answering.{Answering}
+use Rattle.ly_cli.specs.declared.command.ReportForm.{ReportForm}
+use Rattle.ly_cli.specs.declared.command.ReportForm.TheVariants as report_form
 
 -- an argument that is no option: a single minus sign, or one that doesn't begin with a minus sign
 abbrev pub IsPathWord : Text → Type 0
@@ -71,6 +73,12 @@ abbrev pub form_words : AnswerForm → List Text
 form_words Json = codes "--json" ∷ []
 form_words Plain = []
 
+-- the flag for the form of a report; text for people has none
+abbrev pub report_form_words : ReportForm → List Text
+report_form_words report_form.Json = codes "--json" ∷ []
+report_form_words report_form.Sarif = codes "--sarif" ∷ []
+report_form_words report_form.Plain = []
+
 -- the flags for how a result is written
 abbrev pub answering_words : Answering → List Text
 answering_words by = form_words by.form ++ pointing_words by.points
@@ -102,7 +110,7 @@ flags_of (run_placed table_file text points) count = codes "--places" ∷ pointi
 flags_of (try_placed lex yacc text points) count = codes "--places" ∷ pointing_words points
 flags_of (check table_file by) count = answering_words by
 flags_of (explain lex yacc states graph strictness form) count =
-    alone_words lex ++ (form_words form ++ (strict_words strictness.strict ++ count_words count))
+    alone_words lex ++ (report_form_words form ++ (strict_words strictness.strict ++ count_words count))
 
 -- how many conflicts are expected
 abbrev pub expected_of : Request → Option ℕ
@@ -120,7 +128,7 @@ StandAlone (build lex yacc table_file report version expected points) count form
     (count ≡ None) ⊎ ((report ≡ None) × (format ≡ None))
 StandAlone (explain None yacc states graph strictness form) count format = (states ≡ None) × (graph ≡ None)
 StandAlone (explain (Some lex) yacc states graph strictness form) count format =
-    ((strictness.strict ≡ false) × (count ≡ None) × (form ≡ Plain)) ⊎ ((states ≡ None) × (graph ≡ None))
+    ((strictness.strict ≡ false) × (count ≡ None) × (form ≡ report_form.Plain)) ⊎ ((states ≡ None) × (graph ≡ None))
 StandAlone _ count format = Unit {0}
 
 -- the number of a version

@@ -2,8 +2,8 @@
 use Rattle.std.specs.Prelude.{Bool, Option, ℕ}
 use Rattle.clap.specs.Words.{Text}
 use Rattle.ly_base.specs.declared.version.Version.{Version}
-use Rattle.ly_print.specs.declared.answer_form.AnswerForm.{AnswerForm}
 use Rattle.ly_cli.specs.declared.command.Answering.{Answering}
+use Rattle.ly_cli.specs.declared.command.ReportForm.{ReportForm}
 use Rattle.ly_cli.specs.declared.command.Strictness.{Strictness}
 
 -- A command: the paths that it is given, the version of the table file to write, which warnings and conflicts are
@@ -20,4 +20,4 @@ pub data Request : Type 0 where
   try_placed : (lex yacc : Text) → (text : Option Text) → (points : Bool) → Request
   check : (tables : Text) → (by : Answering) → Request
   explain : (lex : Option Text) → (yacc : Text) → (states graph : Option Text) → (strictness : Strictness)
-      → (form : AnswerForm) → Request
+      → (form : ReportForm) → Request

@@ -101,8 +101,19 @@ pub enum Command<'a> {
         /// Which warnings and conflicts make the command exit with 1.
         strictness: Strictness,
         /// How the report is written.
-        form: AnswerForm,
+        form: ReportForm,
     },
+}
+
+/// The form of the report of `explain`.
+#[derive(Clone, Copy, Debug, PartialEq, Eq)]
+pub enum ReportForm {
+    /// Text for people.
+    Plain,
+    /// One line of JSON.
+    Json,
+    /// One line of SARIF 2.1.0.
+    Sarif,
 }
 
 /// Which warnings and conflicts accepted files may have. If they have others, `explain` exits with 1.

@@ -3,11 +3,14 @@ ghost use Rattle.std.specs.Prelude.{MatchResult, string_bytes, true};
 ghost use Rattle.clap.specs.Words.{first_value, found_of, kind_of, subcommand_rows_of};
 ghost use Rattle.ly_cli.specs.CommandLine.{answering_by, build_by, check_by, count_by, strictness_by, expected_by};
 ghost use Rattle.ly_cli.specs.CommandLine.{explain_by, form_by, is_said, line_faults, line_takes, request_by};
-ghost use Rattle.ly_cli.specs.CommandLine.{request_of, run_by, subcommand_in, tokens_by, try_by, version_by, Mean};
+ghost use Rattle.ly_cli.specs.CommandLine.{report_form_by, request_of, run_by, subcommand_in, tokens_by, try_by};
+ghost use Rattle.ly_cli.specs.CommandLine.{version_by, Mean};
 ghost use Rattle.ly_cli.specs.Command.{said};
 ghost use Rattle.ly_cli.specs.Request.{Request};
 
-use crate::command::{Answering, Command, CommandFault, ExplainPaths, Paths, Strictness};
+use crate::command::{
+    Answering, Command, CommandFault, ExplainPaths, Paths, ReportForm, Strictness,
+};
 use crate::line::line;
 use clap::ArgMatches;
 use clap::error::ErrorKind;
@@ -24,6 +27,8 @@ const NO_COUNT: &str =
 const NO_PAIR: &str =
     "error: explain takes a lex file and a yacc file, or '--yacc' and a yacc file alone\n";
 
+const NO_FORM: &str = "error: the argument '--json' cannot be used with '--sarif'\n";
+
 const NO_LINES: &str = "error: the argument '--lines' cannot be used with '--places'\n";
 
 /// Reads the arguments, the first of which is the program's name: `tokens LEX [TEXT] [--json] [--where]`,
@@ -31,12 +36,13 @@ const NO_LINES: &str = "error: the argument '--lines' cannot be used with '--pla
 /// `build LEX YACC TABLES [--report FILE] [--format 1|2] [--expect COUNT] [--where]`,
 /// `run TABLES [TEXT] [--lines] [--json] [--places] [--where]`,
 /// `try LEX YACC [TEXT] [--json] [--places] [--where]`, `check TABLES [--json] [--where]` or
-/// `explain LEX YACC [--json] [--states FILE] [--graph FILE] [--strict] [--expect COUNT]`, or this with `--yacc YACC`
-/// in place of both files. `--places` implies `--json`.
+/// `explain LEX YACC [--json|--sarif] [--states FILE] [--graph FILE] [--strict] [--expect COUNT]`, or this with
+/// `--yacc YACC` in place of both files. `--places` implies `--json`.
 ///
 /// Returns `Help` if a help text or the version is requested. Returns `Bad` if `clap` rejects the arguments for another
-/// reason, if `--format` is neither 1 nor 2, if `--expect` has no number, if `--lines` comes with `--places`, or if
-/// `explain` gets a file too few or too many. Returns `OutOfMemory` if an allocation fails.
+/// reason, if `--format` is neither 1 nor 2, if `--expect` has no number, if `--lines` comes with `--places` or `--json`
+/// of `explain` with `--sarif`, or if `explain` gets a file too few or too many. Returns `OutOfMemory` if an allocation
+/// fails.
 pub fn read_command<'a>(alloc: Global, words: &'a [String]) -> Result<Command<'a>, CommandFault>
     ensures said { IfOk result (λ c. request_of (map string_bytes words.entry.now) ≡ Some (said c)) }
     ensures faultless { OnOk result (line_faults (map string_bytes words.entry.now) ≡ []) }
@@ -57,6 +63,7 @@ fn wrong_with(matches: &ArgMatches<'_>) -> &'static str {
     match matches.subcommand() {
         Some(("build", values)) if version_of(values.get_str("VERSION")).is_none() => NO_VERSION,
         Some(("build" | "explain", values)) if expected_in(values).is_none() => NO_COUNT,
+        Some(("explain", values)) if report_form_in(values).is_none() => NO_FORM,
         Some(("explain", _)) => NO_PAIR,
         _ => NO_LINES,
     }
@@ -258,8 +265,8 @@ fn explain_in<'a>(values: &ArgMatches<'a>) -> Option<Command<'a>>
     let second = values.get_str("YACC");
     let states = values.get_str("STATES");
     let graph = values.get_str("GRAPH");
+    let form = report_form_in(values)?;
     let strictness = strictness_in(values)?;
-    let form = form_in(values);
     match (is_said(values, "GRAMMAR"), second) {
         (false, Some(yacc)) => Some(Command::Explain {
             paths: ExplainPaths {
@@ -282,6 +289,18 @@ fn explain_in<'a>(values: &ArgMatches<'a>) -> Option<Command<'a>>
             form,
         }),
         _ => None,
+    }
+}
+
+/// The form of the report, by `--json` and `--sarif`. Returns `None` if both are given.
+fn report_form_in(values: &ArgMatches<'_>) -> Option<ReportForm>
+    ensures { result ≡ report_form_by (first_value (found_of values.now)) }
+{
+    match (is_said(values, "JSON"), is_said(values, "SARIF")) {
+        (false, false) => Some(ReportForm::Plain),
+        (true, false) => Some(ReportForm::Json),
+        (false, true) => Some(ReportForm::Sarif),
+        (true, true) => None,
     }
 }
 

@@ -13,6 +13,6 @@ mod command_line;
 mod laws;
 mod line;
 
-pub use command::{Answering, Command, CommandFault, ExplainPaths, Paths, Strictness};
+pub use command::{Answering, Command, CommandFault, ExplainPaths, Paths, ReportForm, Strictness};
 pub use command_line::read_command;
 pub use laws::words_that_ask_mean;

@@ -1,8 +1,9 @@
 ghost use Rattle.std.specs.Prelude.{◌≡◌, IfOk, codes, false};
 ghost use Rattle.clap.specs.Words.{App, app_of, rule_of, with_subcommand};
 ghost use Rattle.ly_cli.specs.CommandLine.{IsApp, build_app, build_paths_app, check_app, expect_rule, explain_app};
-ghost use Rattle.ly_cli.specs.CommandLine.{explain_paths_app, files_app, flag_rule, format_rule, graph_rule};
-ghost use Rattle.ly_cli.specs.CommandLine.{line_app, other_rule, path_rule, report_rule, run_app, run_paths_app};
+ghost use Rattle.ly_cli.specs.CommandLine.{explain_forms_app, explain_paths_app, files_app, flag_rule, format_rule};
+ghost use Rattle.ly_cli.specs.CommandLine.{graph_rule, line_app, other_rule, path_rule, report_rule, run_app};
+ghost use Rattle.ly_cli.specs.CommandLine.{run_paths_app};
 ghost use Rattle.ly_cli.specs.CommandLine.{states_rule, text_rule, tokens_app, tokens_paths_app, top_app, try_app};
 
 use clap::{Arg, ArgAction, Command};
@@ -148,11 +149,17 @@ fn check_line<'a>(alloc: Global) -> Result<Command<'a>, AllocError>
 fn explain_line<'a>(alloc: Global) -> Result<Command<'a>, AllocError>
     ensures { IfOk result (IsApp explain_app) }
 {
+    explain_forms(alloc)?.arg(strict(alloc))?.arg(expect(alloc))
+}
+
+/// The subcommand `explain` with its paths and the flags for what is read and in which form the report is.
+fn explain_forms<'a>(alloc: Global) -> Result<Command<'a>, AllocError>
+    ensures { IfOk result (IsApp explain_forms_app) }
+{
     explain_paths(alloc)?
         .arg(alone(alloc))?
         .arg(json(alloc))?
-        .arg(strict(alloc))?
-        .arg(expect(alloc))
+        .arg(sarif(alloc))
 }
 
 /// The subcommand `explain` with its paths alone.
@@ -251,6 +258,17 @@ fn json<'a>(alloc: Global) -> Arg<'a>
         .long("json")
         .action(ArgAction::SetTrue)
         .help("Print the result as JSON")
+}
+
+/// `--sarif`.
+fn sarif<'a>(alloc: Global) -> Arg<'a>
+    ensures rule { rule_of result ≡ flag_rule (codes "SARIF") (codes "sarif") }
+    ensures local { result.global ≡ false }
+{
+    Arg::new(alloc, "SARIF")
+        .long("sarif")
+        .action(ArgAction::SetTrue)
+        .help("Print the findings as SARIF 2.1.0, for code scanning and editors")
 }
 
 /// `--places`.

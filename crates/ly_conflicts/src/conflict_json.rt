@@ -2,7 +2,7 @@
 use crate::ambiguity::Ambiguity;
 use crate::group_report::{GroupReport, Readings, Shown, Spot};
 use crate::headings::{has_reason, write_reason, write_summary};
-use crate::trees::told_apart;
+use crate::trees::distinct_trees;
 use crate::ways::{Ways, drawn_ways};
 use ly_analysis::{Analysis, Places, ends, write_numbered};
 use ly_base::{OutOfMemory, RuleNo, Sym};
@@ -17,16 +17,16 @@ pub(crate) fn write_conflict(
     buffer: &mut TextBuffer,
     files: &Analysis<'_>,
     places: &Places,
-    told: &GroupReport<'_>,
+    report: &GroupReport<'_>,
 ) -> Result<(), OutOfMemory> {
-    let (spec, conflict) = (files.spec, &told.conflict);
+    let (spec, conflict) = (files.spec, &report.conflict);
     buffer.push(b"{\"state\":");
     buffer.push_number(conflict.state.0 as u64);
     buffer.push_json_key(b"after");
-    let prefix = &told.prefix;
+    let prefix = &report.prefix;
     write_row(buffer, spec, &prefix.front, prefix.left_out, &prefix.back);
     buffer.push_json_key(b"before");
-    write_terminals(buffer, spec, &told.terminals);
+    write_terminals(buffer, spec, &report.terminals);
     buffer.push(match conflict.kind {
         ConflictKind::ShiftReduce => b",\"kind\":\"shift/reduce\"".as_slice(),
         ConflictKind::ReduceReduce => b",\"kind\":\"reduce/reduce\"",
@@ -36,18 +36,18 @@ pub(crate) fn write_conflict(
         Action::Reduce(_) => b",\"taken\":\"rule\"",
         Action::Error => b",\"taken\":\"nothing\"",
     });
-    write_rules(buffer, files, places, told);
+    write_rules(buffer, files, places, report);
     buffer.push_json_key(b"reason");
     if has_reason(conflict) {
         let mut words = buffer.beside();
-        write_reason(&mut words, spec, conflict, told.terminals.len());
+        write_reason(&mut words, spec, conflict, report.terminals.len());
         buffer.push_json_buffer(words);
     } else {
         buffer.push(b"null");
     }
-    write_shown(alloc, buffer, spec, told)?;
-    write_other(alloc, buffer, spec, told)?;
-    write_finding(buffer, files, places, told);
+    write_shown(alloc, buffer, spec, report)?;
+    write_other(alloc, buffer, spec, report)?;
+    write_finding(buffer, files, places, report);
     buffer.push(b"}");
     Ok(())
 }
@@ -57,19 +57,16 @@ fn write_finding(
     buffer: &mut TextBuffer,
     files: &Analysis<'_>,
     places: &Places,
-    told: &GroupReport<'_>,
+    report: &GroupReport<'_>,
 ) {
     buffer.push_json_key(b"file");
     buffer.push_json(files.yacc.name.as_bytes());
-    let code: &[u8] = match told.conflict.kind {
-        ConflictKind::ShiftReduce => b"ShiftReduce",
-        ConflictKind::ReduceReduce => b"ReduceReduce",
-    };
+    let code = code_of(report.conflict.kind);
     let mut message = buffer.beside();
-    write_summary(&mut message, files.spec, told);
-    let place = place_of_rule(files, places, told.conflict.rule);
+    write_summary(&mut message, files.spec, report);
+    let place = place_of_rule(files, places, report.conflict.rule);
     buffer.push_json_finding(b"warning", code, place, message);
-    if let Action::Reduce(rule) = told.conflict.choice {
+    if let Action::Reduce(rule) = report.conflict.choice {
         buffer.push_json_key(b"related");
         buffer.push(b"[");
         let mut words = buffer.beside();
@@ -79,8 +76,20 @@ fn write_finding(
     }
 }
 
+/// The name of a kind of conflict among findings.
+pub(crate) fn code_of(kind: ConflictKind) -> &'static [u8] {
+    match kind {
+        ConflictKind::ShiftReduce => b"ShiftReduce",
+        ConflictKind::ReduceReduce => b"ReduceReduce",
+    }
+}
+
 /// The place of a rule.
-fn place_of_rule<'f>(files: &Analysis<'f>, places: &Places, rule: RuleNo) -> FindingPlace<'f> {
+pub(crate) fn place_of_rule<'f>(
+    files: &Analysis<'f>,
+    places: &Places,
+    rule: RuleNo,
+) -> FindingPlace<'f> {
     FindingPlace {
         file: files.yacc,
         at: Some(places.location_of_rule(rule.0 as usize)),
@@ -93,10 +102,10 @@ fn write_other(
     alloc: Global,
     buffer: &mut TextBuffer,
     spec: &Spec,
-    told: &GroupReport<'_>,
+    report: &GroupReport<'_>,
 ) -> Result<(), OutOfMemory> {
     buffer.push_json_key(b"other");
-    match &told.other {
+    match &report.other {
         Some(other) => {
             buffer.push(b"{\"before\":");
             write_symbol(buffer, spec, Symbol::Terminal(other.conflict.terminal));
@@ -113,15 +122,15 @@ fn write_rules(
     buffer: &mut TextBuffer,
     files: &Analysis<'_>,
     places: &Places,
-    told: &GroupReport<'_>,
+    report: &GroupReport<'_>,
 ) {
     buffer.push_json_key(b"rules");
     buffer.push(b"[");
-    if let Action::Reduce(rule) = told.conflict.choice {
+    if let Action::Reduce(rule) = report.conflict.choice {
         write_rule(buffer, files, places, rule);
         buffer.push(b",");
     }
-    write_rule(buffer, files, places, told.conflict.rule);
+    write_rule(buffer, files, places, report.conflict.rule);
     buffer.push(b"]");
 }
 
@@ -148,10 +157,10 @@ fn write_shown(
     alloc: Global,
     buffer: &mut TextBuffer,
     spec: &Spec,
-    told: &GroupReport<'_>,
+    report: &GroupReport<'_>,
 ) -> Result<(), OutOfMemory> {
     buffer.push_json_key(b"search");
-    match &told.shown {
+    match &report.shown {
         Shown::Unsought => {
             buffer.push(b"\"skipped\"");
             write_no_spot(buffer);
@@ -239,7 +248,7 @@ fn write_sentence(
     match found {
         Some(ambiguity) => {
             write_terminals(buffer, spec, &ambiguity.sentence);
-            let (one, other) = told_apart(alloc, spec, ambiguity)?;
+            let (one, other) = distinct_trees(alloc, spec, ambiguity)?;
             buffer.push_json_key(b"trees");
             write_both(buffer, &one, &other);
         }

@@ -12,16 +12,16 @@ use ly_text_buffer::TextBuffer;
 use std::alloc::Global;
 
 /// Prints a group of conflicts.
-pub(crate) fn write_told(
+pub(crate) fn write_group(
     alloc: Global,
     buffer: &mut TextBuffer,
     files: &Analysis<'_>,
     places: &Places,
-    told: &GroupReport<'_>,
+    report: &GroupReport<'_>,
 ) -> Result<(), OutOfMemory> {
-    write_heading(buffer, files, places, told);
-    let (spec, conflict) = (files.spec, &told.conflict);
-    match &told.shown {
+    write_heading(buffer, files, places, report);
+    let (spec, conflict) = (files.spec, &report.conflict);
+    match &report.shown {
         Shown::Unsought => {}
         Shown::At(spot) => {
             write_spot(buffer, spec, conflict, spot);
@@ -29,14 +29,14 @@ pub(crate) fn write_told(
                 Readings::Same => write_same(buffer, conflict),
                 Readings::Ways(ways, found) => {
                     write_ways(alloc, buffer, spec, conflict, ways)?;
-                    write_sentence(alloc, buffer, spec, told, found)?;
+                    write_sentence(alloc, buffer, spec, report, found)?;
                 }
             }
         }
         Shown::Merged(ways) => write_merged(alloc, buffer, spec, conflict, ways)?,
         Shown::Unknown(found) => {
             buffer.push(b"    No example found: the search reached its limit.\n");
-            write_sentence(alloc, buffer, spec, told, found)?;
+            write_sentence(alloc, buffer, spec, report, found)?;
         }
     }
     Ok(())
@@ -102,19 +102,19 @@ fn write_sentence(
     alloc: Global,
     buffer: &mut TextBuffer,
     spec: &Spec,
-    told: &GroupReport<'_>,
+    report: &GroupReport<'_>,
     found: &Option<Ambiguity>,
 ) -> Result<(), OutOfMemory> {
     if let Some(ambiguity) = found {
         return write_ambiguity(alloc, buffer, spec, None, ambiguity);
     }
     buffer.push(b"    No ambiguous sentence found");
-    if told.other.is_some() {
+    if report.other.is_some() {
         buffer.push(b" before ");
-        buffer.push_terminal(spec, told.conflict.terminal);
+        buffer.push_terminal(spec, report.conflict.terminal);
     }
-    buffer.push(b": the search reached its limit.\n");
-    match &told.other {
+    buffer.push(b" within the limits of the search.\n");
+    match &report.other {
         Some(other) => {
             let terminal = Some(other.conflict.terminal);
             write_ambiguity(alloc, buffer, spec, terminal, &other.found)
@@ -124,7 +124,7 @@ fn write_sentence(
 }
 
 /// Prints the number of groups of conflicts that aren't printed, if there are any.
-pub(crate) fn write_untold(buffer: &mut TextBuffer, count: usize) {
+pub(crate) fn write_omitted(buffer: &mut TextBuffer, count: usize) {
     if count > 0 {
         buffer.push(b"\n");
         write_large(buffer, count as u64);

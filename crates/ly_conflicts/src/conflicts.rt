@@ -1,6 +1,7 @@
 //! The report of the conflicts: the resolution, why precedence doesn't settle it, and a counterexample where both
 //! actions are possible.
-ghost use Rattle.std.specs.Prelude.{◌≡◌, ◌<◌, ℕ, Contains, IfOk, length};
+ghost use Rattle.std.specs.Prelude.{◌≡◌, ◌<◌, ℕ, Contains, IfOk, length, OnErr, OnOk};
+ghost use Rattle.ly_text_buffer.specs.TextBuffer.{SaysMore};
 ghost use Rattle.ly_resolve.specs.Conflicts as spec;
 ghost use Rattle.ly_resolve.specs.Values.{conflict_from, IsInside};
 ghost use Rattle.ly_conflicts.specs.Groups.{AreGroups, IsGroup};
@@ -10,14 +11,15 @@ ghost use Rattle.ly_conflicts.specs.GroupReport.{IsOtherIn};
 
 use crate::ambiguity::{Finder, MOST};
 use crate::conflict_json::write_conflict;
-use crate::conflict_messages::{write_told, write_untold};
+use crate::conflict_messages::{write_group, write_omitted};
+use crate::conflict_sarif::write_results;
 use crate::group_report::{GroupReport, OtherSentence, Readings, Shown, Spot};
 use crate::groups::{BOUND, Group, TOLD, groups_of};
 use crate::meeting::is_met;
 use crate::suggestions::{Suggesting, Suggestion};
 use crate::ways::Drawn;
 use crate::yields::Yields;
-use ly_analysis::{Analysis, Cores, Options, Places, first_of, write_numbered};
+use ly_analysis::{Analysis, Cores, Form, Options, Places, first_of, write_numbered};
 use ly_base::{OutOfMemory, Sym};
 use ly_counterexamples::{Budget, Example, Examples};
 use ly_join::{Grammar, Spec, Symbol};
@@ -35,7 +37,7 @@ const OTHERS: usize = 60;
 
 /// The data for the report of conflicts.
 #[derive(Clone, Copy)]
-struct Teller<'a> {
+struct Reporter<'a> {
     /// The conflicts, and the search for their counterexamples.
     examples: &'a Examples<'a>,
     /// The items of the states.
@@ -47,9 +49,28 @@ struct Teller<'a> {
 }
 
 /// Prints the number of conflicts, and each conflict with a counterexample; or, for JSON, prints these as members of an
-/// object. Conflicts of one state that differ only in the terminal, and whose searches had the same result, form a
-/// group that is printed as one.
+/// object, and for SARIF the conflicts as results with commas between them. Conflicts of one state that differ only in
+/// the terminal, and whose searches had the same result, form a group that is printed as one.
+///
+/// Returns `OutOfMemory` if an allocation outside the page fails. Then the page is unchanged.
 pub fn write_conflicts(
+    alloc: Global,
+    buffer: &mut TextBuffer,
+    files: &Analysis<'_>,
+    places: &Places,
+    options: Options,
+) -> Result<(), OutOfMemory>
+    ensures ok { OnOk result (SaysMore buffer.old buffer.new) }
+    ensures refused { OnErr result (buffer.new ≡ buffer.old) }
+{
+    let mut page = buffer.beside();
+    write_page(alloc, &mut page, files, places, options)?;
+    buffer.push_buffer(page);
+    Ok(())
+}
+
+/// Prints the conflicts on a page of their own.
+fn write_page(
     alloc: Global,
     buffer: &mut TextBuffer,
     files: &Analysis<'_>,
@@ -57,33 +78,37 @@ pub fn write_conflicts(
     options: Options,
 ) -> Result<(), OutOfMemory> {
     let resolved = files.resolved;
-    if !options.json {
+    if options.form == Form::Plain {
         write_counts(buffer, ConflictCounts::of(resolved));
         if resolved.conflicts().is_empty() {
             return Ok(());
         }
     }
     let yields = Yields::of(alloc, resolved.lr0().reduced())?;
-    let teller = Teller {
+    let reporter = Reporter {
         examples: &Examples::new(alloc, resolved)?,
         cores: &Cores::of(alloc, resolved.lr0())?,
         yields: &yields,
         spec: files.spec,
     };
     let mut budget = Budget::new(LOOKS);
-    let groups = groups_of(alloc, teller.examples, &mut budget)?;
-    let suggestion = teller.suggestion(alloc, places, &groups)?;
-    let told = teller.all_told(alloc, &groups, budget)?;
-    let untold = groups.len().saturating_sub(TOLD);
-    if options.json {
-        write_json(alloc, buffer, files, places, &told)?;
-        write_rest(buffer, files.spec, suggestion, untold);
-    } else {
-        if let Some(suggestion) = suggestion {
-            suggestion.write(buffer, files.spec, groups.len());
+    let groups = groups_of(alloc, reporter.examples, &mut budget)?;
+    let suggestion = reporter.suggestion(alloc, places, &groups)?;
+    let reports = reporter.reports(alloc, &groups, budget)?;
+    let omitted = groups.len().saturating_sub(TOLD);
+    match options.form {
+        Form::Json => {
+            write_json(alloc, buffer, files, places, &reports)?;
+            write_rest(buffer, files.spec, suggestion, omitted);
         }
-        write_all(alloc, buffer, files, places, &told)?;
-        write_untold(buffer, untold);
+        Form::Sarif => write_results(buffer, files, places, &reports),
+        Form::Plain => {
+            if let Some(suggestion) = suggestion {
+                suggestion.write(buffer, files.spec, groups.len());
+            }
+            write_all(alloc, buffer, files, places, &reports)?;
+            write_omitted(buffer, omitted);
+        }
     }
     Ok(())
 }
@@ -96,8 +121,8 @@ fn write_all(
     places: &Places,
     groups: &[GroupReport<'_>],
 ) -> Result<(), OutOfMemory> {
-    for told in groups {
-        write_told(alloc, buffer, files, places, told)?;
+    for report in groups {
+        write_group(alloc, buffer, files, places, report)?;
     }
     Ok(())
 }
@@ -112,9 +137,9 @@ fn write_json(
 ) -> Result<(), OutOfMemory> {
     buffer.push_json_key(b"conflicts");
     buffer.push(b"[");
-    for (place, told) in groups.iter().enumerate() {
+    for (place, report) in groups.iter().enumerate() {
         buffer.push(if place > 0 { b"," } else { b"" });
-        write_conflict(alloc, buffer, files, places, told)?;
+        write_conflict(alloc, buffer, files, places, report)?;
     }
     buffer.push(b"]");
     Ok(())
@@ -133,7 +158,12 @@ fn write_counts(buffer: &mut TextBuffer, counts: ConflictCounts) {
 }
 
 /// Prints as JSON the token whose precedence settles the most groups, and the number of groups that aren't printed.
-fn write_rest(buffer: &mut TextBuffer, spec: &Spec, suggestion: Option<Suggestion>, untold: usize) {
+fn write_rest(
+    buffer: &mut TextBuffer,
+    spec: &Spec,
+    suggestion: Option<Suggestion>,
+    omitted: usize,
+) {
     buffer.push_json_key(b"suggestion");
     match suggestion {
         Some(suggestion) => {
@@ -151,10 +181,10 @@ fn write_rest(buffer: &mut TextBuffer, spec: &Spec, suggestion: Option<Suggestio
         }
         None => buffer.push(b"null"),
     }
-    buffer.push_json_number(b"omitted", untold as u64);
+    buffer.push_json_number(b"omitted", omitted as u64);
 }
 
-impl Teller<'_> {
+impl Reporter<'_> {
     /// The precedence that resolves the most groups, if it resolves more than one.
     fn suggestion(
         &self,
@@ -173,25 +203,25 @@ impl Teller<'_> {
     }
 
     /// Collects the data of the groups of conflicts, up to a number of groups.
-    fn all_told<'g>(
+    fn reports<'g>(
         &self,
         alloc: Global,
         groups: &'g [Group],
         budget: Budget,
     ) -> Result<Vec<GroupReport<'g>>, OutOfMemory>
         requires { AreGroups self.now.examples.now groups.now }
-        ensures { IfOk result (λ told. AreGroupReports self.now.examples.now groups.now told.items) }
+        ensures { IfOk result (λ reports. AreGroupReports self.now.examples.now groups.now reports.items) }
     {
         let mut finder = Finder::new(self.examples, self.cores, self.yields, budget);
         let mut all = Vec::new(alloc);
         for group in first_of(groups, TOLD) {
-            all.push(self.told(alloc, group, &mut finder)?)?;
+            all.push(self.report(alloc, group, &mut finder)?)?;
         }
         Ok(all)
     }
 
     /// Collects the data of a group of conflicts.
-    fn told<'g>(
+    fn report<'g>(
         &self,
         alloc: Global,
         group: &'g Group,
@@ -199,7 +229,7 @@ impl Teller<'_> {
     ) -> Result<GroupReport<'g>, OutOfMemory>
         requires group { IsGroup self.now.examples.now group.now }
         requires same { finder.old.examples.now ≡ self.now.examples.now }
-        ensures told { IfOk result (IsGroupReport self.now.examples.now group.now.conflicts.items) }
+        ensures report { IfOk result (IsGroupReport self.now.examples.now group.now.conflicts.items) }
         ensures stays { finder.new.examples ≡ finder.old.examples }
     {
         let conflict = self.conflict(group.conflicts[0]);

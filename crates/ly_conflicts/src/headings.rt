@@ -14,16 +14,16 @@ pub(crate) fn write_heading(
     buffer: &mut TextBuffer,
     files: &Analysis<'_>,
     places: &Places,
-    told: &GroupReport<'_>,
+    report: &GroupReport<'_>,
 ) {
-    let conflict = &told.conflict;
+    let conflict = &report.conflict;
     buffer.push(b"\n");
     buffer.push_location_in(
         files.yacc,
         places.location_of_rule(conflict.rule.0 as usize),
     );
     buffer.push(b"warning: ");
-    write_summary(buffer, files.spec, told);
+    write_summary(buffer, files.spec, report);
     buffer.push(b"\n");
     if let Action::Reduce(rule) = conflict.choice {
         write_rule_of(buffer, files, places, rule);
@@ -31,16 +31,16 @@ pub(crate) fn write_heading(
     write_rule_of(buffer, files, places, conflict.rule);
     if has_reason(conflict) {
         buffer.push(b"    ");
-        write_reason(buffer, files.spec, conflict, told.terminals.len());
+        write_reason(buffer, files.spec, conflict, report.terminals.len());
         buffer.push(b"\n");
     }
 }
 
 /// Prints which conflicts a group has, where they are, and how they are resolved.
-pub(crate) fn write_summary(buffer: &mut TextBuffer, spec: &Spec, told: &GroupReport<'_>) {
-    write_place(buffer, spec, told);
-    write_before(buffer, spec, &told.terminals);
-    write_done(buffer, &told.conflict);
+pub(crate) fn write_summary(buffer: &mut TextBuffer, spec: &Spec, report: &GroupReport<'_>) {
+    write_place(buffer, spec, report);
+    write_before(buffer, spec, &report.terminals);
+    write_done(buffer, &report.conflict);
 }
 
 /// Prints the location of a rule, and the rule.
@@ -53,17 +53,17 @@ fn write_rule_of(buffer: &mut TextBuffer, files: &Analysis<'_>, places: &Places,
 }
 
 /// Prints the kind of a group's conflicts and its state: the number and the prefix.
-fn write_place(buffer: &mut TextBuffer, spec: &Spec, told: &GroupReport<'_>) {
-    buffer.push(match told.conflict.kind {
+fn write_place(buffer: &mut TextBuffer, spec: &Spec, report: &GroupReport<'_>) {
+    buffer.push(match report.conflict.kind {
         ConflictKind::ShiftReduce => b"shift/reduce conflict".as_slice(),
         ConflictKind::ReduceReduce => b"reduce/reduce conflict",
     });
-    write_numbered(buffer, b" in state ", told.conflict.state.0 as u64, b"");
-    if told.prefix.front.is_empty() {
+    write_numbered(buffer, b" in state ", report.conflict.state.0 as u64, b"");
+    if report.prefix.front.is_empty() {
         buffer.push(b", at the start");
     } else {
         buffer.push(b", after");
-        write_prefix(buffer, spec, &told.prefix);
+        write_prefix(buffer, spec, &report.prefix);
     }
 }
 

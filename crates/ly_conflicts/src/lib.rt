@@ -17,6 +17,7 @@ mod claims;
 mod common;
 mod conflict_json;
 mod conflict_messages;
+mod conflict_sarif;
 mod conflicts;
 mod drawing;
 mod group_report;

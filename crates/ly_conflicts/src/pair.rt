@@ -116,17 +116,10 @@ impl Pair {
         let lr0 = examples.resolved().lr0();
         let body = body_of(lr0.reduced().grammar(), around.rule);
         let front = body.get(..around.dot).unwrap_or_default();
-        let known = self
-            .string
-            .get(self.reading(which).passed..)
-            .unwrap_or_default();
-        for (symbol, same) in front.iter().rev().zip(known.iter()) {
-            if symbol != same {
-                return Ok(None);
-            }
-        }
-        let new = front.len().saturating_sub(known.len());
-        let new = front.get(..new).unwrap_or_default();
+        let known = self.known_before(which);
+        let Some(new) = unknown_part(front, known) else {
+            return Ok(None);
+        };
         search.take_steps(self.states.len());
         if !self.goes_back_over(lr0, new.last()) {
             return Ok(None);
@@ -151,6 +144,13 @@ impl Pair {
             return Ok(None);
         }
         Ok(Some(before))
+    }
+
+    /// The symbols that are known to precede a parse, the last one first.
+    fn known_before(&self, which: Which) -> &[Symbol] {
+        self.string
+            .get(self.reading(which).passed..)
+            .unwrap_or_default()
     }
 
     /// Whether one of the states is reached by this symbol, if there is one. It is called for each possible enclosing
@@ -276,6 +276,17 @@ impl Pair {
         }
         Ok(key)
     }
+}
+
+/// The symbols of a front that precede the known ones, which stand with the last one first. `None` if the end of the
+/// front isn't what is known.
+fn unknown_part<'s>(front: &'s [Symbol], known: &[Symbol]) -> Option<&'s [Symbol]> {
+    for (symbol, same) in front.iter().rev().zip(known.iter()) {
+        if symbol != same {
+            return None;
+        }
+    }
+    front.get(..front.len().saturating_sub(known.len()))
 }
 
 /// Selects the states in which a rule begins.

@@ -34,7 +34,7 @@ pub(crate) fn write_ambiguity(
     buffer.push(b" has two trees:");
     write_terminals(buffer, spec, &ambiguity.sentence);
     buffer.push(b"\n");
-    let (one, other) = told_apart(alloc, spec, ambiguity)?;
+    let (one, other) = distinct_trees(alloc, spec, ambiguity)?;
     buffer.push(b"       ");
     buffer.push(&one);
     buffer.push(b"\n       ");
@@ -44,7 +44,7 @@ pub(crate) fn write_ambiguity(
 }
 
 /// Two trees as text, with names if brackets alone don't distinguish them, and if there are no tokens.
-pub(crate) fn told_apart(
+pub(crate) fn distinct_trees(
     alloc: Global,
     spec: &Spec,
     ambiguity: &Ambiguity,
@@ -89,7 +89,7 @@ struct Below {
 
 /// The printer of a tree.
 #[derive(Drop)]
-struct Teller<'a> {
+struct TreeWriter<'a> {
     /// The specification.
     spec: &'a Spec,
     /// The style of the output.
@@ -111,7 +111,7 @@ fn tree_of<'a>(
     rules: &'a [usize],
     style: Style,
 ) -> Result<Vec<u8>, OutOfMemory> {
-    let mut teller = Teller {
+    let mut writer = TreeWriter {
         spec,
         style,
         rules,
@@ -119,20 +119,20 @@ fn tree_of<'a>(
         opened: false,
         parts: Vec::new(alloc),
     };
-    teller.parts.push(Part::Symbol(Below {
+    writer.parts.push(Part::Symbol(Below {
         symbol: Symbol::Nonterminal(spec.grammar().start()),
         beside: false,
     }))?;
     for _ in 0..MOST {
-        let Some(part) = teller.parts.pop() else {
+        let Some(part) = writer.parts.pop() else {
             break;
         };
-        teller.write_part(part)?;
+        writer.write_part(part)?;
     }
-    teller.buffer.finish()
+    writer.buffer.finish()
 }
 
-impl<'a> Teller<'a> {
+impl<'a> TreeWriter<'a> {
     /// Prints a part.
     fn write_part(&mut self, part: Part) -> Result<(), OutOfMemory> {
         let Part::Symbol(below) = part else {

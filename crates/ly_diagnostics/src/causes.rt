@@ -3,14 +3,14 @@ use crate::advice::Advice;
 use crate::roundabout::{
     Step, derived_alone, is_behind_nothing, needed_in, with_text, without_text,
 };
-use crate::yacc_offsets::{body_offset, start_location};
+use crate::yacc_offsets::{body_offset, readable, start_location};
 use ly_base::{Limits, Location, OutOfMemory, Sym, locate};
 use ly_generate::GenFault;
-use ly_grammar::reduce;
-use ly_join::{Spec, Symbol, join};
-use ly_lexread::read_lex;
+use ly_grammar::{GrammarFault, reduce};
+use ly_join::{JoinFault, Spec, Symbol, join};
+use ly_lexread::{LexFault, LexFile, read_lex};
 use ly_text_buffer::TextBuffer;
-use ly_yaccread::{YaccFile, read_yacc};
+use ly_yaccread::YaccFile;
 use std::alloc::Global;
 
 /// How many lines or nonterminals are named at most.
@@ -68,21 +68,43 @@ fn grammar_cause(
     if !matches!(fault, GenFault::Grammar(_) | GenFault::Endless { .. }) {
         return Ok(None);
     }
-    let (Ok(lex), Ok(file)) = (read_lex(alloc, lex, limits), read_yacc(alloc, yacc)) else {
+    let Some(joined) = joined_files(alloc, lex, yacc, limits)? else {
         return Ok(None);
-    };
-    let Ok(spec) = join(alloc, &lex, &file, limits) else {
-        return Ok(None);
-    };
-    let joined = Joined {
-        text: yacc,
-        file,
-        spec,
     };
     match fault {
         GenFault::Grammar(_) => joined.without_text(alloc),
         GenFault::Endless { .. } => joined.without_end(alloc),
         _ => Ok(None),
+    }
+}
+
+/// Both files as they are joined. `None` if one of them is invalid, or if they don't fit together.
+fn joined_files<'t>(
+    alloc: Global,
+    lex: &[u8],
+    yacc: &'t [u8],
+    limits: &Limits,
+) -> Result<Option<Joined<'t>>, OutOfMemory> {
+    let (Some(lex), Some(file)) = (lex_file(alloc, lex, limits)?, readable(alloc, yacc)?) else {
+        return Ok(None);
+    };
+    match join(alloc, &lex, &file, limits) {
+        Ok(spec) => Ok(Some(Joined {
+            text: yacc,
+            file,
+            spec,
+        })),
+        Err(JoinFault::OutOfMemory) => Err(OutOfMemory),
+        Err(_) => Ok(None),
+    }
+}
+
+/// A lex file as it is read, if it is valid.
+fn lex_file(alloc: Global, text: &[u8], limits: &Limits) -> Result<Option<LexFile>, OutOfMemory> {
+    match read_lex(alloc, text, limits) {
+        Ok(file) => Ok(Some(file)),
+        Err(LexFault::OutOfMemory) => Err(OutOfMemory),
+        Err(LexFault::Refused { .. }) => Ok(None),
     }
 }
 
@@ -107,8 +129,10 @@ impl Joined<'_> {
 
     /// The cause if the parser reduces without end.
     fn without_end(&self, alloc: Global) -> Result<Option<Cause>, OutOfMemory> {
-        let Ok(reduced) = reduce(alloc, self.spec.grammar()) else {
-            return Ok(None);
+        let reduced = match reduce(alloc, self.spec.grammar()) {
+            Ok(reduced) => reduced,
+            Err(GrammarFault::OutOfMemory) => return Err(OutOfMemory),
+            Err(GrammarFault::StartUnproductive) => return Ok(None),
         };
         let around = derived_alone(alloc, &reduced)?;
         if let Some(rule) = around.iter().map(|step| step.rule).min() {

@@ -144,10 +144,10 @@ fn write_fault(
     buffer.push_json_key(b"what");
     let mut what = buffer.beside();
     write_what(&mut what, fault);
-    if what.len() > 0 {
-        buffer.push_json_buffer(what);
-    } else {
+    if what.is_empty() {
         buffer.push(b"null");
+    } else {
+        buffer.push_json_buffer(what);
     }
     buffer.push_json_key(b"text");
     let mut words = buffer.beside();
@@ -184,7 +184,7 @@ fn write_finding(
 ) {
     let mut message = buffer.beside();
     write_what(&mut message, fault);
-    if message.len() > 0 {
+    if !message.is_empty() {
         message.push(b": ");
     }
     write_words(&mut message, fault);

@@ -19,6 +19,7 @@ mod edit;
 mod exchange;
 mod faults;
 mod faults_json;
+mod faults_sarif;
 mod finding;
 mod indented;
 mod join_faults;
@@ -44,4 +45,5 @@ mod yacc_units;
 
 pub use faults::{write_faults, write_lex_faults};
 pub use faults_json::write_json_faults;
+pub use faults_sarif::write_sarif_faults;
 pub use indented::indented_lines;

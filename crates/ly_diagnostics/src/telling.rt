@@ -140,7 +140,7 @@ pub(crate) fn is_of_lex(fault: &GenFault) -> bool
 fn write_heading(buffer: &mut TextBuffer, fault: &GenFault) {
     let mut what = buffer.beside();
     write_what(&mut what, fault);
-    if what.len() > 0 {
+    if !what.is_empty() {
         buffer.push(b" ");
         buffer.push_buffer(what);
     }

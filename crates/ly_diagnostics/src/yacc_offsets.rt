@@ -56,7 +56,7 @@ pub(crate) fn body_offset(file: &YaccFile, text: &[u8], rule: usize) -> Option<u
 }
 
 /// A yacc file as it is read; `None` if it is rejected.
-fn readable(alloc: Global, text: &[u8]) -> Result<Option<YaccFile>, OutOfMemory> {
+pub(crate) fn readable(alloc: Global, text: &[u8]) -> Result<Option<YaccFile>, OutOfMemory> {
     match read_yacc(alloc, text) {
         Ok(file) => Ok(Some(file)),
         Err(YaccFault::OutOfMemory) => Err(OutOfMemory),

@@ -1,6 +1,8 @@
 -- The findings about two accepted files.
-use Rattle.std.specs.Prelude.{◌≡◌, ◌++◌, ℕ, Bool, List, MatchOption, None, Option, Some, codes, false, true}
+use Rattle.std.specs.Prelude.{◌≡◌, ◌++◌, ℕ, List, MatchOption, None, Option, Some, codes}
 use Rattle.std.specs.Fmt.{decimal}
+use Rattle.ly_analysis.specs.declared.analysis.Form.{Form}
+use Rattle.ly_analysis.specs.declared.analysis.Form.TheVariants.{Json, Plain, Sarif}
 use Rattle.ly_join.specs.Joined.{Spec}
 use Rattle.ly_report.specs.Counts.{AreCounts}
 use Rattle.ly_report.specs.declared.counts.ConflictCounts.{ConflictCounts}
@@ -21,7 +23,16 @@ abbrev pub json_front : Option Findings → List ℕ
 json_front None = codes "{\"accepted\":false,\"counts\":null"
 json_front (Some found) = codes "{\"accepted\":true,\"counts\":" ++ json_counts found.conflicts
 
--- a JSON text begins with these findings
-abbrev pub IsInForm : Bool → Option Findings → List ℕ → Type 0
-IsInForm true findings text = (rest : List ℕ) × (text ≡ json_front findings ++ rest)
-IsInForm false findings text = Unit {0}
+-- a text as JSON begins with these findings
+abbrev pub IsJson : Option Findings → List ℕ → Type 0
+IsJson findings text = (rest : List ℕ) × (text ≡ json_front findings ++ rest)
+
+-- a text as SARIF begins with the version of the format
+abbrev pub IsSarif : List ℕ → Type 0
+IsSarif text = (rest : List ℕ) × (text ≡ codes "{\"version\":\"2.1.0\"" ++ rest)
+
+-- the text is in the form, with these findings
+abbrev pub IsInForm : Form → Option Findings → List ℕ → Type 0
+IsInForm Json findings text = IsJson findings text
+IsInForm Sarif findings text = IsSarif text
+IsInForm Plain findings text = Unit {0}

@@ -11,11 +11,12 @@ ghost use Rattle.ly_subset.specs.Automaton.{IsBreadthFirst};
 ghost use Rattle.ly_explain.specs.Explained.{IsExplained, IsFitFor, no_rules};
 
 use crate::form::text_in_form;
+use crate::sarif::{RESULTS_BEGIN, RESULTS_END};
 use crate::states::Tables;
 use crate::surveying::{Explanation, survey};
-use ly_analysis::{Analysis, Options};
+use ly_analysis::{Analysis, Form, Options};
 use ly_base::{Limits, OutOfMemory, Version};
-use ly_diagnostics::{indented_lines, write_faults, write_json_faults};
+use ly_diagnostics::{indented_lines, write_faults, write_json_faults, write_sarif_faults};
 use ly_generate::{GenFault, Specification, parser_tables, read_specification};
 use ly_grammar::reduce;
 use ly_join::Spec;
@@ -56,16 +57,16 @@ pub fn explain(
 ) -> Result<Explanation, OutOfMemory>
     ensures explained { IfOk result
         (IsExplained (least_of limits.now (sizes_in V2)) lex.entry.bytes.now yacc.entry.bytes.now) }
-    ensures form { IfOk result (λ e. IsInForm options.json e.findings e.text.items) }
+    ensures form { IfOk result (λ e. IsInForm options.form e.findings e.text.items) }
 {
     let limits = limits.within(Version::V2);
     match of_accepted(alloc, lex, yacc, &limits, options) {
         Ok(explanation) => Ok(explanation),
         Err(GenFault::OutOfMemory) => Err(OutOfMemory),
         Err(fault) => {
-            let said = said_of_refused(alloc, lex, yacc, &limits, &fault, options.json)?;
+            let said = said_of_refused(alloc, lex, yacc, &limits, &fault, options.form)?;
             Ok(Explanation {
-                text: text_in_form(alloc, options.json, &None, said)?,
+                text: text_in_form(alloc, options.form, &None, said)?,
                 states: None,
                 picture: None,
                 findings: None,
@@ -81,14 +82,20 @@ fn said_of_refused(
     yacc: NamedFile<'_>,
     limits: &Limits,
     fault: &GenFault,
-    json: bool,
+    form: Form,
 ) -> Result<Vec<u8>, OutOfMemory> {
     let mut buffer = TextBuffer::new(alloc);
-    if json {
-        write_json_faults(alloc, &mut buffer, lex, yacc, limits, fault)?;
-        buffer.push(b",\"warnings\":[],\"conflicts\":[],\"suggestion\":null,\"omitted\":0}\n");
-    } else {
-        write_faults(alloc, &mut buffer, lex, yacc, limits, fault)?;
+    match form {
+        Form::Plain => write_faults(alloc, &mut buffer, lex, yacc, limits, fault)?,
+        Form::Json => {
+            write_json_faults(alloc, &mut buffer, lex, yacc, limits, fault)?;
+            buffer.push(b",\"warnings\":[],\"conflicts\":[],\"suggestion\":null,\"omitted\":0}\n");
+        }
+        Form::Sarif => {
+            buffer.push(RESULTS_BEGIN);
+            write_sarif_faults(alloc, &mut buffer, lex, yacc, limits, fault)?;
+            buffer.push(RESULTS_END);
+        }
     }
     buffer.finish()
 }
@@ -108,13 +115,13 @@ pub fn explain_grammar(
 ) -> Result<Explanation, OutOfMemory>
     ensures explained { IfOk result
         (IsExplained (least_of limits.now (sizes_in V2)) no_rules yacc.entry.bytes.now) }
-    ensures form { IfOk result (λ e. IsInForm options.json e.findings e.text.items) }
+    ensures form { IfOk result (λ e. IsInForm options.form e.findings e.text.items) }
 {
     let options = Options {
         states: options.states,
         picture: options.picture,
         grammar_alone: true,
-        json: options.json,
+        form: options.form,
     };
     explain(alloc, NamedFile::new("", NO_RULES), yacc, limits, options)
 }
@@ -128,7 +135,7 @@ fn of_accepted(
     options: Options,
 ) -> Result<Explanation, GenFault>
     ensures formed { IfOk result (IsExplained limits.now lex.entry.bytes.now yacc.entry.bytes.now) }
-    ensures form { IfOk result (λ e. IsInForm options.json e.findings e.text.items) }
+    ensures form { IfOk result (λ e. IsInForm options.form e.findings e.text.items) }
     ensures refused { IfErr result (IsRefusedFor limits.now lex.entry.bytes.now yacc.entry.bytes.now) }
 {
     let given = read_specification(alloc, lex.bytes, yacc.bytes, limits)?;
@@ -162,7 +169,7 @@ fn of_read(
     requires shapes { AreShapesWithin read.spec.now }
     requires order { IsBreadthFirst read.dfa.now }
     ensures fit { IfOk result (IsFitFor limits.now read.entry.spec.now) }
-    ensures form { IfOk result (λ e. IsInForm options.json e.findings e.text.items) }
+    ensures form { IfOk result (λ e. IsInForm options.form e.findings e.text.items) }
     ensures unfit { IfErr result (IsUnfitFor limits.now read.entry.spec.now) }
 {
     let reduced = reduce(alloc, read.spec.grammar())?;
@@ -182,7 +189,7 @@ fn of_automaton(
     requires lawful { parser.IsLr0Automaton lr0.now }
     requires useful { KeepsUseful read.spec.now.grammar lr0.now.grammar }
     ensures found { IfOk result (AreFoundIn read.entry.spec.now) }
-    ensures form { IfOk result (λ e. IsInForm options.json e.findings e.text.items) }
+    ensures form { IfOk result (λ e. IsInForm options.form e.findings e.text.items) }
     ensures steady { IfOk result (λ _. HasSteadyTables read.entry.spec.now lr0.now.grammar) }
     ensures unfit { IfErr result (λ fault. (limits : Sizes) → IsUnfitFor limits read.entry.spec.now fault) }
 {
@@ -209,7 +216,7 @@ fn told(
     requires same { resolved.now.spec ≡ read.spec.now }
     requires sets { AreLookaheads resolved.now.automaton lookaheads.now }
     ensures found { IfOk result (AreFoundIn read.entry.spec.now) }
-    ensures form { IfOk result (λ e. IsInForm options.json e.findings e.text.items) }
+    ensures form { IfOk result (λ e. IsInForm options.form e.findings e.text.items) }
 {
     let indented = indented_lines(alloc, read.lex.bytes)?;
     let files = Analysis {

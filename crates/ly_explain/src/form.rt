@@ -1,27 +1,45 @@
 ghost use Rattle.std.specs.Prelude.{IfOk};
-ghost use Rattle.ly_explain.specs.Findings.{IsInForm};
+ghost use Rattle.ly_explain.specs.Findings.{IsInForm, IsJson, IsSarif};
 
 use crate::surveying::Findings;
-use ly_analysis::{Analysis, Options, Places};
+use ly_analysis::{Analysis, Form, Options, Places};
 use ly_base::{Location, OutOfMemory};
 use ly_conflicts::write_conflicts;
 use ly_lints::{Hiding, Lint, LintKind, file_of, name_of, write_kind};
 use ly_text_buffer::{Extent, FindingPlace, TextBuffer};
 use std::alloc::Global;
 
-/// The report on two files in text form or as JSON. As JSON it begins with whether the files are accepted and with the
-/// numbers of conflicts, from `findings`.
+/// The report on two files in a form. As JSON it begins with whether the files are accepted and with the numbers of
+/// conflicts, from `findings`; as SARIF with the version of the format.
 pub(crate) fn text_in_form(
     alloc: Global,
-    json: bool,
+    form: Form,
     findings: &Option<Findings>,
     said: Vec<u8>,
 ) -> Result<Vec<u8>, OutOfMemory>
-    ensures { IfOk result (λ text. IsInForm json findings.now text.items) }
+    ensures { IfOk result (λ text. IsInForm form findings.now text.items) }
 {
-    if !json {
-        return Ok(said);
+    match form {
+        Form::Plain => Ok(said),
+        Form::Json => in_json(alloc, findings, &said),
+        Form::Sarif => in_sarif(alloc, &said),
     }
+}
+
+/// A report as SARIF, given all of it after the version of the format.
+fn in_sarif(alloc: Global, said: &[u8]) -> Result<Vec<u8>, OutOfMemory>
+    ensures { IfOk result (λ text. IsSarif text.items) }
+{
+    let mut buffer = TextBuffer::new(alloc);
+    buffer.push(b"{\"version\":\"2.1.0\"");
+    buffer.push(said);
+    buffer.finish()
+}
+
+/// A report as JSON, given all of it after the numbers of conflicts.
+fn in_json(alloc: Global, findings: &Option<Findings>, said: &[u8]) -> Result<Vec<u8>, OutOfMemory>
+    ensures { IfOk result (λ text. IsJson findings.now text.items) }
+{
     let mut buffer = TextBuffer::new(alloc);
     match findings {
         Some(found) => {
@@ -32,7 +50,7 @@ pub(crate) fn text_in_form(
         }
         None => buffer.push(b"{\"accepted\":false,\"counts\":null"),
     }
-    buffer.push(&said);
+    buffer.push(said);
     buffer.finish()
 }
 
@@ -94,7 +112,7 @@ fn write_lint(buffer: &mut TextBuffer, files: &Analysis<'_>, lint: &Lint<'_>) {
 }
 
 /// How far the span of a warning goes. What a rule of the lex file does is a matter of its whole line.
-fn extent_of(kind: &LintKind<'_>) -> Extent {
+pub(crate) fn extent_of(kind: &LintKind<'_>) -> Extent {
     match kind {
         LintKind::IndentedLine | LintKind::UnmatchedRule(_) | LintKind::UnnamedLiteral(_) => {
             Extent::Line

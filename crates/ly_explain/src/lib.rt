@@ -12,11 +12,12 @@ mod explaining;
 mod form;
 mod picture;
 mod rules;
+mod sarif;
 mod scanner;
 mod states;
 mod surveying;
 
 pub use explaining::{explain, explain_grammar};
-pub use ly_analysis::Options;
+pub use ly_analysis::{Form, Options};
 pub use ly_text_buffer::NamedFile;
 pub use surveying::{Explanation, Findings};

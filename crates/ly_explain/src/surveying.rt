@@ -6,9 +6,10 @@ ghost use Rattle.ly_subset.specs.Automaton.{IsBreadthFirst};
 use crate::form::{text_in_form, write_json};
 use crate::picture::write_picture;
 use crate::rules::write_rules;
+use crate::sarif::write_sarif;
 use crate::scanner::{write_other_bytes, write_scanner};
 use crate::states::{Tables, write_states};
-use ly_analysis::{Analysis, Options, Places};
+use ly_analysis::{Analysis, Form, Options, Places};
 use ly_base::OutOfMemory;
 use ly_conflicts::write_conflicts;
 use ly_join::Spec;
@@ -57,7 +58,7 @@ pub(crate) fn survey(
     requires order { IsBreadthFirst files.dfa.now }
     requires sets { AreLookaheads files.resolved.now.automaton files.lookaheads.now }
     ensures found { IfOk result (AreFoundIn files.entry.resolved.now.spec) }
-    ensures form { IfOk result (λ e. IsInForm options.json e.findings e.text.items) }
+    ensures form { IfOk result (λ e. IsInForm options.form e.findings e.text.items) }
 {
     let (said, has_warnings) = said_of(alloc, &files, options)?;
     let findings = Some(Findings {
@@ -65,7 +66,7 @@ pub(crate) fn survey(
         has_warnings,
     });
     Ok(Explanation {
-        text: text_in_form(alloc, options.json, &findings, said)?,
+        text: text_in_form(alloc, options.form, &findings, said)?,
         states: states_if(alloc, &files, tables, options)?,
         picture: picture_if(alloc, &files, options.picture)?,
         findings,
@@ -84,10 +85,10 @@ fn said_of(
     let places = Places::of(alloc, files.yacc.bytes)?;
     let lints = lints_of(alloc, *files, &places, options)?;
     let mut buffer = TextBuffer::new(alloc);
-    if options.json {
-        write_json(alloc, &mut buffer, files, &places, &lints.list, options)?;
-    } else {
-        write_all(alloc, &mut buffer, files, &places, &lints.list, options)?;
+    match options.form {
+        Form::Plain => write_all(alloc, &mut buffer, files, &places, &lints.list, options)?,
+        Form::Json => write_json(alloc, &mut buffer, files, &places, &lints.list, options)?,
+        Form::Sarif => write_sarif(alloc, &mut buffer, files, &places, &lints.list, options)?,
     }
     Ok((buffer.finish()?, !lints.is_empty()))
 }

@@ -4,10 +4,13 @@ use crate::create_fault::CreateFault;
 use crate::folder::Folder;
 use ly_print::Counted;
 use std::alloc::{AllocError, Global};
-use std::fs::{self, File, Metadata, OpenFile};
+use std::fs::{self, File, Metadata, OpenFile, Permissions};
 use std::io::{self, ErrorKind, Read, Write};
-use std::os::unix::fs::MetadataExt;
+use std::os::unix::fs::{MetadataExt, PermissionsExt};
 use std::rt::Files;
+
+/// The bits of a mode for reading, writing and executing.
+const PERMISSIONS: u32 = 0o777;
 
 /// The files of the host, of which nothing is known.
 #[derive(Clone, Copy)]
@@ -91,13 +94,15 @@ impl<F: Files> Folder for HostFolder<'_, F> {
     }
 }
 
-/// Gives a new file the permissions of an older one. It fails if they have different owners.
+/// Gives a new file the permissions of an older one, but not the bits setuid and setgid, which the operating system
+/// takes from a file that is written to. It fails if they have different owners.
 fn take_after<T: OpenFile>(new: &T, older: &Metadata) -> io::Result<()> {
     let metadata = new.metadata()?;
     if older.uid() != metadata.uid() || older.gid() != metadata.gid() {
         return Err(io::Error::from(ErrorKind::Unsupported));
     }
-    new.set_permissions(older.permissions())
+    let mode = older.permissions().mode() & PERMISSIONS;
+    new.set_permissions(Permissions::from_mode(mode))
 }
 
 /// Writes all bytes to a file and to its device.

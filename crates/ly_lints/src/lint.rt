@@ -42,6 +42,8 @@ impl Lints<'_> {
         ensures list { IsTrue result → self.now.list.items ≡ [] }
         ensures unmatched { IsTrue result → self.now.unmatched.items ≡ [] }
         ensures unreduced { IsTrue result → self.now.unreduced.items ≡ [] }
+        ensures only { self.now.list.items ≡ [] → self.now.unmatched.items ≡ [] → self.now.unreduced.items ≡ []
+            → IsTrue result }
     {
         self.list.is_empty() && self.unmatched.is_empty() && self.unreduced.is_empty()
     }

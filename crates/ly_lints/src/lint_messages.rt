@@ -1,4 +1,6 @@
 //! Warnings as text, and their names.
+ghost use Rattle.ly_text_buffer.specs.TextBuffer.{SaysMore};
+
 use crate::lint::{Hiding, Lint, LintKind, Side, Uselessness};
 use crate::pattern_lint_messages::write_pattern_lint;
 use crate::patterns::PatternLint;
@@ -23,7 +25,16 @@ pub fn file_of<'a>(files: &Analysis<'a>, side: Side) -> NamedFile<'a> {
 }
 
 /// Prints warnings, each on a line. The source lines of the first ones of each file follow them, with a caret.
-pub fn write_lints(buffer: &mut TextBuffer, files: &Analysis<'_>, lints: &[Lint<'_>]) {
+pub fn write_lints(buffer: &mut TextBuffer, files: &Analysis<'_>, lints: &[Lint<'_>])
+    ensures { SaysMore buffer.old buffer.new }
+{
+    let mut page = buffer.beside();
+    write_page(&mut page, files, lints);
+    buffer.push_buffer(page);
+}
+
+/// Prints warnings on a page of their own.
+fn write_page(buffer: &mut TextBuffer, files: &Analysis<'_>, lints: &[Lint<'_>]) {
     let (mut lex, mut yacc) = (0, 0);
     for lint in lints {
         let count: &mut usize = match lint.side {
@@ -271,6 +282,7 @@ fn name_of_pattern_lint(pattern_lint: PatternLint) -> &'static [u8] {
         PatternLint::Backspace => b"EscapedBackspace",
         PatternLint::Braces => b"EscapedBraces",
         PatternLint::Unicode => b"EscapedUnicode",
+        PatternLint::WordEdge(_) => b"EscapedWordEdge",
         PatternLint::Reluctant => b"ReluctantOperator",
         PatternLint::ManyBytes => b"CharacterInBrackets",
         PatternLint::Interval => b"IntervalOfAll",

@@ -32,6 +32,8 @@ pub enum PatternLint {
     Braces,
     /// `\u`, a letter after a backslash.
     Unicode,
+    /// `\<` or `\>`, which are the start and the end of a word in other tools.
+    WordEdge(u8),
     /// `?` after `*`, `+` or `?`.
     Reluctant,
     /// A character of several bytes in brackets.
@@ -175,6 +177,9 @@ impl Linting<'_> {
             b'b' => PatternLint::Backspace,
             b'x' if self.byte(offset.saturating_add(2)) == Some(b'{') => PatternLint::Braces,
             b'u' => PatternLint::Unicode,
+            // at the start of a rule `<` needs the backslash
+            b'<' if offset > 0 => PatternLint::WordEdge(letter),
+            b'>' => PatternLint::WordEdge(letter),
             _ => return Ok(()),
         };
         if self.has(pattern_lint) {

@@ -1,5 +1,5 @@
 ghost use Rattle.std.specs.Prelude.{◌≡◌, ℕ, List, [], ◌++◌, length, map};
-ghost use Rattle.std.specs.Prelude.{IfOk, OnOk, OnErr, IfSome};
+ghost use Rattle.std.specs.Prelude.{IfOk, OnOk, OnErr, true};
 ghost use Rattle.std.specs.Fmt.{decimal};
 ghost use Rattle.ly_print.specs.Text.{literal, name_of};
 ghost use Rattle.ly_join.specs.Grammar.{symbol_of, terminal as symbol_at};
@@ -60,11 +60,19 @@ impl TextBuffer {
         Ok(text)
     }
 
-    /// The number of bytes so far. It means nothing once an allocation failed.
-    pub fn len(&self) -> usize
-        ensures { IfSome self.now (λ text. result ≡ length text) }
+    /// Whether nothing was appended. After a failed allocation this is false, since then something is missing.
+    pub fn is_empty(&self) -> bool
+        ensures empty { self.now ≡ Some [] → result ≡ true }
+        ensures only { result ≡ true → self.now ≡ Some [] }
     {
-        self.text.len()
+        self.said.is_ok() && self.text.is_empty()
+    }
+
+    /// Counts a failed allocation as one of the page.
+    pub fn fail(&mut self, failed: OutOfMemory)
+        ensures { self.new ≡ None }
+    {
+        self.said = Err(failed);
     }
 
     /// Remembers a failed allocation.

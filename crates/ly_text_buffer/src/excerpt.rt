@@ -2,12 +2,13 @@ ghost use Rattle.ly_text_buffer.specs.TextBuffer.{SaysMore};
 
 use crate::buffer::TextBuffer;
 use crate::named_file::NamedFile;
+use crate::shown_text::{next_unit, push_shown, start_of_unit};
 use ly_base::Location;
 
 /// Printed before each line of an excerpt and each indented line below a message.
 pub const MARGIN: &[u8] = b"    ";
 
-/// How many bytes of a line are printed at most.
+/// Lines of more bytes are printed in part: about so many bytes of them.
 const WIDEST: usize = 160;
 
 impl TextBuffer {
@@ -33,16 +34,14 @@ fn push_lines(buffer: &mut TextBuffer, file: NamedFile<'_>, at: Location) {
     }
     let before = bytes_before(at);
     let start = if line.len() > WIDEST {
-        before.saturating_sub(WIDEST / 2).min(line.len())
+        start_of_unit(line, before.saturating_sub(WIDEST / 2).min(line.len()))
     } else {
         0
     };
     let (shown, cut) = shown_part(line, start);
     buffer.push(MARGIN);
     buffer.push(if start > 0 { b"..." } else { b"" });
-    for byte in shown {
-        buffer.push(&[if is_shown(*byte) { *byte } else { b'?' }]);
-    }
+    push_shown(buffer, shown);
     buffer.push(if cut { b"...\n" } else { b"\n" });
     buffer.push(MARGIN);
     buffer.push(if start > 0 { b"   " } else { b"" });
@@ -58,25 +57,36 @@ fn bytes_before(at: Location) -> usize {
 /// The part of a line that is printed, and whether more of the line follows it.
 fn shown_part(line: &[u8], start: usize) -> (&[u8], bool) {
     let behind = line.get(start..).unwrap_or(b"");
-    match behind.get(..WIDEST) {
-        Some(shown) => (shown, behind.len() > WIDEST),
-        None => (behind, false),
+    if behind.len() <= WIDEST {
+        return (behind, false);
     }
+    (
+        behind
+            .get(..start_of_unit(behind, WIDEST))
+            .unwrap_or(behind),
+        true,
+    )
 }
 
-/// Whether a byte is printed as it is. Other bytes are printed as `?`.
-fn is_shown(byte: u8) -> bool {
-    byte == b'\t' || byte >= b' ' && byte != 127
-}
-
-/// Appends the blanks that are as wide as the first bytes of a line. Tabs stay tabs, and of the bytes of a UTF-8
-/// character only the first counts.
+/// Appends the blanks that are as wide as the characters among the first bytes of a line are when they are printed.
+/// Tabs stay tabs.
 fn push_distance(buffer: &mut TextBuffer, line: &[u8], bytes: usize) {
-    for byte in line.iter().take(bytes) {
-        match byte {
-            b'\t' => buffer.push(b"\t"),
-            0x80..=0xBF => {}
-            _ => buffer.push(b" "),
+    let mut rest = line;
+    for _ in 0..line.len() {
+        let passed = line.len().saturating_sub(rest.len());
+        let Some((unit, behind)) = next_unit(rest) else {
+            return;
+        };
+        if passed >= bytes {
+            return;
         }
+        for _ in 0..unit.width() {
+            buffer.push(if rest.first() == Some(&b'\t') {
+                b"\t"
+            } else {
+                b" "
+            });
+        }
+        rest = behind;
     }
 }

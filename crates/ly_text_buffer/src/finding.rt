@@ -68,10 +68,7 @@ impl TextBuffer {
         ensures { SaysMore self.old self.new }
     {
         let mut fixes = self.beside();
-        if place
-            .at
-            .is_some_and(|at| is_replaceable(bytes_at(place.file, at)))
-        {
+        if is_replaceable_at(place) {
             fixes.push_json_key(b"fixes");
             fixes.push(b"[{\"file\":");
             fixes.push_json(place.file.name.as_bytes());
@@ -84,6 +81,22 @@ impl TextBuffer {
     }
 }
 
+/// Whether a suggested name can replace the word at a place.
+pub(crate) fn is_replaceable_at(place: FindingPlace<'_>) -> bool {
+    place
+        .at
+        .is_some_and(|at| is_replaceable(bytes_at(place.file, at)))
+}
+
+/// The number of bytes of a span that starts at this location.
+pub(crate) fn length_of(place: FindingPlace<'_>, at: Location) -> usize {
+    let rest = bytes_at(place.file, at);
+    match place.extent {
+        Extent::Word => word_length(rest),
+        Extent::Line => rest.len(),
+    }
+}
+
 /// Appends the members `start` and `end`: offset, line and column, or null if there is no location.
 fn push_span(buffer: &mut TextBuffer, place: FindingPlace<'_>) {
     let Some(at) = place.at else {
@@ -91,11 +104,7 @@ fn push_span(buffer: &mut TextBuffer, place: FindingPlace<'_>) {
         return;
     };
     let offset = offset_of(place.file, at);
-    let rest = bytes_at(place.file, at);
-    let length = match place.extent {
-        Extent::Word => word_length(rest),
-        Extent::Line => rest.len(),
-    };
+    let length = length_of(place, at);
     buffer.push_json_key(b"start");
     push_position(buffer, offset, at);
     buffer.push_json_key(b"end");

@@ -13,8 +13,11 @@ mod excerpt;
 mod finding;
 mod json;
 mod named_file;
+mod sarif;
+mod shown_text;
 
 pub use buffer::TextBuffer;
 pub use excerpt::MARGIN;
 pub use finding::{Extent, FindingPlace};
 pub use named_file::NamedFile;
+pub use shown_text::is_printable;

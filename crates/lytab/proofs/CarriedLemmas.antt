@@ -14,6 +14,7 @@ use Rattle.ly_print.specs.declared.answer_form.AnswerForm.{AnswerForm}
 use Rattle.ly_cli.specs.Request.{Request, build, check, explain, lines, run, run_placed, table_tokens}
 use Rattle.ly_cli.specs.Request.{tokens, try, try_placed}
 use Rattle.ly_cli.specs.declared.command.Answering.{Answering}
+use Rattle.ly_cli.specs.declared.command.ReportForm.{ReportForm}
 use Rattle.ly_cli.specs.declared.command.Strictness.{Strictness}
 use Rattle.lytab.specs.Answering.{AreTokensBegun, AreTokensPrinted, IsAnsweredByFiles, IsAnsweredByTables}
 use Rattle.lytab.specs.Answering.{IsBegunByFiles, IsBegunByTables, text_from}

@@ -1,6 +1,6 @@
 -- What a command has written, or why it failed, and what it read.
-use Rattle.std.specs.Prelude.{◌≡◌, ◌⊎◌, ◌++◌, ◌∷◌, option_map, ℕ, Bool, IfErr, IfOk, List, MatchResult}
-use Rattle.std.specs.Prelude.{None, OnErr, OnOk, Option, Result, Some, codes, false, length, true}
+use Rattle.std.specs.Prelude.{◌≡◌, ◌⊎◌, ◌++◌, ◌∷◌, option_map, ℕ, IfErr, IfOk, List, MatchResult}
+use Rattle.std.specs.Prelude.{None, OnErr, OnOk, Option, Result, Some, codes, length}
 use Rattle.std.specs.Fmt.{decimal}
 use Rattle.std.specs.Io.KnownBytes.{IsAtEnd}
 use Rattle.std.specs.declared.alloc.Global.{Global}
@@ -19,6 +19,8 @@ use Rattle.ly_print.specs.declared.answer_form.AnswerForm.TheVariants.{Json, Pla
 use Rattle.ly_report.specs.Counts.{AreCounts}
 use Rattle.ly_report.specs.Report.{counts_line}
 use Rattle.ly_report.specs.declared.counts.ConflictCounts.{ConflictCounts}
+use Rattle.ly_analysis.specs.declared.analysis.Form.{Form}
+use Rattle.ly_analysis.specs.declared.analysis.Form.TheVariants as shown_as
 use Rattle.ly_explain.specs.Findings.{IsInForm}
 use Rattle.ly_explain.specs.declared.surveying.Explanation.{Explanation}
 use Rattle.ly_tables.specs.TableSet.{TableSet}
@@ -29,6 +31,8 @@ use Rattle.ly_cli.specs.declared.command.ExplainPaths.{ExplainPaths}
 use Rattle.ly_cli.specs.declared.command.Paths.{Paths}
 use Rattle.ly_cli.specs.Request.{Request, build, check, explain, lines, run, run_placed, table_tokens}
 use Rattle.ly_cli.specs.Request.{tokens, try, try_placed}
+use Rattle.ly_cli.specs.declared.command.ReportForm.{ReportForm}
+use Rattle.ly_cli.specs.declared.command.ReportForm.TheVariants as report_form
 use Rattle.ly_cli.specs.declared.command.Strictness.{Strictness}
 use Rattle.lytab.specs.Answering.{IsAnsweredByFiles, IsAnsweredByTables, AreTokensBegun, AreTokensPrinted}
 use Rattle.lytab.specs.Answering.{IsBegunByFiles, IsBegunByTables, text_from}
@@ -181,10 +185,11 @@ abbrev pub lex_text : {A : Type 0} → Option A → List ℕ → List ℕ
 lex_text (Some path) bytes = bytes
 lex_text None bytes = no_rules
 
--- whether the form is JSON
-abbrev pub is_json : AnswerForm → Bool
-is_json Plain = false
-is_json Json = true
+-- the form in which a report is made
+abbrev pub form_of : ReportForm → Form
+form_of report_form.Plain = shown_as.Plain
+form_of report_form.Json = shown_as.Json
+form_of report_form.Sarif = shown_as.Sarif
 
 -- the bytes of the file with this path, if one is named
 abbrev pub IsFileIf : Option Files → Option (List ℕ) → List ℕ → Type 0
@@ -193,7 +198,7 @@ IsFileIf files (Some path) bytes = IsFile files path bytes
 
 -- the report of a lex file and a yacc file was written in this form, with the right verdict; the states of their parser
 -- and a graph of them were written if files are named for them and they exist; and the result is whether the files pass
-pub record HasExplained (paths : PathsOfExplain) (strictness : Strictness) (form : AnswerForm) (e : Outputs)
+pub record HasExplained (paths : PathsOfExplain) (strictness : Strictness) (form : ReportForm) (e : Outputs)
     (result : Result Completion Failure) : Type 0 where
   pub lex : List ℕ
   pub lex_read : IsFileIf e.files_before paths.lex lex
@@ -201,7 +206,7 @@ pub record HasExplained (paths : PathsOfExplain) (strictness : Strictness) (form
   pub yacc_read : IsFile e.files_before paths.yacc yacc
   pub explanation : Explanation
   pub explained : IsExplained version_2 (lex_text paths.lex lex) yacc explanation
-  pub in_form : IsInForm (is_json form) explanation.findings explanation.text.items
+  pub in_form : IsInForm (form_of form) explanation.findings explanation.text.items
   pub written : AreWritten (λ files. set_if paths.graph explanation.picture
       (set_if paths.states explanation.states files)) e.files_before e.files_after
   pub text : WroteAllOrPrefix result e.before e.after explanation.text.items

@@ -3,7 +3,7 @@ ghost use Rattle.std.specs.Prelude.{◌≡◌, IfErr, IfOk, OnOk, option_map};
 ghost use Rattle.ly_explain.specs.Findings.{IsInForm};
 ghost use Rattle.ly_base.specs.Limits.{version_2};
 ghost use Rattle.ly_explain.specs.Explained.{IsExplained};
-ghost use Rattle.lytab.specs.CarriedOut.{drawn_by, is_json, lex_text, paths_of_explain, HasExplained, IsFileIf};
+ghost use Rattle.lytab.specs.CarriedOut.{drawn_by, form_of, lex_text, paths_of_explain, HasExplained, IsFileIf};
 ghost use Rattle.lytab.specs.Devices.{OutputFailuresReported, DoneOrUnchanged};
 ghost use Rattle.lytab.specs.Failure.{IsOfDevice};
 ghost use Rattle.lytab.specs.Files.{AreOthersKept, AreWritten, set_if};
@@ -15,21 +15,22 @@ use crate::files::{read_file, write_if_named};
 use crate::notes::Notes;
 use crate::shown_path::ShownPath;
 use ly_base::{Limits, OutOfMemory};
-use ly_cli::{ExplainPaths, Strictness};
-use ly_explain::{Explanation, NamedFile, Options, explain, explain_grammar};
+use ly_cli::{ExplainPaths, ReportForm, Strictness};
+use ly_explain::{Explanation, Form, NamedFile, Options, explain, explain_grammar};
 use ly_files::{FileFault, Folder};
-use ly_print::{AnswerForm, Sink};
+use ly_print::Sink;
 use std::alloc::Global;
 
 /// Writes the report of a lex file and a yacc file, or of a yacc file alone, to standard output. If they are accepted,
 /// it also writes the states of their parser and a graph of them, if requested. All files are read before anything is
-/// judged. `strictness` doesn't change what is written. JSON begins with the verdict and the numbers of conflicts.
+/// judged. `strictness` doesn't change what is written. JSON begins with the verdict and the numbers of conflicts, and
+/// SARIF with its version.
 pub fn explain_files<'a, D: Folder, W: Sink>(
     folder: &mut D,
     alloc: Global,
     paths: ExplainPaths<'a>,
     strictness: Strictness,
-    form: AnswerForm,
+    form: ReportForm,
     output: &mut W,
     notes: &mut Notes,
 ) -> Result<Completion, Failure<'a>>
@@ -51,20 +52,21 @@ pub fn explain_files<'a, D: Folder, W: Sink>(
         states: paths.states.is_some(),
         picture: paths.graph.is_some(),
         grammar_alone: false,
-        json: is_json(form),
+        form: form_of(form),
     };
     let explanation = explained(alloc, paths, &lex, &yacc, options)?;
     write_files(folder, alloc, paths, &explanation, notes)?;
     Completion::of_findings(&explanation.findings, strictness).said(output, &explanation.text)
 }
 
-/// Whether the form is JSON.
-fn is_json(form: AnswerForm) -> bool
-    ensures { result ≡ is_json form }
+/// The form of the report.
+fn form_of(form: ReportForm) -> Form
+    ensures { result ≡ form_of form }
 {
     match form {
-        AnswerForm::Plain => false,
-        AnswerForm::Json => true,
+        ReportForm::Plain => Form::Plain,
+        ReportForm::Json => Form::Json,
+        ReportForm::Sarif => Form::Sarif,
     }
 }
 
@@ -77,7 +79,7 @@ fn explained(
     options: Options,
 ) -> Result<Explanation, OutOfMemory>
     ensures explained { IfOk result (IsExplained version_2 (lex_text (paths_of_explain paths.entry).lex lex.now) yacc.now) }
-    ensures form { IfOk result (λ e. IsInForm options.json e.findings e.text.items) }
+    ensures form { IfOk result (λ e. IsInForm options.form e.findings e.text.items) }
 {
     let yacc_name = ShownPath(paths.yacc).text(alloc)?;
     let yacc = NamedFile::new(&yacc_name, yacc);

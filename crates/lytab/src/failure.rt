@@ -24,6 +24,9 @@ const REFUSED: u8 = 2;
 
 const DEVICE_OR_MEMORY: u8 = 3;
 
+/// The line if memory runs out.
+pub const NO_MEMORY: &[u8] = b"lytab: out of memory\n";
+
 /// Why a command failed.
 #[derive(Drop)]
 pub enum Failure<'a> {
@@ -119,19 +122,36 @@ impl From<AllocError> for Failure<'_> {
     }
 }
 
-/// Writes the line of a failure, and returns the exit status. If there is no memory for the line, the failure is out of
-/// memory.
-pub fn told<E: Write>(alloc: Global, failure: Failure<'_>, faults: &mut E) -> u8
+/// Writes the line of a failure and the notes after it, and returns the exit status. If there is no memory for these,
+/// the failure is out of memory.
+pub fn told<E: Write>(
+    alloc: Global,
+    failure: Failure<'_>,
+    notes: Result<Vec<u8>, OutOfMemory>,
+    faults: &mut E,
+) -> u8
     ensures range { (1 ≤ result) × (result ≤ 3) }
     ensures status { (result ≡ failure_status failure.entry) ⊎ (result ≡ 3) }
 {
-    let mut line = Vec::new(alloc);
-    if push_line(&mut line, &failure).is_err() {
-        let _ = faults.write_all(b"lytab: out of memory\n");
+    let Some(lines) = lines_of(alloc, &failure, notes) else {
+        let _ = faults.write_all(NO_MEMORY);
         return DEVICE_OR_MEMORY;
-    }
-    let _ = faults.write_all(&line);
+    };
+    let _ = faults.write_all(&lines);
     status_of(&failure)
+}
+
+/// The line of a failure and the notes after it. Returns `None` if memory runs out, or ran out for the notes.
+fn lines_of(
+    alloc: Global,
+    failure: &Failure<'_>,
+    notes: Result<Vec<u8>, OutOfMemory>,
+) -> Option<Vec<u8>> {
+    let notes = notes.ok()?;
+    let mut lines = Vec::new(alloc);
+    push_line(&mut lines, failure).ok()?;
+    lines.extend_from_slice(&notes).ok()?;
+    Some(lines)
 }
 
 /// The exit status of a failure: 1 if the text is too long or there are other conflicts than expected, 2 if a file is

@@ -92,11 +92,7 @@ pub fn write_if_named<'a, D: Folder>(
 }
 
 /// Writes the bytes to a writer with this name.
-pub fn write_to<'a, W: Sink>(
-    writer: &mut W,
-    path: &'a str,
-    bytes: &[u8],
-) -> Result<(), Failure<'a>>
+pub fn write_to<'a, W: Sink>(writer: &mut W, path: &'a str, bytes: &[u8]) -> Result<(), Failure<'a>>
     ensures written { OnOk result (Appends (W.contents writer.old) (W.contents writer.new) bytes.now) }
     ensures beginning { OnErr result ((written : ℕ) × (written < length bytes.now)
         × Appends (W.contents writer.old) (W.contents writer.new) (take written bytes.now)) }

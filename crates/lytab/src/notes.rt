@@ -56,32 +56,55 @@ impl Notes {
         self.are_wanted
     }
 
-    /// Writes the text. Writes nothing if there was no memory for it.
-    pub fn write<E: Write>(self, faults: &mut E) {
-        if let Ok(text) = self.buffer.finish() {
-            let _ = faults.write_all(&text);
-        }
+    /// Returns the text, or `OutOfMemory` if there was no memory for it.
+    pub fn finish(self) -> Result<Vec<u8>, OutOfMemory> {
+        self.buffer.finish()
     }
 
     /// The location of a syntax error in a text from a reader with this path, given by the outcome.
     pub fn point_at_outcome<R: Recall>(&mut self, path: &str, reader: &R, outcome: &Outcome) {
-        let (Some(bytes), Ok(name)) = (reader.recalled(), ShownPath(path).text(self.alloc)) else {
-            return;
+        let pointed = match outcome {
+            Outcome::Tree => Ok(()),
+            Outcome::Syntax { byte, length, .. } => {
+                self.point_into(path, reader, *byte, Some(*length))
+            }
+            Outcome::NoRule { byte } => self.point_into(path, reader, *byte, None),
         };
-        let text = NamedFile::new(&name, bytes);
-        match outcome {
-            Outcome::Tree => {}
-            Outcome::Syntax { byte, length, .. } => self.point_at_token(text, *byte, *length),
-            Outcome::NoRule { byte } => self.point_at_byte(text, *byte),
-        }
+        self.keep(pointed);
     }
 
     /// The location at which no rule matches, in a text from a reader with this path, given by how its tokens end.
     pub fn point_at_end<R: Recall>(&mut self, path: &str, reader: &R, end: TokenEnd) {
-        if let (Some(bytes), TokenEnd::Stuck { byte }) = (reader.recalled(), end) {
-            if let Ok(name) = ShownPath(path).text(self.alloc) {
-                self.point_at_byte(NamedFile::new(&name, bytes), byte);
+        if let TokenEnd::Stuck { byte } = end {
+            let pointed = self.point_into(path, reader, byte, None);
+            self.keep(pointed);
+        }
+    }
+
+    /// The location of an unexpected token with this length in the text from a reader with this path, or of a byte at
+    /// which no rule matches. Returns an error if memory runs out.
+    fn point_into<R: Recall>(
+        &mut self,
+        path: &str,
+        reader: &R,
+        byte: u64,
+        length: Option<usize>,
+    ) -> Result<(), OutOfMemory> {
+        if self.are_wanted {
+            let name = ShownPath(path).text(self.alloc)?;
+            let text = NamedFile::new(&name, reader.recalled()?);
+            match length {
+                Some(length) => self.point_at_token(text, byte, length),
+                None => self.point_at_byte(text, byte),
             }
+        }
+        Ok(())
+    }
+
+    /// Keeps that memory ran out.
+    fn keep(&mut self, ended: Result<(), OutOfMemory>) {
+        if let Err(failed) = ended {
+            self.buffer.fail(failed);
         }
     }
 
@@ -138,9 +161,9 @@ impl Notes {
         limits: &Limits,
         ended: &Result<Completion, Failure<'_>>,
     ) {
-        if let (true, Err(Failure::Refused(fault, _))) = (self.are_wanted, ended) {
-            // what there is no memory for isn't reported
-            let _ = self.write_faults_of(alloc, lex, yacc, limits, fault);
+        if let Some(fault) = self.refusal(ended) {
+            let written = self.write_faults_of(alloc, lex, yacc, limits, fault);
+            self.keep(written);
         }
     }
 
@@ -160,6 +183,15 @@ impl Notes {
         write_faults(alloc, &mut self.buffer, lex, yacc, limits, fault)
     }
 
+    /// The error with which files are rejected, if a command failed because of it and the text is requested.
+    fn refusal<'e>(&self, ended: &'e Result<Completion, Failure<'_>>) -> Option<&'e GenFault> {
+        match ended {
+            Err(Failure::Refused(GenFault::OutOfMemory, _)) => None,
+            Err(Failure::Refused(fault, _)) if self.are_wanted => Some(fault),
+            _ => None,
+        }
+    }
+
     /// All errors of a lex file, if a command failed because it is rejected, as `explain` reports them.
     pub fn explain_lex(
         &mut self,
@@ -167,12 +199,22 @@ impl Notes {
         lex: NamedFile<'_>,
         ended: &Result<Completion, Failure<'_>>,
     ) {
-        if let (true, Err(Failure::Refused(fault, _))) = (self.are_wanted, ended) {
-            if let Ok(name) = ShownPath(lex.name).text(alloc) {
-                let lex = NamedFile::new(&name, lex.bytes);
-                let _ = write_lex_faults(alloc, &mut self.buffer, lex, &Limits::V2, fault);
-            }
+        if let Some(fault) = self.refusal(ended) {
+            let written = self.write_lex_faults_of(alloc, lex, fault);
+            self.keep(written);
         }
+    }
+
+    /// All errors of a lex file, under the name that the user gave. Returns an error if memory runs out.
+    fn write_lex_faults_of(
+        &mut self,
+        alloc: Global,
+        lex: NamedFile<'_>,
+        fault: &GenFault,
+    ) -> Result<(), OutOfMemory> {
+        let name = ShownPath(lex.name).text(alloc)?;
+        let lex = NamedFile::new(&name, lex.bytes);
+        write_lex_faults(alloc, &mut self.buffer, lex, &Limits::V2, fault)
     }
 
     /// Why a table file is rejected or fails on a text, if a command failed because of it.

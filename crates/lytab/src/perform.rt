@@ -12,11 +12,11 @@ use crate::building::build_tables;
 use crate::checking::check_tables;
 use crate::completion::Completion;
 use crate::explaining::explain_files;
-use crate::failure::{Failure, told};
+use crate::failure::{Failure, NO_MEMORY, told};
 use crate::files::read_file;
 use crate::notes::Notes;
 use crate::remembering::Recall;
-use ly_base::Limits;
+use ly_base::{Limits, OutOfMemory};
 use ly_cli::{Command, CommandFault, read_command};
 use ly_files::Folder;
 use ly_print::{Sink, Source};
@@ -65,30 +65,49 @@ pub fn perform<D: Folder, R: Source + Recall, W: Sink, E: Write>(
         Ok(command) => {
             let mut notes = Notes::new(alloc, &command);
             let ended = carry_out(folder, alloc, command, input, output, &mut notes);
-            let status = concluded(alloc, ended, faults);
-            notes.write(faults);
+            let status = concluded(alloc, ended, notes.finish(), faults);
             status
         }
         Err(CommandFault::Help(text)) => {
             let said = Completion::Done.said(output, text.as_bytes());
-            concluded(alloc, said, faults)
+            concluded(alloc, said, Ok(Vec::new(alloc)), faults)
         }
         Err(CommandFault::Bad(text)) => {
             let _ = write!(faults, "{text}");
             BAD_WORDS
         }
-        Err(CommandFault::OutOfMemory) => concluded(alloc, Err(Failure::OutOfMemory), faults),
+        Err(CommandFault::OutOfMemory) => {
+            concluded(
+                alloc,
+                Err(Failure::OutOfMemory),
+                Ok(Vec::new(alloc)),
+                faults,
+            )
+        }
     }
 }
 
-/// The exit status of a command with this result. If it failed, the line of the failure is written.
-fn concluded<E: Write>(alloc: Global, ended: Result<Completion, Failure<'_>>, faults: &mut E) -> u8
+/// The exit status of a command with this result. If it failed, the line of the failure is written, and in any case
+/// what `--where` requests. Without memory for that, the failure is out of memory; the line that says so is also written
+/// if the command succeeded.
+fn concluded<E: Write>(
+    alloc: Global,
+    ended: Result<Completion, Failure<'_>>,
+    notes: Result<Vec<u8>, OutOfMemory>,
+    faults: &mut E,
+) -> u8
     ensures range { result ≤ 3 }
     ensures status { IsStatusOf result ended.entry }
 {
     match ended {
-        Ok(completion) => completion.status(),
-        Err(failure) => told(alloc, failure, faults),
+        Ok(completion) => {
+            let _ = match notes {
+                Ok(notes) => faults.write_all(&notes),
+                Err(OutOfMemory) => faults.write_all(NO_MEMORY),
+            };
+            completion.status()
+        }
+        Err(failure) => told(alloc, failure, notes, faults),
     }
 }
 

@@ -1,14 +1,15 @@
 //! Readers that keep what they returned.
 ghost use Rattle.std.specs.Prelude.{◌≡◌};
 
+use ly_base::OutOfMemory;
 use ly_print::{DeviceFailed, Source};
 use std::alloc::Global;
 use std::marker::Model;
 
 /// A reader that keeps what it returned.
 pub trait Recall {
-    /// What was read; `None` if it isn't kept, or if there was no memory for it.
-    fn recalled(&self) -> Option<&[u8]>;
+    /// What was read; nothing if it isn't kept. Returns an error if there was no memory for it.
+    fn recalled(&self) -> Result<&[u8], OutOfMemory>;
 }
 
 /// A reader that keeps what it returned.
@@ -16,8 +17,10 @@ pub trait Recall {
 pub struct Remembering<R> {
     /// The reader.
     reader: R,
-    /// What it returned, if that is kept.
-    text: Option<Vec<u8>>,
+    /// What it returned, if that is kept and there was memory for it.
+    text: Result<Vec<u8>, OutOfMemory>,
+    /// Whether it is kept.
+    is_wanted: bool,
 }
 
 // The value is that of the inner reader, whatever is kept.
@@ -34,12 +37,11 @@ impl<R> Remembering<R> {
     pub fn new(alloc: Global, reader: R, is_wanted: bool) -> Self
         ensures { result ≡ reader }
     {
-        let text = if is_wanted {
-            Some(Vec::new(alloc))
-        } else {
-            None
-        };
-        Remembering { reader, text }
+        Remembering {
+            reader,
+            text: Ok(Vec::new(alloc)),
+            is_wanted,
+        }
     }
 
     /// Keeps what was read. Once memory runs out, nothing is kept.
@@ -47,11 +49,11 @@ impl<R> Remembering<R> {
         ensures { self.new ≡ self.old }
     {
         let added = match &mut self.text {
-            Some(text) => text.extend_from_slice(bytes),
-            None => Ok(()),
+            Ok(text) if self.is_wanted => text.extend_from_slice(bytes),
+            _ => Ok(()),
         };
-        if added.is_err() {
-            self.text = None;
+        if let Err(refused) = added {
+            self.text = Err(OutOfMemory::from(refused));
         }
     }
 }
@@ -69,10 +71,10 @@ impl<R: Source> Source for Remembering<R> {
 }
 
 impl<R> Recall for Remembering<R> {
-    fn recalled(&self) -> Option<&[u8]> {
+    fn recalled(&self) -> Result<&[u8], OutOfMemory> {
         match &self.text {
-            Some(text) => Some(text),
-            None => None,
+            Ok(text) => Ok(text),
+            Err(OutOfMemory) => Err(OutOfMemory),
         }
     }
 }

@@ -1,9 +1,10 @@
 //! Paths as they are printed.
+use ly_text_buffer::is_printable;
 use std::alloc::{AllocError, Global};
 use std::fmt::{self, Display, Formatter};
 
-/// A path in which control characters are escaped byte by byte, like those of texts. So the name of a file can't move
-/// the cursor of a terminal or begin a line.
+/// A path in which characters that aren't printable are escaped byte by byte, as in source lines. So the name of a file
+/// can't move the cursor of a terminal, change the order of what it shows, or begin a line.
 #[derive(Clone, Copy)]
 pub struct ShownPath<'a>(pub &'a str);
 
@@ -20,8 +21,8 @@ impl Display for ShownPath<'_> {
             match shown {
                 '\n' => f.write_str("\\n")?,
                 '\t' => f.write_str("\\t")?,
-                _ if shown.is_control() => escape(f, shown)?,
-                _ => f.write_char(shown)?,
+                _ if is_printable(shown) => f.write_char(shown)?,
+                _ => escape(f, shown)?,
             }
         }
         Ok(())

@@ -18,7 +18,7 @@ returns-clause-said g c =
       yacc_read = c.in_ok-yacc.ensures.read;
       explanation = explanation;
       explained = c.in_ok-explanation.ensures.explained;
-      in_form = subst (λ json. IsInForm json explanation.findings explanation.text.items) c.is_json.ensures
+      in_form = subst (λ form. IsInForm form explanation.findings explanation.text.items) c.form_of.ensures
           c.in_ok-explanation.ensures.form;
       written = c.in_ok-write_files.ensures.written;
       text = is_said;

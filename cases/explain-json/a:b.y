@@ -1,0 +1,3 @@
+%token NUM
+%%
+s : NUMM ;
