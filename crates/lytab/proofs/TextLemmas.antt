@@ -22,7 +22,8 @@ use Rattle.lytab.proofs.CarriedLemmas.{fails_lines}
 use Rattle.lytab.specs.Failure.{IsOfWriter, failure_of_file}
 use Rattle.lytab.specs.Lines.{AreLinesFailed, AreLinesStoppedBy, IsFaultMet}
 use Rattle.lytab.specs.Reading.{HasReadFailed, IsReadByFiles}
-use Rattle.lytab.specs.Refusal.{IsRefusalOf}
+use Rattle.lytab.specs.Refusal.{IsRefusalOf, IsRefusalOfFiles, IsRefusalOfTables}
+use Rattle.lytab.specs.TableTokens.{IsRefusalOfScanner}
 use Rattle.lytab.specs.declared.answering.Rules.{Rules}
 use Rattle.lytab.specs.declared.answering.Rules.TheVariants as rules
 use Rattle.lytab.specs.declared.completion.Completion.{Completion}
@@ -180,8 +181,50 @@ unfailed not (inl same) = inl same
 unfailed not (inr read) =
     inr (read.0, read.1, record { needed = λ _. read.2; asked = λ failed. absurd (not failed) })
 
+scanner_of_some : (tables : List ℕ) (given : Option (List ℕ)) (f : Failure) → IsRefusalOfScanner tables given f
+    → IsRefusalOfScanner tables None f
+scanner_of_some tables given (Tables fault) h = h
+scanner_of_some tables given FaultyTables h = (h.0, h.1, (h.2.0, tt, h.2.2, h.2.3, h.2.4))
+scanner_of_some tables given TooLong h = h
+scanner_of_some tables given (CannotRead path) h = tt
+scanner_of_some tables given (CannotWrite path) h = tt
+scanner_of_some tables given OutOfMemory h = tt
+scanner_of_some tables given (Unreadable path reason) h = h
+scanner_of_some tables given (Refused fault line) h = h
+scanner_of_some tables given (Unexpected counts wanted) h = h
+
+tables_of_some : (tables : List ℕ) (given : Option (List ℕ)) (f : Failure) → IsRefusalOfTables tables given f
+    → IsRefusalOfTables tables None f
+tables_of_some tables given (Tables fault) h = h
+tables_of_some tables given FaultyTables h = (h.0, h.1, (h.2.0, tt, h.2.2))
+tables_of_some tables given TooLong h = tt
+tables_of_some tables given (CannotRead path) h = tt
+tables_of_some tables given (CannotWrite path) h = tt
+tables_of_some tables given OutOfMemory h = tt
+tables_of_some tables given (Unreadable path reason) h = h
+tables_of_some tables given (Refused fault line) h = h
+tables_of_some tables given (Unexpected counts wanted) h = h
+
+files_of_some : (lex yacc : List ℕ) (given : Option (List ℕ)) (f : Failure) → IsRefusalOfFiles lex yacc given f
+    → IsRefusalOfFiles lex yacc None f
+files_of_some lex yacc given (Refused fault line) h = h
+files_of_some lex yacc given TooLong h = tt
+files_of_some lex yacc given (CannotRead path) h = tt
+files_of_some lex yacc given (CannotWrite path) h = tt
+files_of_some lex yacc given OutOfMemory h = tt
+files_of_some lex yacc given (Tables fault) h = h
+files_of_some lex yacc given FaultyTables h = h
+files_of_some lex yacc given (Unreadable path reason) h = h
+files_of_some lex yacc given (Unexpected counts wanted) h = h
+
 some_refused : (r : Rules) (given : Option (List ℕ)) (f : Failure) → IsRefusalOf r given f → IsRefusalOf r None f
-some_refused r given f h = ?
+some_refused (rules.Tokens lex form) given f h = h
+some_refused (rules.TableTokens tables form) given f h = scanner_of_some tables.now given f h
+some_refused (rules.Tables tables form) given f h = tables_of_some tables.now given f h
+some_refused (rules.Lines tables form) given f h = tt
+some_refused (rules.TablesPlaced tables) given f h = tables_of_some tables.now given f h
+some_refused (rules.BothPlaced lex yacc) given f h = files_of_some lex.now yacc.now given f h
+some_refused (rules.Both lex yacc form) given f h = files_of_some lex.now yacc.now given f h
 
 pub if_refused : (r : Rules) (given : Option (List ℕ)) (result : Result Completion Failure)
     → IfErr result (IsRefusalOf r given) → IfErr result (IsRefusalOf r None)
