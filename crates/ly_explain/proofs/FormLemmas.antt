@@ -7,12 +7,12 @@ use Rattle.std.specs.declared.vec.Vec.{Vec}
 use Rattle.ly_text_buffer.specs.TextBuffer.{Says}
 
 -- a buffer has exactly these bytes, unless an allocation failed
-pub Has : List ℕ → Option (List ℕ) → Type 0
+abbrev pub Has : List ℕ → Option (List ℕ) → Type 0
 Has text None = Unit {0}
 Has text (Some t) = t ≡ text
 
 -- a buffer begins with these bytes, unless an allocation failed
-pub Begins : List ℕ → Option (List ℕ) → Type 0
+abbrev pub Begins : List ℕ → Option (List ℕ) → Type 0
 Begins front None = Unit {0}
 Begins front (Some text) = (rest : List ℕ) × (text ≡ front ++ rest)
 

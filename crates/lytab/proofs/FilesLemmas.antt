@@ -1,7 +1,7 @@
 -- Lemmas on the files that a command writes.
-use Rattle.std.proofs.Common.{◌≡◌, ◌≢◌, ◌∙◌, ◌⊎◌, [], ◌∷◌, ◌++◌, ℕ, List, Option, Some, None, ap, inl, inr, option_map, refl}
-use Rattle.std.proofs.Common.{rules, sym, true, false, true≢false}
-use Rattle.std.specs.Prelude.{Err, IfErr, IsSome, Ok, OnErr, OnOk, Result, is_some}
+use Rattle.std.proofs.Common.{◌≡◌, ◌≢◌, ◌∙◌, ◌⊎◌, [], ◌∷◌, ◌++◌, ℕ, List, Option, Some, None, ap, false, inl, inr}
+use Rattle.std.proofs.Common.{refl, sym, true≢false}
+use Rattle.std.specs.Prelude.{Err, IsSome, Ok, OnErr, OnOk, Result, is_some}
 use Rattle.std.specs.declared.alloc.Global.{Global}
 use Rattle.std.specs.declared.vec.Vec.{Vec}
 use Rattle.ly_cli.specs.Paths.{as_list}
@@ -14,11 +14,11 @@ use Rattle.lytab.specs.declared.failure.Failure.{Failure}
 use Rattle.lytab.specs.Files.{AreFilesLeft, AreOthersKept, AreWritten, IsLeftIf, IsOther, set_if}
 
 -- a path is among these: no other path is the same
-Names : List (List ℕ) → List ℕ → Type 0
+abbrev Names : List (List ℕ) → List ℕ → Type 0
 Names paths path = (p : List ℕ) → IsOther paths p → p ≢ path
 
 -- the same, of a path that may be given
-NamesIf : List (List ℕ) → Option (List ℕ) → Type 0
+abbrev NamesIf : List (List ℕ) → Option (List ℕ) → Type 0
 NamesIf paths None = Unit {0}
 NamesIf paths (Some path) = Names paths path
 
