@@ -10,8 +10,8 @@ returns c =
     let front = json_front c.args.findings.now in
     let has : Has front c.match-findings.buffer = elim c.match-findings.branch [
       | in-Some w ↦ rw w.in-Some.is (rw w.buffer-is (has_four
-          (codes "{\"accepted\":true,\"counts\":{\"shift_reduce\":") (decimal w.in-Some.found.now.conflicts.shift_reduce)
-          (codes ",\"reduce_reduce\":") (decimal w.in-Some.found.now.conflicts.reduce_reduce)
+          (codes "{\"accepted\":true,\"counts\":{\"shift_reduce\":") (decimal w.in-Some.found.conflicts.shift_reduce)
+          (codes ",\"reduce_reduce\":") (decimal w.in-Some.found.conflicts.reduce_reduce)
           c.new-buffer.result w.push.new.self w.push_number.new.self w.push-in-Some.new.self
           w.push_number-in-Some.new.self c.new-buffer.ensures w.push.ensures w.push_number.ensures
           w.push-in-Some.ensures w.push_number-in-Some.ensures))
