@@ -73,6 +73,7 @@ new_replaces path new bytes f g h beside created renamed p =
   where
     from_new : g new ≡ Some bytes
     from_new = created.1 new ∙ set_here new (Some bytes) f
+
     by : (p ≡ new) ⊎ (bytes_eq p new ≡ false) → (p ≡ path) ⊎ (bytes_eq p path ≡ false)
         → set new None (set path (g new) g) p ≡ set path (Some bytes) f p
     by (inl same) other = rw same
@@ -116,6 +117,7 @@ rest_read bytes rest copied buf read n is within at = sym
   where
     cut : (xs : List ℕ) → length xs ≡ n → take n (xs ++ drop n buf) ≡ xs
     cut xs long = rw long at (take-append_seam xs (drop n buf))
+
     drop_twice : drop (read + n) bytes ≡ drop n (drop read bytes)
     drop_twice = sym (drop-drop n read bytes)
 

@@ -25,10 +25,10 @@ pub spared_beside : {E : Type 0} (path new : List ℕ) (a b c : Option Files) (r
     → OnErr removed (c ≡ b) → Changed (IsSpared path) a c
 spared_beside path new a b c (Ok done) beside begun gone same =
     changed_twice {R = IsBegun new} {S = IsSet new None} {T = IsSpared path} a b c
-        (λ f g h known first second. inl (begun_and_removed new f g h first second)) begun gone
+    (λ f g h known first second. inl (begun_and_removed new f g h first second)) begun gone
 spared_beside path new a b c (Err fault) beside begun gone same = rw (sym same) at
     (changed_also {R = IsBegun new} {S = IsSpared path} a b
-        (λ f g known first. inr (new, beside (rw known refl), first)) begun)
+    (λ f g known first. inr (new, beside (rw known refl), first)) begun)
 
 -- the same files with a path that is the same where they are known
 pub placed : (path place new bytes : List ℕ) (a b c : Option Files) → new ≢ place → (IsSome b → place ≡ path)
@@ -51,5 +51,5 @@ failed_rename path new bytes plain a b c removed fault is beside created gone sa
     failed_and_spared path bytes plain a c fault is
     (spared_beside path new a b c removed beside
     (changed_also {R = IsCreated new bytes} {S = IsBegun new} a b
-        (λ f g known is. created_is_begun new bytes f g is) created)
+    (λ f g known is. created_is_begun new bytes f g is) created)
     gone same)

@@ -159,12 +159,7 @@ impl Folder for MemFolder {
     }
 
     /// If it is set to fail, an empty file is left.
-    fn create(
-        &mut self,
-        path: &str,
-        _rights: &Option<()>,
-        bytes: &[u8],
-    ) -> Result<(), CreateFault>
+    fn create(&mut self, path: &str, _rights: &Option<()>, bytes: &[u8]) -> Result<(), CreateFault>
         ensures ok { OnOk result (IsCreated path.now bytes.now (files_of self.old) (files_of self.new)) }
         ensures err { IfErr result (IsCreatedOrNot path.now (Some (files_of self.old)) (Some (files_of self.new))) }
         ensures takes { TakesFile result }

@@ -86,10 +86,7 @@ fn replace<'a, D: Folder>(
 }
 
 /// Gives a complete new file the path of the one that it replaces.
-fn take_place<'a, D: Folder>(
-    folder: &mut D,
-    target: Target<'a, '_>,
-) -> Result<(), FileFault<'a>>
+fn take_place<'a, D: Folder>(folder: &mut D, target: Target<'a, '_>) -> Result<(), FileFault<'a>>
     requires beside { target.new.now ≢ target.place.now }
     requires same { IsSome (D.holds folder.old) → target.place.now ≡ target.path.now }
     ensures { (before : Option Files) (bytes : List ℕ) (plain : Bool)

@@ -24,7 +24,7 @@ returns-in-Ok-clause-performed g c = λ request mean. record {
         after = g.W.Sink.contents c.carry_out-ended.new.output;
       }))
       (c.in-Ok.ensures.taken request mean) c.carry_out-ended.ensures.carried_out;
-  is_status = c.concluded-status.ensures.status;
+  is_status = c.concluded_with-status.ensures.status;
   output = subst (λ (q : Request). IsOutputAfter q c.carry_out-ended.result (g.W.Sink.contents c.args.output.now)
       (g.W.Sink.contents c.carry_out-ended.new.output) (g.W.Sink.failures c.args.output.now)
       (g.W.Sink.failures c.carry_out-ended.new.output)) (c.in-Ok.ensures.taken request mean)
