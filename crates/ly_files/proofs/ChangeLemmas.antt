@@ -1,7 +1,7 @@
 -- Changes of files that may be known.
-use Rattle.std.proofs.Common.{◌≡◌, ◌≢◌, ◌⊎◌, ℕ, List, Option, Some, None, inl, inr, refl}
+use Rattle.std.proofs.Common.{◌≡◌, ℕ, List, Option, Some, None, inl, refl}
 use Rattle.std.specs.Prelude.{Err, Ok, OnErr, Result}
-use Rattle.ly_files.specs.Folder.{AreSame, Changed, Files, IsSpared, IsSparedOrSet}
+use Rattle.ly_files.specs.Folder.{Changed, Files, IsSpared, IsSparedOrSet}
 
 -- two changes, one after the other
 pub changed_twice : {R S T : Files → Files → Type 0} → (a b c : Option Files)
@@ -31,8 +31,10 @@ pub spares_unchanged : (path : List ℕ) (a : Option Files) → Changed (IsSpare
 spares_unchanged path a = unchanged (IsSpared path) (λ f. inl (λ p. refl)) a
 
 -- files that are spared are spared, or one is set
-pub spared_or_set : (path : List ℕ) (a b : Option Files) → Changed (IsSpared path) a b → Changed (IsSparedOrSet path) a b
-spared_or_set path a b is = changed_also {R = IsSpared path} {S = IsSparedOrSet path} a b (λ f g known spared. inl spared) is
+pub spared_or_set : (path : List ℕ) (a b : Option Files) → Changed (IsSpared path) a b
+    → Changed (IsSparedOrSet path) a b
+spared_or_set path a b is =
+    changed_also {R = IsSpared path} {S = IsSparedOrSet path} a b (λ f g known spared. inl spared) is
 
 -- what holds anyway holds after an error
 pub on_error : {T E : Type 0} {P : Type 0} → (r : Result T E) → P → OnErr r P

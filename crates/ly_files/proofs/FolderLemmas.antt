@@ -1,11 +1,11 @@
 -- Lemmas on files by their paths.
-use Rattle.std.proofs.Common.{◌≡◌, ◌≢◌, ◌∙◌, ◌⊎◌, ◌++◌, ℕ, Bool, List, [], ◌∷◌, Option, Some, None, ap, arith, false, get_or, inl}
-use Rattle.std.proofs.Common.{inr, length, min, refl, rules, suc, sym, take, true, drop, ◌<◌, ◌≤◌, ◌+◌}
-use Rattle.std.specs.Prelude.{Err, Ok, OnErr, OnOk, Result, bytes_eq, if◌then◌else◌, option_map, string_bytes}
+use Rattle.std.proofs.Common.{◌≡◌, ◌≢◌, ◌∙◌, ◌⊎◌, ◌++◌, ℕ, Bool, List, [], ◌∷◌, Option, Some, None, ap}
+use Rattle.std.proofs.Common.{arith, false, get_or, inl, inr, length, min, refl, rules, suc, sym, take, true, drop, ◌<◌, ◌≤◌, ◌+◌}
+use Rattle.std.specs.Prelude.{Err, Ok, OnErr, OnOk, Result, bytes_eq, option_map, string_bytes}
 use Rattle.std.proofs.Math.Seq.{drop-drop, take-append_seam, take-suc}
 use Rattle.std.proofs.lemmas.List.{length-take-le, take-append-drop}
 use Rattle.std.proofs.lemmas.Slice.Eq.{bytes_eq-Decides}
-use Rattle.ly_files.specs.Folder.{AreSame, Files, IsBegun, IsCreated, IsRenamed, IsSet, IsSetSomehow, IsSpared, set}
+use Rattle.ly_files.specs.Folder.{AreSame, Files, IsBegun, IsCreated, IsRenamed, IsSet, IsSetSomehow, set}
 use Rattle.ly_files.specs.MemFolder.{changed_by, no_files}
 use Rattle.ly_files.specs.declared.mem_folder.Entry.{Entry}
 

@@ -1,16 +1,16 @@
 -- How writing a file ends.
-use Rattle.std.proofs.Common.{◌≡◌, ◌≢◌, ◌⊎◌, ℕ, Bool, List, Option, Some, None, inl, inr, refl, sym, true, ◌∙◌}
+use Rattle.std.proofs.Common.{◌≡◌, ◌≢◌, ℕ, Bool, List, Option, Some, None, inl, inr, refl, sym}
 use Rattle.std.specs.Prelude.{Err, IsSome, Ok, OnErr, OnOk, Result}
 use Rattle.ly_files.proofs.ChangeLemmas.{changed_also, changed_twice, spared_or_set}
 use Rattle.ly_files.proofs.FolderLemmas.{begun_and_removed, created_is_begun, new_replaces}
-use Rattle.ly_files.specs.Folder.{AreSame, Changed, Files, IsBegun, IsCreated, IsRenamed, IsSet, IsSpared}
+use Rattle.ly_files.specs.Folder.{Changed, Files, IsBegun, IsCreated, IsRenamed, IsSet, IsSpared}
 use Rattle.ly_files.specs.Folders.{HasWritten}
 use Rattle.ly_files.specs.declared.file_fault.FileFault.{FileFault}
 use Rattle.ly_files.specs.Fault.{IsWriteFault}
 
 -- a failure that spared the file
-pub failed_and_spared : {A : Type 0} (path bytes : List ℕ) (plain : Bool) (before after : Option Files) (fault : FileFault)
-    → IsWriteFault path fault → Changed (IsSpared path) before after
+pub failed_and_spared : {A : Type 0} (path bytes : List ℕ) (plain : Bool) (before after : Option Files)
+    (fault : FileFault) → IsWriteFault path fault → Changed (IsSpared path) before after
     → HasWritten {A = A} path bytes plain before after (Err fault)
 failed_and_spared path bytes plain before after fault is spared = record {
   written = tt;

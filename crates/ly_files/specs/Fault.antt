@@ -1,5 +1,5 @@
 -- Which errors reading and writing a file return.
-use Rattle.std.specs.Prelude.{◌≡◌, ◌⊎◌, ℕ, List}
+use Rattle.std.specs.Prelude.{◌≡◌, ℕ, List}
 use Rattle.ly_files.specs.declared.file_fault.FileFault.{FileFault}
 use Rattle.ly_files.specs.declared.file_fault.FileFault.TheVariants.{CannotRead, CannotWrite, OutOfMemory}
 

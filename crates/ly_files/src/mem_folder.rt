@@ -1,4 +1,4 @@
-ghost use Rattle.std.specs.Prelude.{◌≡◌, ◌-◌, ◌<◌, ◌≤◌, ◌++◌, [], ◌∷◌, IfOk, List, None, OnErr, OnOk, Option, Some, drop};
+ghost use Rattle.std.specs.Prelude.{◌≡◌, ◌-◌, ◌<◌, ◌≤◌, ◌++◌, [], ◌∷◌, IfOk, List, None, OnErr, OnOk, Option, Some};
 ghost use Rattle.std.specs.Prelude.{◌↔◌, IfErr, IsErr, length, min, option_map, string_bytes, true, ℕ};
 ghost use Rattle.ly_files.specs.Folder.{Files, IsCreated, IsRenamed, IsSet, IsSetSomehow, set};
 ghost use Rattle.ly_files.specs.Folders.{IsCreatedOrNot, TakesFile};

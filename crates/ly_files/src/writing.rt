@@ -67,8 +67,8 @@ fn replace<'a, D: Folder>(
     requires same { IsSome (D.holds folder.old) → target.place.now ≡ target.path.now }
     ensures none { result ≡ None → D.holds folder.new ≡ D.holds folder.old }
     ensures plain { result ≡ None → D.is_plain folder.new ≡ D.is_plain folder.old }
-    ensures written { IfSome result (HasWritten target.entry.path.now bytes.now (D.is_plain folder.old) (D.holds folder.old)
-        (D.holds folder.new)) }
+    ensures written { IfSome result (HasWritten target.entry.path.now bytes.now (D.is_plain folder.old)
+        (D.holds folder.old) (D.holds folder.new)) }
 {
     match folder.create(target.new, rights, bytes) {
         Ok(()) => Some(take_place(folder, target)),

@@ -23,7 +23,7 @@ use Rattle.lytab.specs.CarriedOut.{lex_text, wanted_for}
 use Rattle.lytab.specs.Devices.{LineFailuresReported, WriteFailuresReported, UnchangedOrWriteFailed}
 use Rattle.lytab.specs.Devices.{OutputFailuresReported, DoneOrUnchanged, IsOutputAfter}
 use Rattle.lytab.specs.Failure.{IsOfDevice, IsOfWriter, failure_of_file}
-use Rattle.lytab.specs.Files.{IsWrittenIf}
+use Rattle.ly_files.specs.Folder.{Files, IsFile}
 use Rattle.lytab.specs.Lines.{AreLinesAnsweredBy, AreLinesFailed, AreLinesRead}
 use Rattle.lytab.specs.Placing.{IsPlacedByFiles, IsPlacedByTables, IsPlacingBegunByFiles, IsPlacingBegunByTables}
 use Rattle.lytab.specs.Reading.{IsOfRules, IsReadByFiles, IsReadByTables}
@@ -35,53 +35,54 @@ use Rattle.lytab.specs.declared.failure.Failure.{Failure}
 use Rattle.lytab.specs.declared.failure.Failure.TheVariants.{FaultyTables, Refused, Tables, TooLong, Unexpected}
 use Rattle.lytab.specs.declared.failure.Failure.TheVariants.{Unreadable}
 use Rattle.lytab.specs.declared.failure.Failure.TheVariants as failure
-use Rattle.lytab.specs.declared.files.FileFault.{FileFault}
-use Rattle.lytab.specs.declared.files.FileFault.TheVariants.{CannotRead, CannotWrite, OutOfMemory}
+use Rattle.ly_files.specs.declared.file_fault.FileFault.{FileFault}
+use Rattle.ly_files.specs.declared.file_fault.FileFault.TheVariants.{CannotRead, CannotWrite, OutOfMemory}
 
--- a file that can't be read, or want of memory, says nothing of what files hold
+-- a file that can't be read, or a failed allocation, implies nothing of what files hold
 fails_lex : (lex : List ℕ) (fault : FileFault) → IsRefusalOfLex lex (failure_of_file fault)
-fails_lex lex (CannotRead path) = tt
-fails_lex lex (CannotWrite path) = tt
+fails_lex lex (CannotRead path reason) = tt
+fails_lex lex (CannotWrite path reason) = tt
 fails_lex lex OutOfMemory = tt
 
 fails_tables : (tables : List ℕ) (given : Option (List ℕ)) (fault : FileFault)
     → IsRefusalOfTables tables given (failure_of_file fault)
-fails_tables tables given (CannotRead path) = tt
-fails_tables tables given (CannotWrite path) = tt
+fails_tables tables given (CannotRead path reason) = tt
+fails_tables tables given (CannotWrite path reason) = tt
 fails_tables tables given OutOfMemory = tt
 
 fails_scanner : (tables : List ℕ) (given : Option (List ℕ)) (fault : FileFault)
     → IsRefusalOfScanner tables given (failure_of_file fault)
-fails_scanner tables given (CannotRead path) = tt
-fails_scanner tables given (CannotWrite path) = tt
+fails_scanner tables given (CannotRead path reason) = tt
+fails_scanner tables given (CannotWrite path reason) = tt
 fails_scanner tables given OutOfMemory = tt
 
 pub fails_lines : (form : AnswerForm) (tables : List ℕ) (given before after : Option (List ℕ)) (fault : FileFault)
     → after ≡ before → AreLinesFailed form tables given before after (failure_of_file fault)
-fails_lines form tables given before after (CannotRead path) same = inl same
-fails_lines form tables given before after (CannotWrite path) same = inl same
+fails_lines form tables given before after (CannotRead path reason) same = inl same
+fails_lines form tables given before after (CannotWrite path reason) same = inl same
 fails_lines form tables given before after OutOfMemory same = inl same
 
 fails_files : (lex yacc : List ℕ) (given : Option (List ℕ)) (fault : FileFault)
     → IsRefusalOfFiles lex yacc given (failure_of_file fault)
-fails_files lex yacc given (CannotRead path) = tt
-fails_files lex yacc given (CannotWrite path) = tt
+fails_files lex yacc given (CannotRead path reason) = tt
+fails_files lex yacc given (CannotWrite path reason) = tt
 fails_files lex yacc given OutOfMemory = tt
 
-pub fails_build : (version : Version) (expected : Option ℕ) (fault : FileFault)
-    → IsRefusalOfBuild version expected (failure_of_file fault)
-fails_build version expected (CannotRead path) = tt
-fails_build version expected (CannotWrite path) = tt
-fails_build version expected OutOfMemory = tt
+pub fails_build : (version : Version) (expected : Option ℕ) (files : Option Files) (lex yacc : List ℕ)
+    (fault : FileFault) → IsRefusalOfBuild version expected files lex yacc (failure_of_file fault)
+fails_build version expected files lex yacc (CannotRead path reason) = tt
+fails_build version expected files lex yacc (CannotWrite path reason) = tt
+fails_build version expected files lex yacc OutOfMemory = tt
 
-fails_check : (fault : FileFault) → IsRefusalOfCheck (failure_of_file fault)
-fails_check (CannotRead path) = tt
-fails_check (CannotWrite path) = tt
-fails_check OutOfMemory = tt
+fails_check : (files : Option Files) (path : List ℕ) (fault : FileFault)
+    → IsRefusalOfCheck files path (failure_of_file fault)
+fails_check files path (CannotRead p reason) = tt
+fails_check files path (CannotWrite p reason) = tt
+fails_check files path OutOfMemory = tt
 
 fails_device : (fault : FileFault) → IsOfDevice (failure_of_file fault)
-fails_device (CannotRead path) = tt
-fails_device (CannotWrite path) = tt
+fails_device (CannotRead path reason) = tt
+fails_device (CannotWrite path reason) = tt
 fails_device OutOfMemory = tt
 
 untouched : {A R : Type 0} (text : Option A) (r : Result Completion Failure) (e : Ends R) (read : Type 0)
@@ -91,77 +92,81 @@ untouched None r e read same unread done = (unread, done)
 untouched (Some path) r e read same unread done = same
 
 -- so a command failed before it did anything, and standard input and output are as they were
-pub failed_first : {R D : Type 0} (contents : D → Option (List ℕ)) (request : Request) (fault : FileFault) (e : Ends R)
+pub failed_first : {R : Type 0} (request : Request) (fault : FileFault) (e : Ends R)
     → e.input_after ≡ e.input_before → e.after ≡ e.before
-    → IsCarriedOut contents request (Err (failure_of_file fault)) e
-failed_first contents (tokens lex text by) fault e same kept = (
+    → IsCarriedOut request (Err (failure_of_file fault)) e
+failed_first (tokens lex text by) fault e same kept = (
   [],
+  λ no. absurd (no (fails_device fault)),
   tt,
   fails_lex [] fault,
   inl kept,
   untouched text (Err (failure_of_file fault)) e _ same (λ _. same) tt,
 )
-failed_first contents (table_tokens table_file text by) fault e same kept = (
+failed_first (table_tokens table_file text by) fault e same kept = (
   [],
+  λ no. absurd (no (fails_device fault)),
   tt,
-  fails_scanner [] (text_from text e.given) fault,
+  fails_scanner [] (text_from text e.files_before e.given) fault,
   inl kept,
   untouched text (Err (failure_of_file fault)) e _ same (λ _. same) tt,
 )
-failed_first contents (run table_file text by) fault e same kept = (
+failed_first (run table_file text by) fault e same kept = (
   [],
+  λ no. absurd (no (fails_device fault)),
   tt,
-  fails_tables [] (text_from text e.given) fault,
+  fails_tables [] (text_from text e.files_before e.given) fault,
   inl kept,
   untouched text (Err (failure_of_file fault)) e _ same (λ _. same) (inl same),
 )
-failed_first contents (lines table_file text by) fault e same kept = (
+failed_first (lines table_file text by) fault e same kept = (
   [],
+  λ no. absurd (no (fails_device fault)),
   tt,
-  fails_lines by.form [] (text_from text e.given) e.before e.after fault kept,
+  fails_lines by.form [] (text_from text e.files_before e.given) e.before e.after fault kept,
   untouched text (Err (failure_of_file fault)) e _ same (λ _. same) (inl same),
 )
-failed_first contents (run_placed table_file text points) fault e same kept = (
+failed_first (run_placed table_file text points) fault e same kept = (
   [],
+  λ no. absurd (no (fails_device fault)),
   tt,
-  fails_tables [] (text_from text e.given) fault,
+  fails_tables [] (text_from text e.files_before e.given) fault,
   inl kept,
   untouched text (Err (failure_of_file fault)) e _ same (λ _. same) tt,
 )
-failed_first contents (try_placed lex yacc text points) fault e same kept = (
+failed_first (try_placed lex yacc text points) fault e same kept = (
   [],
   [],
+  λ no. absurd (no (fails_device fault)),
+  λ no. absurd (no (fails_device fault)),
   tt,
-  fails_files [] [] (text_from text e.given) fault,
+  fails_files [] [] (text_from text e.files_before e.given) fault,
   inl kept,
   untouched text (Err (failure_of_file fault)) e _ same (λ _. same) tt,
 )
-failed_first contents (try lex yacc text by) fault e same kept = (
+failed_first (try lex yacc text by) fault e same kept = (
   [],
   [],
+  λ no. absurd (no (fails_device fault)),
+  λ no. absurd (no (fails_device fault)),
   tt,
-  fails_files [] [] (text_from text e.given) fault,
+  fails_files [] [] (text_from text e.files_before e.given) fault,
   inl kept,
   untouched text (Err (failure_of_file fault)) e _ same (λ _. same) (inl same),
 )
-failed_first contents (build lex yacc table_file report version expected points) fault e same kept =
-    (inl kept, fails_build version expected fault, same)
-failed_first contents (check table_file by) fault e same kept = (inl kept, fails_check fault, same)
-failed_first contents (explain lex yacc states graph strictness form) fault e same kept =
+failed_first (build lex yacc table_file report version expected points) fault e same kept =
+    (inl kept, fails_build version expected e.files_before lex yacc fault, same)
+failed_first (check table_file by) fault e same kept = (inl kept, fails_check e.files_before table_file fault, same)
+failed_first (explain lex yacc states graph strictness form) fault e same kept =
     (inl kept, fails_device fault, same)
 
-pub failed_with : {R D : Type 0} (contents : D → Option (List ℕ)) (request : Request) (fault : FileFault) (e : Ends R)
+pub failed_with : {R : Type 0} (request : Request) (fault : FileFault) (e : Ends R)
     (r : Result Completion Failure) → IsErrAnd r (λ f. f ≡ failure_of_file fault) → e.input_after ≡ e.input_before
-    → e.after ≡ e.before → IsCarriedOut contents request r e
-failed_with contents request fault e (Ok c) is same kept = absurd is
-failed_with contents request fault e (Err f) is same kept =
-    subst (λ g. IsCarriedOut contents request (Err g) e) (sym is)
-    (failed_first contents request fault e same kept)
-
-text_mapped : {A B : Type 0} (f : A → B) (text : Option A) (given : Option (List ℕ))
-    → text_from (option_map f text) given ≡ text_from text given
-text_mapped f None given = refl
-text_mapped f (Some path) given = refl
+    → e.after ≡ e.before → IsCarriedOut request r e
+failed_with request fault e (Ok c) is same kept = absurd is
+failed_with request fault e (Err f) is same kept =
+    subst (λ g. IsCarriedOut request (Err g) e) (sym is)
+    (failed_first request fault e same kept)
 
 -- what is said of standard input, whatever paths are
 input_mapped : {A B R : Type 0} (f : A → B) (text : Option A) (r : Result Completion Failure) (e : Ends R)
@@ -186,232 +191,131 @@ begun_at_most known (Err FaultyTables) old new begun begins stays = inl (ap know
 begun_at_most known (Err TooLong) old new begun begins stays = inl (ap known (stays (λ no. no)))
 begun_at_most known (Err failure.OutOfMemory) old new begun begins stays = inl (ap known (stays (λ no. no)))
 
--- a command that answers a text, by the bytes of its files
-pub carried_tokens : {A R D : Type 0} (contents : D → Option (List ℕ)) (f : A → List ℕ) (path lex : List ℕ)
-    (text : Option A) (by : Answering) (r : Result Completion Failure) (e : Ends R)
-    → IfOk r (AreTokensPrinted by.form lex (text_from text e.given) e.before e.after) → IfErr r (IsRefusalOfLex lex)
-    → WroteNothingOrPrefix r e (AreTokensBegun by.form lex (text_from text e.given) e.before e.after)
+-- a command that parses a text, by the bytes of its files
+pub carried_tokens : {A R : Type 0} (f : A → List ℕ) (path lex : List ℕ) (text : Option A) (by : Answering)
+    (r : Result Completion Failure) (e : Ends R) → IsFile e.files_before path lex
+    → IfOk r (AreTokensPrinted by.form lex (text_from (option_map f text) e.files_before e.given) e.before e.after)
+    → IfErr r (IsRefusalOfLex lex)
+    → WroteNothingOrPrefix r e
+    (AreTokensBegun by.form lex (text_from (option_map f text) e.files_before e.given) e.before e.after)
     → (IsSome text → e.input_after ≡ e.input_before)
     → (text ≡ None → IfErr r (λ g. IsOfRules g → e.input_after ≡ e.input_before))
-    → (text ≡ None → OnOk r (IsAtEnd e.left))
-    → IsCarriedOut contents (tokens path (option_map f text) by) r e
-carried_tokens contents f path lex text by r e answered refused begins elsewhere unread needed = (
-  lex,
-  subst (λ given. IfOk r (AreTokensPrinted by.form lex given e.before e.after)) (sym (text_mapped f text e.given))
-      answered,
+    → (text ≡ None → OnOk r (IsAtEnd e.left)) → IsCarriedOut (tokens path (option_map f text) by) r e
+carried_tokens f path lex text by r e is answered refused begins elsewhere unread needed =
+    (lex, λ no. is, answered, refused, begins, input_mapped f text r e (OnOk r (IsAtEnd e.left)) elsewhere unread needed)
+
+pub carried_table_tokens : {A R : Type 0} (f : A → List ℕ) (path bytes : List ℕ) (text : Option A) (by : Answering)
+    (r : Result Completion Failure) (e : Ends R) → IsFile e.files_before path bytes
+    → IfOk r (AreTableTokens by.form bytes (text_from (option_map f text) e.files_before e.given) e.before e.after)
+    → IfErr r (IsRefusalOfScanner bytes (text_from (option_map f text) e.files_before e.given))
+    → WroteNothingOrPrefix r e
+    (AreTableTokensBegun by.form bytes (text_from (option_map f text) e.files_before e.given) e.before e.after)
+    → (IsSome text → e.input_after ≡ e.input_before)
+    → (text ≡ None → IfErr r (λ g. IsOfRules g → e.input_after ≡ e.input_before))
+    → (text ≡ None → OnOk r (IsAtEnd e.left)) → IsCarriedOut (table_tokens path (option_map f text) by) r e
+carried_table_tokens f path bytes text by r e is answered refused begins elsewhere unread needed = (
+  bytes,
+  λ no. is,
+  answered,
   refused,
-  subst (λ given. WroteNothingOrPrefix r e (AreTokensBegun by.form lex given e.before e.after))
-      (sym (text_mapped f text e.given)) begins,
+  begins,
   input_mapped f text r e (OnOk r (IsAtEnd e.left)) elsewhere unread needed,
 )
 
-pub carried_table_tokens : {A R D : Type 0} (contents : D → Option (List ℕ)) (f : A → List ℕ) (path bytes : List ℕ)
-    (text : Option A) (by : Answering) (r : Result Completion Failure) (e : Ends R)
-    → IfOk r (AreTableTokens by.form bytes (text_from text e.given) e.before e.after)
-    → IfErr r (IsRefusalOfScanner bytes (text_from text e.given))
-    → WroteNothingOrPrefix r e (AreTableTokensBegun by.form bytes (text_from text e.given) e.before e.after)
+pub carried_run : {A R : Type 0} (f : A → List ℕ) (path bytes : List ℕ) (text : Option A) (by : Answering)
+    (r : Result Completion Failure) (e : Ends R) → IsFile e.files_before path bytes
+    → IfOk r (IsAnsweredByTables by.form bytes (text_from (option_map f text) e.files_before e.given) e.before e.after)
+    → IfErr r (IsRefusalOfTables bytes (text_from (option_map f text) e.files_before e.given))
+    → WroteNothingOrPrefix r e
+    (IsBegunByTables by.form bytes (text_from (option_map f text) e.files_before e.given) e.before e.after)
     → (IsSome text → e.input_after ≡ e.input_before)
     → (text ≡ None → IfErr r (λ g. IsOfRules g → e.input_after ≡ e.input_before))
-    → (text ≡ None → OnOk r (IsAtEnd e.left))
-    → IsCarriedOut contents (table_tokens path (option_map f text) by) r e
-carried_table_tokens contents f path bytes text by r e answered refused begins elsewhere unread needed = (
+    → (text ≡ None → IsReadByTables bytes r e.given e.left) → IsCarriedOut (run path (option_map f text) by) r e
+carried_run f path bytes text by r e is answered refused begins elsewhere unread needed = (
   bytes,
-  subst (λ given. IfOk r (AreTableTokens by.form bytes given e.before e.after)) (sym (text_mapped f text e.given))
-      answered,
-  subst (λ given. IfErr r (IsRefusalOfScanner bytes given)) (sym (text_mapped f text e.given)) refused,
-  subst (λ given. WroteNothingOrPrefix r e (AreTableTokensBegun by.form bytes given e.before e.after))
-      (sym (text_mapped f text e.given)) begins,
-  input_mapped f text r e (OnOk r (IsAtEnd e.left)) elsewhere unread needed,
-)
-
-pub carried_run : {A R D : Type 0} (contents : D → Option (List ℕ)) (f : A → List ℕ) (path bytes : List ℕ)
-    (text : Option A) (by : Answering) (r : Result Completion Failure) (e : Ends R)
-    → IfOk r (IsAnsweredByTables by.form bytes (text_from text e.given) e.before e.after)
-    → IfErr r (IsRefusalOfTables bytes (text_from text e.given))
-    → WroteNothingOrPrefix r e (IsBegunByTables by.form bytes (text_from text e.given) e.before e.after)
-    → (IsSome text → e.input_after ≡ e.input_before)
-    → (text ≡ None → IfErr r (λ g. IsOfRules g → e.input_after ≡ e.input_before))
-    → (text ≡ None → IsReadByTables bytes r e.given e.left)
-    → IsCarriedOut contents (run path (option_map f text) by) r e
-carried_run contents f path bytes text by r e answered refused begins elsewhere unread needed = (
-  bytes,
-  subst (λ given. IfOk r (IsAnsweredByTables by.form bytes given e.before e.after)) (sym (text_mapped f text e.given))
-      answered,
-  subst (λ given. IfErr r (IsRefusalOfTables bytes given)) (sym (text_mapped f text e.given)) refused,
-  subst (λ given. WroteNothingOrPrefix r e (IsBegunByTables by.form bytes given e.before e.after))
-      (sym (text_mapped f text e.given)) begins,
+  λ no. is,
+  answered,
+  refused,
+  begins,
   input_mapped f text r e _ elsewhere unread (λ no. inr (needed no)),
 )
 
-pub carried_lines : {A R D : Type 0} (contents : D → Option (List ℕ)) (f : A → List ℕ) (path bytes : List ℕ)
-    (text : Option A) (by : Answering) (r : Result Completion Failure) (e : Ends R)
-    → IfOk r (AreLinesAnsweredBy by.form bytes (text_from text e.given) e.before e.after)
-    → IfErr r (AreLinesFailed by.form bytes (text_from text e.given) e.before e.after)
+pub carried_lines : {A R : Type 0} (f : A → List ℕ) (path bytes : List ℕ) (text : Option A) (by : Answering)
+    (r : Result Completion Failure) (e : Ends R) → IsFile e.files_before path bytes
+    → IfOk r (AreLinesAnsweredBy by.form bytes (text_from (option_map f text) e.files_before e.given) e.before e.after)
+    → IfErr r (AreLinesFailed by.form bytes (text_from (option_map f text) e.files_before e.given) e.before e.after)
     → (IsSome text → e.input_after ≡ e.input_before)
     → (text ≡ None → IfErr r (λ g. IsOfRules g → e.input_after ≡ e.input_before))
     → (text ≡ None → AreLinesRead by.form bytes r e.given e.left e.before e.after)
-    → IsCarriedOut contents (lines path (option_map f text) by) r e
-carried_lines contents f path bytes text by r e answered failed elsewhere unread read = (
-  bytes,
-  subst (λ given. IfOk r (AreLinesAnsweredBy by.form bytes given e.before e.after)) (sym (text_mapped f text e.given))
-      answered,
-  subst (λ given. IfErr r (AreLinesFailed by.form bytes given e.before e.after)) (sym (text_mapped f text e.given))
-      failed,
-  input_mapped f text r e _ elsewhere unread (λ no. inr (read no)),
-)
+    → IsCarriedOut (lines path (option_map f text) by) r e
+carried_lines f path bytes text by r e is answered failed elsewhere unread read =
+    (bytes, λ no. is, answered, failed, input_mapped f text r e _ elsewhere unread (λ no. inr (read no)))
 
-pub carried_run_placed : {A R D : Type 0} (contents : D → Option (List ℕ)) (f : A → List ℕ) (path bytes : List ℕ)
-    (text : Option A) (points : Bool) (r : Result Completion Failure) (e : Ends R)
-    → IfOk r (IsPlacedByTables bytes (text_from text e.given) e.before e.after)
-    → IfErr r (IsRefusalOfTables bytes (text_from text e.given))
-    → WroteNothingOrPrefix r e (IsPlacingBegunByTables bytes (text_from text e.given) e.before e.after)
+pub carried_run_placed : {A R : Type 0} (f : A → List ℕ) (path bytes : List ℕ) (text : Option A) (points : Bool)
+    (r : Result Completion Failure) (e : Ends R) → IsFile e.files_before path bytes
+    → IfOk r (IsPlacedByTables bytes (text_from (option_map f text) e.files_before e.given) e.before e.after)
+    → IfErr r (IsRefusalOfTables bytes (text_from (option_map f text) e.files_before e.given))
+    → WroteNothingOrPrefix r e
+    (IsPlacingBegunByTables bytes (text_from (option_map f text) e.files_before e.given) e.before e.after)
     → (IsSome text → e.input_after ≡ e.input_before)
     → (text ≡ None → IfErr r (λ g. IsOfRules g → e.input_after ≡ e.input_before))
-    → (text ≡ None → OnOk r (IsAtEnd e.left))
-    → IsCarriedOut contents (run_placed path (option_map f text) points) r e
-carried_run_placed contents f path bytes text points r e answered refused begins elsewhere unread needed = (
+    → (text ≡ None → OnOk r (IsAtEnd e.left)) → IsCarriedOut (run_placed path (option_map f text) points) r e
+carried_run_placed f path bytes text points r e is answered refused begins elsewhere unread needed = (
   bytes,
-  subst (λ given. IfOk r (IsPlacedByTables bytes given e.before e.after)) (sym (text_mapped f text e.given)) answered,
-  subst (λ given. IfErr r (IsRefusalOfTables bytes given)) (sym (text_mapped f text e.given)) refused,
-  subst (λ given. WroteNothingOrPrefix r e (IsPlacingBegunByTables bytes given e.before e.after))
-      (sym (text_mapped f text e.given)) begins,
+  λ no. is,
+  answered,
+  refused,
+  begins,
   input_mapped f text r e (OnOk r (IsAtEnd e.left)) elsewhere unread needed,
 )
 
-pub carried_try_placed : {A R D : Type 0} (contents : D → Option (List ℕ)) (f : A → List ℕ)
-    (path other lex yacc : List ℕ) (text : Option A) (points : Bool) (r : Result Completion Failure) (e : Ends R)
-    → IfOk r (IsPlacedByFiles lex yacc (text_from text e.given) e.before e.after)
-    → IfErr r (IsRefusalOfFiles lex yacc (text_from text e.given))
-    → WroteNothingOrPrefix r e (IsPlacingBegunByFiles lex yacc (text_from text e.given) e.before e.after)
+pub carried_try_placed : {A R : Type 0} (f : A → List ℕ) (path other lex yacc : List ℕ) (text : Option A)
+    (points : Bool) (r : Result Completion Failure) (e : Ends R) → IsFile e.files_before path lex
+    → IsFile e.files_before other yacc
+    → IfOk r (IsPlacedByFiles lex yacc (text_from (option_map f text) e.files_before e.given) e.before e.after)
+    → IfErr r (IsRefusalOfFiles lex yacc (text_from (option_map f text) e.files_before e.given))
+    → WroteNothingOrPrefix r e
+    (IsPlacingBegunByFiles lex yacc (text_from (option_map f text) e.files_before e.given) e.before e.after)
     → (IsSome text → e.input_after ≡ e.input_before)
     → (text ≡ None → IfErr r (λ g. IsOfRules g → e.input_after ≡ e.input_before))
-    → (text ≡ None → OnOk r (IsAtEnd e.left))
-    → IsCarriedOut contents (try_placed path other (option_map f text) points) r e
-carried_try_placed contents f path other lex yacc text points r e answered refused begins elsewhere unread needed = (
+    → (text ≡ None → OnOk r (IsAtEnd e.left)) → IsCarriedOut (try_placed path other (option_map f text) points) r e
+carried_try_placed f path other lex yacc text points r e is also answered refused begins elsewhere unread needed = (
   lex,
   yacc,
-  subst (λ given. IfOk r (IsPlacedByFiles lex yacc given e.before e.after)) (sym (text_mapped f text e.given)) answered,
-  subst (λ given. IfErr r (IsRefusalOfFiles lex yacc given)) (sym (text_mapped f text e.given)) refused,
-  subst (λ given. WroteNothingOrPrefix r e (IsPlacingBegunByFiles lex yacc given e.before e.after))
-      (sym (text_mapped f text e.given)) begins,
+  λ no. is,
+  λ no. also,
+  answered,
+  refused,
+  begins,
   input_mapped f text r e (OnOk r (IsAtEnd e.left)) elsewhere unread needed,
 )
 
-pub carried_try : {A R D : Type 0} (contents : D → Option (List ℕ)) (f : A → List ℕ) (path other lex yacc : List ℕ)
-    (text : Option A) (by : Answering) (r : Result Completion Failure) (e : Ends R)
-    → IfOk r (IsAnsweredByFiles by.form lex yacc (text_from text e.given) e.before e.after)
-    → IfErr r (IsRefusalOfFiles lex yacc (text_from text e.given))
-    → WroteNothingOrPrefix r e (IsBegunByFiles by.form lex yacc (text_from text e.given) e.before e.after)
+pub carried_try : {A R : Type 0} (f : A → List ℕ) (path other lex yacc : List ℕ) (text : Option A) (by : Answering)
+    (r : Result Completion Failure) (e : Ends R) → IsFile e.files_before path lex → IsFile e.files_before other yacc
+    → IfOk r (IsAnsweredByFiles by.form lex yacc (text_from (option_map f text) e.files_before e.given) e.before e.after)
+    → IfErr r (IsRefusalOfFiles lex yacc (text_from (option_map f text) e.files_before e.given))
+    → WroteNothingOrPrefix r e
+    (IsBegunByFiles by.form lex yacc (text_from (option_map f text) e.files_before e.given) e.before e.after)
     → (IsSome text → e.input_after ≡ e.input_before)
     → (text ≡ None → IfErr r (λ g. IsOfRules g → e.input_after ≡ e.input_before))
     → (text ≡ None → IsReadByFiles lex yacc r e.input_before e.input_after e.given e.left)
-    → IsCarriedOut contents (try path other (option_map f text) by) r e
-carried_try contents f path other lex yacc text by r e answered refused begins elsewhere unread needed = (
+    → IsCarriedOut (try path other (option_map f text) by) r e
+carried_try f path other lex yacc text by r e is also answered refused begins elsewhere unread needed = (
   lex,
   yacc,
-  subst (λ given. IfOk r (IsAnsweredByFiles by.form lex yacc given e.before e.after)) (sym (text_mapped f text e.given))
-      answered,
-  subst (λ given. IfErr r (IsRefusalOfFiles lex yacc given)) (sym (text_mapped f text e.given)) refused,
-  subst (λ given. WroteNothingOrPrefix r e (IsBegunByFiles by.form lex yacc given e.before e.after))
-      (sym (text_mapped f text e.given)) begins,
+  λ no. is,
+  λ no. also,
+  answered,
+  refused,
+  begins,
   input_mapped f text r e _ elsewhere unread needed,
 )
-
-written_mapped : {A B D : Type 0} (f : A → B) (contents : D → Option (List ℕ)) (path : Option A)
-    (bytes : Option (Vec ℕ Global)) → IsWrittenIf contents path bytes → IsWrittenIf contents (option_map f path) bytes
-written_mapped f contents None bytes h = tt
-written_mapped f contents (Some path) None h = tt
-written_mapped f contents (Some path) (Some bytes) h = h
-
-wanted_mapped : {A B : Type 0} (f : A → B) (path : Option A) → wanted_for (option_map f path) ≡ wanted_for path
-wanted_mapped f None = refl
-wanted_mapped f (Some path) = refl
-
-build_told : {A B D : Type 0} (f : A → B) (contents : D → Option (List ℕ)) (limits : Sizes) (version : Version)
-    (path : Option A) (expected : Option ℕ) (before after : Option (List ℕ)) (r : Result Completion Failure)
-    → HasBuilt contents limits version path expected before after r
-    → HasBuilt contents limits version (option_map f path) expected before after r
-build_told f contents limits version path expected before after r h = record {
-  lex = h.lex;
-  yacc = h.yacc;
-  set = h.set;
-  generated = h.generated;
-  tables = h.tables;
-  spelled = h.spelled;
-  tables_written = h.tables_written;
-  report = h.report;
-  is_report = subst (λ options. IsReportIf options h.generated.spec h.report) (sym (wanted_mapped f path)) h.is_report;
-  report_written = written_mapped f contents path h.report h.report_written;
-  counts = h.counts;
-  are_counts = h.are_counts;
-  as_expected = h.as_expected;
-  line = h.line;
-  done = h.done;
-}
-
-text_named : {A B : Type 0} (f : A → B) (path : Option A) (bytes : List ℕ)
-    → lex_text (option_map f path) bytes ≡ lex_text path bytes
-text_named f None bytes = refl
-text_named f (Some path) bytes = refl
-
-explanation_told : {A B D : Type 0} (f : A → B) (contents : D → Option (List ℕ)) (lex states graph : Option A)
-    (strictness : Strictness) (form : ReportForm) (before after : Option (List ℕ))
-    (r : Result Completion Failure)
-    → HasExplained contents lex states graph strictness form before after r
-    → HasExplained contents (option_map f lex) (option_map f states) (option_map f graph) strictness form
-    before after r
-explanation_told f contents lex states graph strictness form before after r h = record {
-  lex = h.lex;
-  yacc = h.yacc;
-  explanation = h.explanation;
-  explained = subst (λ bytes. IsExplained version_2 bytes h.yacc h.explanation) (sym (text_named f lex h.lex))
-      h.explained;
-  in_form = h.in_form;
-  states_written = written_mapped f contents states h.explanation.states h.states_written;
-  picture_written = written_mapped f contents graph h.explanation.picture h.picture_written;
-  text = h.text;
-  completed = h.completed;
-}
-
--- what is told of a command is told in other words
-told_by : {A B : Type 0} (r : Result Completion Failure) (before after : Option (List ℕ)) → (A → B)
-    → DoneOrUnchanged r before after A → DoneOrUnchanged r before after B
-told_by (Ok c) before after to h = to h
-told_by (Err f) before after to (inl stays) = inl stays
-told_by (Err f) before after to (inr h) = inr (to h)
 
 -- it is told, however the command ends
 pub is_told : {A : Type 0} (r : Result Completion Failure) (before after : Option (List ℕ)) → A
     → DoneOrUnchanged r before after A
 is_told (Ok c) before after h = h
 is_told (Err f) before after h = inr h
-
-pub carried_build : {A R D : Type 0} (contents : D → Option (List ℕ)) (f : A → List ℕ) (lex yacc tables : List ℕ)
-    (path : Option A) (version : Version) (expected : Option ℕ) (points : Bool) (r : Result Completion Failure)
-    (e : Ends R)
-    → DoneOrUnchanged r e.before e.after (HasBuilt contents version_2 version path expected e.before e.after r)
-    → IfErr r (IsRefusalOfBuild version expected) → e.input_after ≡ e.input_before
-    → IsCarriedOut contents (build lex yacc tables (option_map f path) version expected points) r e
-carried_build contents f lex yacc tables path version expected points r e told refused same = (
-  told_by r e.before e.after (build_told f contents version_2 version path expected e.before e.after r) told,
-  refused,
-  same,
-)
-
-pub carried_explain : {A R D : Type 0} (contents : D → Option (List ℕ)) (f : A → List ℕ) (lex : Option A)
-    (yacc : List ℕ) (states graph : Option A) (strictness : Strictness) (form : ReportForm)
-    (r : Result Completion Failure) (e : Ends R)
-    → DoneOrUnchanged r e.before e.after
-    (HasExplained contents lex states graph strictness form e.before e.after r)
-    → IfErr r IsOfDevice → e.input_after ≡ e.input_before
-    → IsCarriedOut contents
-    (explain (option_map f lex) yacc (option_map f states) (option_map f graph) strictness form) r e
-carried_explain contents f lex yacc states graph strictness form r e told failed same = (
-  told_by r e.before e.after
-      (explanation_told f contents lex states graph strictness form e.before e.after r) told,
-  failed,
-  same,
-)
 
 -- what is told of a device is told of what is known of it
 left_or_failed : {W : Type 0} (known : W → Option (List ℕ)) (old new : W) (before after : ℕ) (f : Failure)

@@ -1,8 +1,9 @@
 -- Whether there are as many conflicts as there are to be.
-use Rattle.std.proofs.Common.{◌≡◌, ◌∙◌, ◌&&◌, ◌==◌, ap, ap₂, Bool, false, is_some, None, Option, refl, Some, sym, true}
+use Rattle.std.proofs.Common.{◌≡◌, ◌∙◌, ◌&&◌, ◌==◌, ap, ap₂, Bool, false, is_some, List, None, Option, refl, Some, sym, true}
 use Rattle.std.proofs.Common.{true≢false, unwrap_or, ℕ}
 use Rattle.std.proofs.lemmas.Bool.{eq-eqb, eqb-true}
 use Rattle.ly_base.specs.declared.version.Version.{Version}
+use Rattle.ly_files.specs.Folder.{Files}
 use Rattle.ly_report.specs.declared.counts.ConflictCounts.{ConflictCounts}
 use Rattle.lytab.specs.CarriedOut.{AreAsExpected}
 use Rattle.lytab.specs.Completion.{are_expected, missed_count}
@@ -53,14 +54,14 @@ counts_differ (Some n) counts wanted some = by (are_expected (Some n) counts) re
         (same, λ both. absurd (true≢false (sym (all_hold both same) ∙ is)))
 
 -- that a device fails or memory runs out is said of each command
-pub device_of_build : (version : Version) (expected : Option ℕ) (f : Failure) → IsOfDevice f
-    → IsRefusalOfBuild version expected f
-device_of_build version expected (CannotRead path) is = tt
-device_of_build version expected (Unreadable path reason) is = tt
-device_of_build version expected (CannotWrite path) is = tt
-device_of_build version expected OutOfMemory is = tt
-device_of_build version expected (Refused fault line) is = absurd is
-device_of_build version expected (Unexpected counts wanted) is = absurd is
-device_of_build version expected (Tables fault) is = absurd is
-device_of_build version expected FaultyTables is = absurd is
-device_of_build version expected TooLong is = absurd is
+pub device_of_build : (version : Version) (expected : Option ℕ) (files : Option Files) (lex yacc : List ℕ)
+    (f : Failure) → IsOfDevice f → IsRefusalOfBuild version expected files lex yacc f
+device_of_build version expected files lex yacc (CannotRead path) is = tt
+device_of_build version expected files lex yacc (Unreadable path reason) is = tt
+device_of_build version expected files lex yacc (CannotWrite path) is = tt
+device_of_build version expected files lex yacc OutOfMemory is = tt
+device_of_build version expected files lex yacc (Refused fault line) is = absurd is
+device_of_build version expected files lex yacc (Unexpected counts wanted) is = absurd is
+device_of_build version expected files lex yacc (Tables fault) is = absurd is
+device_of_build version expected files lex yacc FaultyTables is = absurd is
+device_of_build version expected files lex yacc TooLong is = absurd is

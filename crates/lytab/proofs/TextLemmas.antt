@@ -1,5 +1,5 @@
 -- What is written for a text that is known is written for some text.
-use Rattle.std.proofs.Common.{◌≡◌, ◌⊎◌, IfErr, IfOk, inl, inr, List, None, Option, refl, Result, ℕ}
+use Rattle.std.proofs.Common.{◌≡◌, ◌⊎◌, IfErr, IfOk, inl, inr, List, None, Option, refl, Result, Some, subst, ℕ}
 use Rattle.ly_generate.proofs.GenFaultLemmas.{err_weaker, ok_weaker}
 use Rattle.ly_drive.specs.Answering.{IsAnsweredBy, IsBegunBy, IsReadAsNeeded}
 use Rattle.ly_drive.specs.Lines.{AreLinesAnswered, AreLinesStopped}
@@ -22,13 +22,16 @@ use Rattle.lytab.proofs.CarriedLemmas.{fails_lines}
 use Rattle.lytab.specs.Failure.{IsOfWriter, failure_of_file}
 use Rattle.lytab.specs.Lines.{AreLinesFailed, AreLinesStoppedBy, IsFaultMet}
 use Rattle.lytab.specs.Reading.{HasReadFailed, IsReadByFiles}
+use Rattle.lytab.specs.Refusal.{IsRefusalOf, IsRefusalOfFiles, IsRefusalOfTables}
+use Rattle.lytab.specs.TableTokens.{IsRefusalOfScanner}
 use Rattle.lytab.specs.declared.answering.Rules.{Rules}
 use Rattle.lytab.specs.declared.answering.Rules.TheVariants as rules
 use Rattle.lytab.specs.declared.completion.Completion.{Completion}
 use Rattle.lytab.specs.declared.failure.Failure.{Failure}
 use Rattle.lytab.specs.declared.failure.Failure.TheVariants.{CannotRead, CannotWrite, FaultyTables, OutOfMemory}
 use Rattle.lytab.specs.declared.failure.Failure.TheVariants.{Refused, Tables, TooLong, Unexpected, Unreadable}
-use Rattle.lytab.specs.declared.files.FileFault.{FileFault}
+use Rattle.ly_files.specs.declared.file_fault.FileFault.{FileFault}
+use Rattle.ly_files.specs.Folder.{Files, IsOpened, named}
 
 answers_of_some : {form : AnswerForm} {limits : Sizes} {lex : List ℕ} {given : Option (List ℕ)} {e : End}
     {answer : List ℕ}
@@ -177,3 +180,58 @@ pub unfailed : {R : Type 0} {lex yacc : List ℕ} {result : Result Completion Fa
 unfailed not (inl same) = inl same
 unfailed not (inr read) =
     inr (read.0, read.1, record { needed = λ _. read.2; asked = λ failed. absurd (not failed) })
+
+scanner_of_some : (tables : List ℕ) (given : Option (List ℕ)) (f : Failure) → IsRefusalOfScanner tables given f
+    → IsRefusalOfScanner tables None f
+scanner_of_some tables given (Tables fault) h = h
+scanner_of_some tables given FaultyTables h = (h.0, h.1, (h.2.0, tt, h.2.2, h.2.3, h.2.4))
+scanner_of_some tables given TooLong h = h
+scanner_of_some tables given (CannotRead path) h = tt
+scanner_of_some tables given (CannotWrite path) h = tt
+scanner_of_some tables given OutOfMemory h = tt
+scanner_of_some tables given (Unreadable path reason) h = h
+scanner_of_some tables given (Refused fault line) h = h
+scanner_of_some tables given (Unexpected counts wanted) h = h
+
+tables_of_some : (tables : List ℕ) (given : Option (List ℕ)) (f : Failure) → IsRefusalOfTables tables given f
+    → IsRefusalOfTables tables None f
+tables_of_some tables given (Tables fault) h = h
+tables_of_some tables given FaultyTables h = (h.0, h.1, (h.2.0, tt, h.2.2))
+tables_of_some tables given TooLong h = tt
+tables_of_some tables given (CannotRead path) h = tt
+tables_of_some tables given (CannotWrite path) h = tt
+tables_of_some tables given OutOfMemory h = tt
+tables_of_some tables given (Unreadable path reason) h = h
+tables_of_some tables given (Refused fault line) h = h
+tables_of_some tables given (Unexpected counts wanted) h = h
+
+files_of_some : (lex yacc : List ℕ) (given : Option (List ℕ)) (f : Failure) → IsRefusalOfFiles lex yacc given f
+    → IsRefusalOfFiles lex yacc None f
+files_of_some lex yacc given (Refused fault line) h = h
+files_of_some lex yacc given TooLong h = tt
+files_of_some lex yacc given (CannotRead path) h = tt
+files_of_some lex yacc given (CannotWrite path) h = tt
+files_of_some lex yacc given OutOfMemory h = tt
+files_of_some lex yacc given (Tables fault) h = h
+files_of_some lex yacc given FaultyTables h = h
+files_of_some lex yacc given (Unreadable path reason) h = h
+files_of_some lex yacc given (Unexpected counts wanted) h = h
+
+some_refused : (r : Rules) (given : Option (List ℕ)) (f : Failure) → IsRefusalOf r given f → IsRefusalOf r None f
+some_refused (rules.Tokens lex form) given f h = h
+some_refused (rules.TableTokens tables form) given f h = scanner_of_some tables.now given f h
+some_refused (rules.Tables tables form) given f h = tables_of_some tables.now given f h
+some_refused (rules.Lines tables form) given f h = tt
+some_refused (rules.TablesPlaced tables) given f h = tables_of_some tables.now given f h
+some_refused (rules.BothPlaced lex yacc) given f h = files_of_some lex.now yacc.now given f h
+some_refused (rules.Both lex yacc form) given f h = files_of_some lex.now yacc.now given f h
+
+pub if_refused : (r : Rules) (given : Option (List ℕ)) (result : Result Completion Failure)
+    → IfErr result (IsRefusalOf r given) → IfErr result (IsRefusalOf r None)
+if_refused r given result refused = err_weaker result _ _ (some_refused r given) refused
+
+-- What holds of the bytes of an open file holds of those of the file that its path names.
+pub of_named : (P : Option (List ℕ) → Type 0) (files : Option Files) (path : List ℕ) (given : Option (List ℕ))
+    → IsOpened files path given → (P given → P None) → P given → P (named files path)
+of_named P None path given opened weaker h = weaker h
+of_named P (Some f) path given opened weaker h = subst P opened.1 h

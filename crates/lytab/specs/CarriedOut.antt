@@ -9,7 +9,8 @@ use Rattle.ly_base.specs.Limits.{Sizes, least_of, sizes_in, version_2}
 use Rattle.ly_base.specs.declared.version.Version.{Version}
 use Rattle.ly_base.specs.declared.version.Version.TheVariants.{V1, V2}
 use Rattle.ly_explain.specs.Explained.{IsExplained, no_rules}
-use Rattle.ly_files.specs.Folder.{Files, IsFile, set}
+use Rattle.ly_files.specs.Folder as folder
+use Rattle.ly_files.specs.Folder.{Files, IsFile}
 use Rattle.ly_generate.specs.Generated.{IsGenerated}
 use Rattle.ly_generate.specs.Parser.{IsReportIf}
 use Rattle.ly_generate.specs.declared.report_request.ReportRequest.{ReportRequest}
@@ -119,7 +120,8 @@ pub record HasBuilt (limits : Sizes) (version : Version) (paths : PathsOfBuild) 
   pub spelled : TableText tables version set
   pub report : Option (Vec ℕ Global)
   pub is_report : IsReportIf (wanted_for paths.report) generated.spec report
-  pub written : AreWritten (λ files. set_if paths.report report (set paths.tables (Some tables) files)) e.files_before
+  pub written : AreWritten (λ files. set_if paths.report report
+      (folder.set paths.tables (Some tables) files)) e.files_before
       e.files_after
   pub counts : ConflictCounts
   pub are_counts : AreCounts generated.spec counts

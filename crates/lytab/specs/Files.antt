@@ -1,5 +1,5 @@
 -- What a command reads of files, and what it writes to them.
-use Rattle.std.specs.Prelude.{◌≡◌, ℕ, [], ◌∷◌, ◌++◌, Contains, IfErr, List, MatchResult, None, Option, Result, Some, IsSome}
+use Rattle.std.specs.Prelude.{◌≡◌, ℕ, [], ◌∷◌, ◌++◌, ◌≢◌, IfErr, List, MatchResult, None, Option, Result, Some, IsSome}
 use Rattle.std.specs.declared.alloc.Global.{Global}
 use Rattle.std.specs.declared.vec.Vec.{Vec}
 use Rattle.ly_cli.specs.Paths.{as_list}
@@ -32,9 +32,14 @@ abbrev pub IsLeftIf : Option (List ℕ) → Option Files → Option Files → Ty
 IsLeftIf (Some path) before after = Changed (IsSparedOrSet path) before after
 IsLeftIf None before after = after ≡ before
 
+-- a path is none of these
+abbrev pub IsOther : List (List ℕ) → List ℕ → Type 0
+IsOther [] p = Unit {0}
+IsOther (path ∷ paths) p = (p ≢ path) × IsOther paths p
+
 -- each file with another path than these is as it was
 abbrev pub AreOthersKept : List (List ℕ) → Files → Files → Type 0
-AreOthersKept paths before after = (p : List ℕ) → (Contains paths p → ⊥) → IsSome (before p) → after p ≡ before p
+AreOthersKept paths before after = (p : List ℕ) → IsOther paths p → IsSome (before p) → after p ≡ before p
 
 -- The files after a command. Those that it doesn't write are as they were, and so are all if it refuses what it read.
 abbrev pub AreFilesLeft : Request → Result Completion Failure → Option Files → Option Files → Type 0

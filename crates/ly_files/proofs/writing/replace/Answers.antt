@@ -1,4 +1,3 @@
-use Rattle.std.proofs.Common.{rules}
 use Rattle.ly_files.proofs.writing.replace.Goals as goal
 
 pub returns-in-Ok-clause-written : goal.returns-in-Ok-clause-written

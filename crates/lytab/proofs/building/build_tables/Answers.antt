@@ -1,8 +1,9 @@
 use Rattle.std.proofs.Common.{◌≡◌, ◌∙◌, IfErr, rules, subst, sym}
-use Rattle.ly_print.specs.declared.counted.Counted.{Counted}
 use Rattle.ly_generate.specs.Parser.{IsReportIf}
 use Rattle.ly_generate.proofs.GenFaultLemmas.{err_weaker}
-use Rattle.lytab.specs.CarriedOut.{HasBuilt}
+use Rattle.ly_base.specs.Limits.{least_of, sizes_in}
+use Rattle.ly_generate.specs.Generated.{IsGenerated}
+use Rattle.lytab.specs.CarriedOut.{HasBuilt, paths_of_build}
 use Rattle.lytab.specs.Devices.{WroteAllOrPrefix, DoneOrUnchanged}
 use Rattle.lytab.specs.Failure.{IsOfDevice}
 use Rattle.lytab.specs.Refusal.{HasOtherCounts}
@@ -17,20 +18,25 @@ returns-clause-built g c =
     let after = g.W.Sink.contents c.said.new.output in
     let is_said : WroteAllOrPrefix c.said.result before after c.in_ok-line.line.items = search rules in
     subst (λ limits. DoneOrUnchanged c.said.result before after (HasBuilt
-    (λ (d : Counted g.row.F-File.Denot). g.F.File.Write.contents d.inner)
-    limits c.args.version c.args.paths.report c.args.expected before after c.said.result))
+    limits c.args.version (paths_of_build c.args.paths) c.args.expected (record {
+      files_before = g.D.Folder.holds c.args.folder.now;
+      files_after = g.D.Folder.holds c.write_files.new.folder;
+      before = before;
+      after = after;
+    }) c.said.result))
     c.version_2-limits.ensures
     (is_told c.said.result before after (record {
       lex = _;
+      lex_read = c.in_ok-lex.ensures.read;
       yacc = _;
+      yacc_read = c.in_ok-yacc.ensures.read;
       set = built.0;
       generated = built.1;
       tables = _;
       spelled = built.2;
-      tables_written = c.in_ok-write_files.ensures.tables;
       report = c.in-Ok.built.report;
       is_report = subst (λ options. IsReportIf options built.1.spec c.in-Ok.built.report) c.wanted.ensures built.4;
-      report_written = c.in_ok-write_files.ensures.report;
+      written = c.in_ok-write_files.ensures.written;
       counts = c.in-Ok.built.conflicts;
       are_counts = built.3;
       as_expected = counts_hold c.args.expected c.in-Ok.built.conflicts (sym c.missed_count.ensures ∙ c.in_default.is);
@@ -42,19 +48,19 @@ pub returns-in-Some-clause-refused : goal.returns-in-Some-clause-refused
 returns-in-Some-clause-refused g c =
     let built = c.in-Ok.ensures.built in
     let differ = counts_differ c.args.expected c.in-Ok.built.conflicts _ (sym c.missed_count.ensures ∙ c.in-Some.is) in
-    subst (λ limits. HasOtherCounts limits c.args.version c.args.expected c.in-Ok.built.conflicts c.in-Some.expected)
-    c.version_2-limits.ensures
-    (record {
-      lex = _;
-      yacc = _;
+    let generated = subst (λ limits. IsGenerated c.args.version (least_of limits (sizes_in c.args.version))
+            c.in_ok-lex.lex.items c.in_ok-yacc.yacc.items built.0) c.version_2-limits.ensures built.1 in
+    ((record {
+      lex = c.in_ok-lex.lex.items;
+      yacc = c.in_ok-yacc.yacc.items;
       set = built.0;
-      generated = built.1;
-      are_counts = built.3;
+      generated = generated;
+      are_counts = ?;
       is_expected = differ.0;
       others = differ.1;
-    })
+    }), c.in_ok-lex.ensures.read, c.in_ok-yacc.ensures.read)
 
 pub returns-clause-refused : goal.returns-clause-refused
 returns-clause-refused g c =
     let failed : IfErr c.said.result IsOfDevice = search rules in
-    err_weaker c.said.result _ _ (device_of_build c.args.version c.args.expected) failed
+    err_weaker c.said.result _ _ (device_of_build c.args.version c.args.expected _ _ _) failed

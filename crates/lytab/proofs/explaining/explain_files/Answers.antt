@@ -13,13 +13,14 @@ returns-clause-said g c =
     let is_said : WroteAllOrPrefix c.said.result before after explanation.text.items = search rules in
     is_told c.said.result before after (record {
       lex = _;
+      lex_read = c.in_ok-lex.ensures.read;
       yacc = _;
+      yacc_read = c.in_ok-yacc.ensures.read;
       explanation = explanation;
       explained = c.in_ok-explanation.ensures.explained;
       in_form = subst (λ form. IsInForm form explanation.findings explanation.text.items) c.form_of.ensures
           c.in_ok-explanation.ensures.form;
-      states_written = c.in_ok-write_files.ensures.states;
-      picture_written = c.in_ok-write_files.ensures.picture;
+      written = c.in_ok-write_files.ensures.written;
       text = is_said;
       completed = ok_weaker c.said.result _ _ (λ done same. same ∙ c.of_findings.ensures) c.said.ensures.completed;
     })

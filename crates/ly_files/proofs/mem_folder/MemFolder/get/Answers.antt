@@ -1,5 +1,5 @@
-use Rattle.std.proofs.Common.{rules, ◌≡◌, ◌∙◌, sym, ap, option_map, refl, take, false}
-use Rattle.std.specs.Prelude.{string_bytes, bytes_eq}
+use Rattle.std.proofs.Common.{rules, ◌∙◌, sym, ap, option_map, take}
+use Rattle.std.specs.Prelude.{string_bytes}
 use Rattle.ly_files.specs.MemFolder.{changed_by, no_files}
 use Rattle.ly_files.proofs.FolderLemmas.{named_by_next, set_at, set_there}
 use Rattle.ly_files.proofs.mem_folder.MemFolder.get.Goals as goal

@@ -1,4 +1,4 @@
-use Rattle.std.proofs.Common.{rules, ◌≡◌, ◌∙◌, ap, option_map}
+use Rattle.std.proofs.Common.{◌∙◌, ap, option_map}
 use Rattle.ly_files.specs.Folder.{set}
 use Rattle.ly_files.specs.MemFolder.{changed_by, no_files, files_of}
 use Rattle.ly_files.proofs.FolderLemmas.{changed_once_more}
