@@ -65,33 +65,32 @@ pub fn perform<D: Folder, R: Source + Recall, W: Sink, E: Write>(
         Ok(command) => {
             let mut notes = Notes::new(alloc, &command);
             let ended = carry_out(folder, alloc, command, input, output, &mut notes);
-            let status = concluded_with(alloc, ended, notes.finish(), faults);
+            let status = concluded(alloc, ended, notes.finish(), faults);
             status
         }
         Err(CommandFault::Help(text)) => {
             let said = Completion::Done.said(output, text.as_bytes());
-            concluded(alloc, said, faults)
+            concluded(alloc, said, Ok(Vec::new(alloc)), faults)
         }
         Err(CommandFault::Bad(text)) => {
             let _ = write!(faults, "{text}");
             BAD_WORDS
         }
-        Err(CommandFault::OutOfMemory) => concluded(alloc, Err(Failure::OutOfMemory), faults),
+        Err(CommandFault::OutOfMemory) => {
+            concluded(
+                alloc,
+                Err(Failure::OutOfMemory),
+                Ok(Vec::new(alloc)),
+                faults,
+            )
+        }
     }
-}
-
-/// The exit status of a command with this result. If it failed, the line of the failure is written.
-fn concluded<E: Write>(alloc: Global, ended: Result<Completion, Failure<'_>>, faults: &mut E) -> u8
-    ensures range { result ≤ 3 }
-    ensures status { IsStatusOf result ended.entry }
-{
-    concluded_with(alloc, ended, Ok(Vec::new(alloc)), faults)
 }
 
 /// The exit status of a command with this result. If it failed, the line of the failure is written, and in any case
 /// what `--where` requests. Without memory for that, the failure is out of memory; the line that says so is also written
 /// if the command succeeded.
-fn concluded_with<E: Write>(
+fn concluded<E: Write>(
     alloc: Global,
     ended: Result<Completion, Failure<'_>>,
     notes: Result<Vec<u8>, OutOfMemory>,
