@@ -49,16 +49,19 @@ returns-in-Some-clause-refused g c =
     let built = c.in-Ok.ensures.built in
     let differ = counts_differ c.args.expected c.in-Ok.built.conflicts _ (sym c.missed_count.ensures ∙ c.in-Some.is) in
     let generated = subst (λ limits. IsGenerated c.args.version (least_of limits (sizes_in c.args.version))
-            c.in_ok-lex.lex.items c.in_ok-yacc.yacc.items built.0) c.version_2-limits.ensures built.1 in
-    ((record {
-      lex = c.in_ok-lex.lex.items;
-      yacc = c.in_ok-yacc.yacc.items;
-      set = built.0;
-      generated = generated;
-      are_counts = ?;
-      is_expected = differ.0;
-      others = differ.1;
-    }), c.in_ok-lex.ensures.read, c.in_ok-yacc.ensures.read)
+    c.in_ok-lex.lex.items c.in_ok-yacc.yacc.items built.0) c.version_2-limits.ensures built.1 in (
+      (record {
+        lex = c.in_ok-lex.lex.items;
+        yacc = c.in_ok-yacc.yacc.items;
+        set = built.0;
+        generated = generated;
+        are_counts = ?;
+        is_expected = differ.0;
+        others = differ.1;
+      }),
+      c.in_ok-lex.ensures.read,
+      c.in_ok-yacc.ensures.read,
+    )
 
 pub returns-clause-refused : goal.returns-clause-refused
 returns-clause-refused g c =
