@@ -1,1 +1,2 @@
 mod ExplainedLemmas
+mod FormLemmas

@@ -15,6 +15,8 @@ mod answers;
 #[cfg(test)]
 mod devices;
 #[cfg(test)]
+mod files;
+#[cfg(test)]
 mod graphs;
 #[cfg(test)]
 mod memory;
