@@ -232,6 +232,9 @@ class Token:
             return NotImplemented
         return self.name == other.name and self.text == other.text
 
+    def __deepcopy__(self, memo: Dict[int, Any]) -> Token:
+        return Token(self.name, self.text, self.start, self.end)
+
     def __reduce__(self) -> Tuple[Type[Token], Tuple[str, bytes, int, int]]:
         return Token, (self.name, self.text, self.start, self.end)
 
@@ -363,7 +366,8 @@ def flat(part: Part, name: str, rest: Optional[str] = None) -> List[Any]:
 
     `rest` is "first" or "last". If it isn't given, it is the child of `part` that has the name too, the first before
     the last; if neither has it, the first if that is None, and otherwise the last. So give it if an item may be a list
-    of this name. Raises ValueError for any other `rest`.
+    of this name. Such an item in the place of the rest, the first or the last of all, is read as the rest. Raises
+    ValueError for any other `rest`.
     """
     if rest not in ("first", "last", None):
         raise ValueError(f'the rest must be "first" or "last", not {rest!r}')
