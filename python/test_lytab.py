@@ -5,9 +5,11 @@ tools/expected_tables, which works out table files apart.
 
 runs them over the library that lytab.py finds. The environment may say which by LYTAB_LIBRARY.
 """
+import base64
 import copy
 import ctypes
 import gc
+import html
 import importlib.util
 import itertools
 import json
@@ -22,7 +24,9 @@ import sys
 import tempfile
 import textwrap
 import threading
+import time
 import unittest
+import urllib.parse
 from bisect import bisect_right
 from unittest import mock
 
@@ -1244,6 +1248,15 @@ class Apart(unittest.TestCase):
     def test_c(self):
         self.over("c", example("c-program.txt"), 60)
 
+    def test_depth(self):
+        # (lydrive.py once copied the stack for each token, which took 150 seconds here)
+        tables, start = tables_of("json"), time.process_time()
+        driver = lydrive.Tables(tables.bytes)
+        for end in (b"]" * 200_000, b"]" * 199_999 + b"}", b""):
+            text = b"[" * 200_000 + end
+            self.assertEqual(tables.answer(text), lydrive.answer(driver, text)[0])
+        self.assertLess(time.process_time() - start, 60)
+
 
 @unittest.skipUnless(shutil.which("cc"), "there is no cc, so examples/drivers/lydrive.c isn't compiled")
 class ApartInC(unittest.TestCase):
@@ -1298,6 +1311,219 @@ class ApartInC(unittest.TestCase):
     def test_tables(self):
         for name, text in (("calc", "calc.txt"), ("json", "json.txt"), ("c", "c-program.txt")):
             self.beside(name, text, 60, True)
+
+
+@unittest.skipUnless(shutil.which("node"), "there is no node, so examples/drivers/lydrive.js doesn't run")
+class ApartInJavaScript(unittest.TestCase):
+    """Answers and faults beside examples/drivers/lydrive.js, a driver in JavaScript that was written apart from lytab
+    too. Like that in C it looks for all faults of a table file."""
+
+    DRIVER = TOP / "examples/drivers/lydrive.js"
+    # Answers each line of standard input, a table file and a text, by a line of JSON.
+    PROGRAM = """
+        const lydrive = require(process.argv[1]);
+        const bytes = (value) => Uint8Array.from(Buffer.from(value, "base64"));
+        const forms = [{}, { json: true }, { places: true }];
+        for (const line of require("fs").readFileSync(0, "utf8").split("\\n").filter(Boolean)) {
+          const [file, text] = line.split(" ").map(bytes);
+          let said;
+          try {
+            const tables = new lydrive.Tables(file);
+            said = forms.map((form) => Buffer.from(lydrive.answer(tables, text, form).output).toString("base64"));
+          } catch (fault) {
+            if (!(fault instanceof lydrive.TableFault)) throw fault;
+            said = [fault.number, fault.section];
+          }
+          process.stdout.write(JSON.stringify(said) + "\\n");
+        }
+    """
+
+    def wanted(self, pairs):
+        """What the driver says of pairs of a table file and a text: three answers, or the number and section of a
+        fault."""
+        lines = "".join(" ".join(base64.b64encode(it).decode() for it in pair) + "\n" for pair in pairs)
+        words = ["node", "-e", self.PROGRAM, self.DRIVER]
+        ran = subprocess.run(words, input=lines, stdout=subprocess.PIPE, text=True, check=True, timeout=300)
+        said = [json.loads(line) for line in ran.stdout.splitlines()]
+        self.assertEqual(len(said), len(pairs))
+        return [tuple(base64.b64decode(it) if isinstance(it, str) else it for it in one) for one in said]
+
+    def said(self, file, text):
+        try:
+            tables = lytab.Tables(file)
+            answers = tables.answer(text), tables.json(text)
+        except lytab.TableFault as fault:
+            return fault.number, fault.section
+        try:
+            placed = Places(text).tree(tables.parse(text))
+        except lytab.SyntaxFault as fault:
+            placed = Places(text).fault(fault)
+        return (*answers, placed.encode() + b"\n")
+
+    def beside(self, pairs):
+        for (file, text), wanted in zip(pairs, self.wanted(pairs)):
+            self.assertEqual(self.said(file, text), wanted, (file, text))
+
+    def changed(self, bytes_, count, choices, chance):
+        made = bytearray(bytes_)
+        for _ in range(count):
+            made[chance.randrange(len(made))] = chance.choice(choices)
+        return bytes(made)
+
+    def test_texts(self):
+        for name, text in (("calc", "calc.txt"), ("json", "json.txt"), ("c", "c-program.txt"), ("sums", "sums.txt")):
+            chance, file, text = random.Random(name), tables_of(name).bytes, example(text)
+            signs = b"()[]{}+*;:,1a \n\"\t\\'\x00\xff\xc3\xa9"
+            texts = [self.changed(text, chance.randrange(3), signs, chance) for _ in range(150)]
+            self.beside([(file, it) for it in [b"", text, text[:-2], *texts]])
+
+    def test_parts_without_tokens(self):
+        file = lytab.Tables.build(b"%%\n[a-c] return yytext[0];\n[ \\n] ;\n", b"""%%
+            s : e 'a' p e 'b' e { $$ = S($6,$3,$1,$4); } | s 'c' n e { $$ = T($4,$3,$1); } ;
+            p : e { $$ = $1; } ;
+            n : ;
+            e : { $$ = E(); } | 'c' { $$ = C(); } ;""").bytes
+        self.beside([(file, it) for it in (b" a b", b"a\n b", b" c a c b c c", b"\n a b c c  c ", b"a", b"a b c")])
+
+    def test_bytes(self):
+        file = lytab.Tables.build(Bytes.LEX, Bytes.YACC).bytes
+        file, marked = file.replace(b"Both", b"B\xff\x80\""), b"\xef\xbb\xbf"
+        texts = b"\0", marked + b"\0", marked + b"x\xff\0", b"\xed\xa0\x80\x1f", b"\xc0\x80\1", b"\xff", b"\0\xc3\xa9"
+        self.beside([(file, it) for it in texts])
+
+    def test_depth(self):
+        file = tables_of("json").bytes
+        self.beside([(file, b"[" * 100_000 + end) for end in (b"]" * 100_000, b"]" * 99_999 + b"}", b"")])
+
+    def test_damaged_tables(self):
+        found = set()
+        for name, text in (("calc", b"(1 + 2) * 3; -4 ^ 5;"), ("json", example("json.txt")), ("sums", b"1 - 2 * 3")):
+            chance, file = random.Random(name), tables_of(name).bytes
+            others = [0, 1, 2, 255, *file[-4000:]]
+            files = [self.changed(file, chance.randrange(1, 4), others, chance) for _ in range(700)]
+            files += [file[: chance.randrange(len(file))] for _ in range(40)] + [file + b"\0"]
+            self.beside([(it, text) for it in files])
+            found.update(self.said(it, text)[0] for it in files)
+        self.assertLessEqual({80, 81, 82, 83, 84, 90}, found)
+
+    def test_tables_by_hand(self):
+        """The runs of cases/tables: each fault, in both versions of the table file."""
+        with tempfile.TemporaryDirectory() as room:
+            shutil.copytree(TOP / "cases/tables", room, dirs_exist_ok=True)
+            subprocess.run(["sh", "./make"], cwd=room, check=True)
+            runs, faults = [], set()
+            for row in (TOP / "cases/tables/rows").read_text().split("\n\n"):
+                values = dict(line.split(" ", 1) for line in row.splitlines() if " " in line)
+                file = re.fullmatch(r"run ([\w-]+)", values.get("args", ""))
+                fault = re.search(r"tables: fault (\d+) \w+(?: section (\d+))?", values.get("stderr", ""))
+                if file and "\\" not in values.get("text", "") and (fault or values.get("stdout")):
+                    wanted = (int(fault[1]), int(fault[2] or 0)) if fault else None
+                    runs.append(((pathlib.Path(room) / file[1]).read_bytes(), values.get("text", "").encode(), wanted))
+            for (file, text, wanted), said in zip(runs, self.wanted([run[:2] for run in runs])):
+                faults.add(said[0] if wanted else 0)
+                self.assertEqual(said, wanted or self.said(file, text), (file, text))
+        self.assertEqual(faults, {0, 80, 81, 82, 83, 84, 85, 90})
+
+    def test_the_program(self):
+        with tempfile.TemporaryDirectory() as name:
+            room = pathlib.Path(name)
+            tables = tables_of("sums")
+            (room / "tables").write_bytes(tables.bytes)
+            (room / "text").write_bytes(b"8 - 2\n")
+            for words, text, wanted in (
+                (["tables"], b"8 - 2", (0, tables.answer(b"8 - 2"), b"")),
+                (["tables", "text", "--json"], b"", (0, tables.json(b"8 - 2"), b"")),
+                (["tables"], b"8 -", (1, tables.answer(b"8 -"), b"")),
+                (["text"], b"8", (2, b"", b"lydrive: tables: fault 80\n")),
+            ):
+                ran = subprocess.run(["node", self.DRIVER, *words], cwd=room, input=text, capture_output=True)
+                self.assertEqual((ran.returncode, ran.stdout, ran.stderr), wanted)
+            for words, status in ((["other"], 3), ([], 4), (["tables", "text", "text"], 4)):
+                ran = subprocess.run(["node", self.DRIVER, *words], cwd=room, input=b"", capture_output=True)
+                self.assertEqual((ran.returncode, ran.stdout, ran.stderr.count(b"\n")), (status, b"", 1))
+
+
+BROWSER = next(filter(None, map(shutil.which, ("chromium", "chromium-browser", "google-chrome"))), None)
+
+
+class Playground(unittest.TestCase):
+    """examples/playground/index.html: in a browser where there is one, and otherwise by node over the same code."""
+
+    PAGE = TOP / "examples/playground/index.html"
+    # Runs the scripts of the page over a document of its own, and prints what the page then shows.
+    PROGRAM = """
+        const fs = require("fs"), path = require("path"), vm = require("vm");
+        const [page, hash] = process.argv.slice(1);
+        const made = () => ({ textContent: "", value: "", children: [], heard: {}, focus() {},
+          addEventListener(name, call) { this.heard[name] = call; }, replaceChildren(...them) { this.children = them; },
+          setSelectionRange(...span) { this.span = span; } });
+        const elements = {};
+        const document = { getElementById: (id) => (elements[id] = elements[id] || made()), createElement: made };
+        const context = vm.createContext({ document, location: { hash }, atob, TextEncoder, TextDecoder, Uint8Array });
+        const scripts = fs.readFileSync(page, "utf8").matchAll(/<script(?: src="(.*)")?>([^]*?)<.script>/g);
+        for (const [, source, code] of scripts) {
+          vm.runInContext(source ? fs.readFileSync(path.join(path.dirname(page), source), "utf8") : code, context);
+        }
+        const spans = elements.tree.children.map((line) => {
+          elements.text.span = null;
+          if (line.heard.click) line.heard.click();
+          return elements.text.span;
+        });
+        const tree = elements.tree.children.map((line) => line.textContent);
+        const said = { fault: elements.fault.textContent, about: elements.about.textContent, tree, spans };
+        process.stdout.write(JSON.stringify(said));
+    """
+
+    def address(self, tables, text):
+        tables, text = (urllib.parse.quote(it, safe="") for it in (base64.b64encode(tables), text))
+        return f"#text={text}&tables={tables}"
+
+    def in_node(self, tables, text):
+        words = ["node", "-e", self.PROGRAM, self.PAGE, self.address(tables, text)]
+        ran = subprocess.run(words, stdout=subprocess.PIPE, check=True)
+        return json.loads(ran.stdout)
+
+    def in_browser(self, tables, text):
+        words = [BROWSER, "--headless", "--no-sandbox", "--disable-gpu", "--dump-dom"]
+        with tempfile.TemporaryDirectory() as profile:
+            words += [f"--user-data-dir={profile}", self.PAGE.as_uri() + self.address(tables, text)]
+            ran = subprocess.run(words, stdout=subprocess.PIPE, stderr=subprocess.DEVNULL, check=True, timeout=120)
+        page = ran.stdout.decode()
+        shown = {name: html.unescape(re.search(rf'id="{name}"[^>]*>([^<]*)<', page)[1]) for name in ("fault", "about")}
+        tree = re.search(r'<pre id="tree">(.*?)</pre>', page, re.S)[1]
+        return {**shown, "tree": [html.unescape(it) for it in re.findall(r"<div>(.*?)</div>", tree, re.S)]}
+
+    def test_pages(self):
+        if not BROWSER and not shutil.which("node"):
+            raise unittest.SkipTest("there is no browser and no node, so the page isn't opened")
+        shown = self.in_browser if BROWSER else self.in_node
+        tables = tables_of("sums")
+        for text in (b"8 - 2 * 3", b"8 - * 3\n", b"8 -\n\xc3\xa9", b"1 +\n", b"1 \t2" + b" + 3" * 60):
+            said = shown(tables.bytes, text)
+            self.assertEqual(said["about"], "6 terminals, 4 rules")
+            try:
+                tree = tables.parse(text)
+                self.assertEqual((said["tree"], said["fault"]), (tree.pretty().splitlines(), ""))
+            except lytab.SyntaxFault as fault:
+                self.assertEqual((said["tree"], said["fault"]), ([], fault.show()[len("-:") :]))
+        self.assertEqual(shown(tables.bytes[:-1], b"1")["fault"], "tables: fault 82")
+
+    @unittest.skipUnless(shutil.which("node"), "there is no node")
+    def test_clicks(self):
+        tables = lytab.Tables.build(b"%%\n[a-z\\x80-\\xff]+ return WORD;\n\\n ;\n", b"""%token WORD
+            %%
+            s : { $$ = S(); } | s WORD { $$ = S($1,$2); } ;""")
+        said = self.in_node(tables.bytes, "ab\n\u20ac\U0001f600\nc".encode())
+        lines = ["S", "  S", "    S", "      S", '      WORD"ab"', None, '  WORD"c"']
+        self.assertEqual([line if "\\x" not in line else None for line in said["tree"]], lines)
+        # (the text box counts UTF-16 units)
+        self.assertEqual(said["spans"], [[0, 8], [0, 6], [0, 2], [0, 0], [0, 2], [3, 6], [7, 8]])
+
+    @unittest.skipUnless(shutil.which("node"), "there is no node")
+    def test_large_trees(self):
+        said = self.in_node(tables_of("sums").bytes, b"1" + b"+1" * 1500)
+        self.assertEqual((len(said["tree"]), said["tree"][-1]), (2001, ".. and 1001 more parts"))
+        self.assertEqual(said["tree"][1000], " " * 80 + "1000: Add")
 
 
 class WholeTables(unittest.TestCase):
