@@ -1081,6 +1081,7 @@ class Memory(unittest.TestCase):
         self.assertLess(peak * 1024 / count, 185, (size, count, peak))
 
 
+@unittest.skipUnless(importlib.util.find_spec("mypy"), "there is no mypy for this Python")
 class Types(unittest.TestCase):
     """The type hints, where Python has mypy."""
 
@@ -1099,11 +1100,6 @@ class Types(unittest.TestCase):
             def Add(self, node: lytab.Node, left: int, right: int) -> int:
                 return left + right
     """
-
-    @classmethod
-    def setUpClass(cls):
-        if importlib.util.find_spec("mypy") is None:
-            raise unittest.SkipTest("there is no mypy for this Python")
 
     def said(self, *words):
         with tempfile.TemporaryDirectory() as kept:
