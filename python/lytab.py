@@ -822,26 +822,33 @@ class Tables:
         """Makes the parts before an index. Those whose node isn't made yet are `waiting`, the first of them at its end,
         and `ends` has for each the index after its last part."""
         rules, terminals, last_start = self.rules, self.terminals, -1
+        token, node, add, add_end = Token, Node, waiting.append, ends.append
         for kind, number, start, end, next_ in reversed(parts):
             # (equal numbers of neighbours are one object, which saves an eighth of the memory)
             if start == last_start:
                 start = last_start
-            last_start = start
-            part: Part = None
+            else:
+                last_start = start
             if kind == _TOKEN:
-                part = Token(terminals[number], text[start:end], start, end)
+                add(token(terminals[number], text[start:end], start, end))
             elif kind == _NODE:
                 at = len(ends)
                 if next_ != index:
                     at -= 1
                     while ends[at] != next_:
                         at -= 1
-                children = waiting[: at - 1 if at else None : -1] if at < len(ends) else []
-                last = children[-1] if children else None
-                part = Node(rules[number - 1], children, start, last.end if last and last.end == end else end, text)
-                del waiting[at:], ends[at:]
-            waiting.append(part)
-            ends.append(next_)
+                    children = waiting[at:]
+                    children.reverse()
+                    del waiting[at:], ends[at:]
+                    last = children[-1]
+                    if last is not None and last.end == end:
+                        end = last.end
+                else:
+                    children = []
+                add(node(rules[number - 1], children, start, end, text))
+            else:
+                add(None)
+            add_end(next_)
             index -= 1
 
 

@@ -6,11 +6,13 @@ tools/expected_tables, which works out table files apart.
 runs them over the library that lytab.py finds. The environment may say which by LYTAB_LIBRARY.
 """
 import base64
+import contextlib
 import copy
 import ctypes
 import gc
 import html
 import importlib.util
+import io
 import itertools
 import json
 import os
@@ -711,6 +713,14 @@ class Transformers(unittest.TestCase):
         with self.assertRaises(LookupError) as raised:
             Strict(self.tables).transform(tree)
         self.assertEqual(str(raised.exception), "Divide of (8, 2)")
+
+    def test_the_page(self):
+        page = (TOP / "docs/python.md").read_text()
+        (program,) = re.findall(r"^```python\n(class Calculator.*?)^```", page, re.M | re.S)
+        said = io.StringIO()
+        with contextlib.redirect_stdout(said):
+            exec(program, {"lytab": lytab, "tables": tables_of("sums")})
+        self.assertEqual(said.getvalue(), "2\n")
 
     def refused(self, kind):
         with self.assertRaises(ValueError) as raised:

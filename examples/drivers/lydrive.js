@@ -1,7 +1,7 @@
 #!/usr/bin/env node
 // Parses a text with a table file of lytab, as `lytab run` does: a driver of its own in JavaScript, written from
-// docs/table-file.md, docs/trees.md and docs/texts-and-faults.md alone. It runs in Node.js and in browsers, and needs
-// nothing else.
+// docs/table-file.md and docs/trees.md, and beside the drivers in C and in Python. It runs in Node.js and in browsers,
+// and needs nothing else.
 //
 //     node lydrive.js TABLES [TEXT] [--json] [--places]
 //
