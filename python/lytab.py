@@ -199,7 +199,7 @@ def _excerpt(text: bytes, offset: int, column: int) -> str:
         end -= 1
     if first >= end:
         return ""
-    start = first if end - first <= _WIDEST else max(first, min(offset - _WIDEST // 2, end))
+    start = first if end - first <= _WIDEST else max(first, offset - _WIDEST // 2)
     shown, before = text[start : min(end, start + _WIDEST)], "..." if start > first else ""
     behind = "..." if start + _WIDEST < end else ""
     blanks = "".join("\t" if it == "\t" else " " for it in _printable(shown[: offset - start]))

@@ -1456,10 +1456,11 @@ class Playground(unittest.TestCase):
     """examples/playground/index.html: in a browser where there is one, and otherwise by node over the same code."""
 
     PAGE = TOP / "examples/playground/index.html"
-    # Runs the scripts of the page over a document of its own, and prints what the page then shows.
+    # Runs the scripts of the page over a document of its own, chooses files and types a text, and prints what the page
+    # then shows.
     PROGRAM = """
         const fs = require("fs"), path = require("path"), vm = require("vm");
-        const [page, hash] = process.argv.slice(1);
+        const [page, hash, given] = process.argv.slice(1);
         const made = () => ({ textContent: "", value: "", children: [], heard: {}, focus() {},
           addEventListener(name, call) { this.heard[name] = call; }, replaceChildren(...them) { this.children = them; },
           setSelectionRange(...span) { this.span = span; } });
@@ -1470,22 +1471,31 @@ class Playground(unittest.TestCase):
         for (const [, source, code] of scripts) {
           vm.runInContext(source ? fs.readFileSync(path.join(path.dirname(page), source), "utf8") : code, context);
         }
-        const spans = elements.tree.children.map((line) => {
-          elements.text.span = null;
-          if (line.heard.click) line.heard.click();
-          return elements.text.span;
-        });
-        const tree = elements.tree.children.map((line) => line.textContent);
-        const said = { fault: elements.fault.textContent, about: elements.about.textContent, tree, spans };
-        process.stdout.write(JSON.stringify(said));
+        const chosen = (value) => [{ arrayBuffer: async () => Uint8Array.from(Buffer.from(value, "base64")).buffer }];
+        const shown = () => {
+          const spans = elements.tree.children.map((line) => {
+            elements.text.span = null;
+            if (line.heard.click) line.heard.click();
+            return elements.text.span;
+          });
+          const tree = elements.tree.children.map((line) => line.textContent);
+          return { fault: elements.fault.textContent, about: elements.about.textContent, tree, spans };
+        };
+        (async () => {
+          for (const [id, value] of JSON.parse(given)) {
+            const { input, change } = elements[id].heard;
+            await (input ? input({ target: { value } }) : change({ target: { files: chosen(value) } }));
+          }
+          process.stdout.write(JSON.stringify(shown()));
+        })();
     """
 
     def address(self, tables, text):
         tables, text = (urllib.parse.quote(it, safe="") for it in (base64.b64encode(tables), text))
         return f"#text={text}&tables={tables}"
 
-    def in_node(self, tables, text):
-        words = ["node", "-e", self.PROGRAM, self.PAGE, self.address(tables, text)]
+    def in_node(self, tables, text, given=()):
+        words = ["node", "-e", self.PROGRAM, self.PAGE, self.address(tables, text) if tables else "", json.dumps(given)]
         ran = subprocess.run(words, stdout=subprocess.PIPE, check=True)
         return json.loads(ran.stdout)
 
@@ -1524,6 +1534,21 @@ class Playground(unittest.TestCase):
         self.assertEqual([line if "\\x" not in line else None for line in said["tree"]], lines)
         # (the text box counts UTF-16 units)
         self.assertEqual(said["spans"], [[0, 8], [0, 6], [0, 2], [0, 0], [0, 2], [3, 6], [7, 8]])
+
+    @unittest.skipUnless(shutil.which("node"), "there is no node")
+    def test_choices(self):
+        tables, text = tables_of("sums"), b"8 -\r\n\xff"
+        file, other = (base64.b64encode(it).decode() for it in (tables.bytes, tables.bytes[:-1]))
+        said = self.in_node(None, b"", [["tables", file], ["file", base64.b64encode(text).decode()]])
+        with self.assertRaises(lytab.SyntaxFault) as raised:
+            tables.parse(text)
+        self.assertEqual((said["tree"], said["fault"]), ([], raised.exception.show()[len("-:") :]))
+        said = self.in_node(tables.bytes, b"8 -", [["text", "8 - 2"]])
+        self.assertEqual((said["tree"], said["fault"]), (["Subtract", '  NUMBER"8"', '  NUMBER"2"'], ""))
+        said = self.in_node(tables.bytes, b"8", [["tables", other]])
+        self.assertEqual((said["tree"], said["about"], said["fault"]), ([], "", "tables: fault 82"))
+        said = self.in_node(tables.bytes[:-1], b"8", [["tables", file]])
+        self.assertEqual((said["tree"], said["fault"]), (['NUMBER"8"'], ""))
 
     @unittest.skipUnless(shutil.which("node"), "there is no node")
     def test_large_trees(self):
