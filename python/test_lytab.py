@@ -586,13 +586,19 @@ class InnermostParts(unittest.TestCase):
                 self.asked += 1
                 return super().__getitem__(place)
 
-        children = Counted(lytab.Token("A", b"a", 2 * at, 2 * at + 1) for at in range(10_000))
-        tree = lytab.Node("N", children, 0, 20_000)
-        for at in (0, 1, 4_999, 7_777, 9_999):
+            def __iter__(self):
+                self.asked += len(self)
+                return super().__iter__()
+
+        children = Counted(None if at % 3 == 0 else lytab.Token("A", b"a", 2 * at, 2 * at + 1) for at in range(3_000))
+        tree = lytab.Node("N", children, 0, 6_000)
+        for at in range(3_000):
             children.asked = 0
-            self.assertEqual(tree.at(2 * at).start, 2 * at)
-            self.assertLess(children.asked, 50)
-        self.assertIs(tree.at(4_001), tree)
+            if at % 3:
+                self.assertEqual(tree.at(2 * at).start, 2 * at)
+                self.assertLess(children.asked, 50)
+            else:
+                self.assertIs(tree.at(2 * at), tree)
 
 
 class Lists(unittest.TestCase):
@@ -860,7 +866,7 @@ class Shown(unittest.TestCase):
 
     PROGRAM = pathlib.Path(os.environ.get("LYTAB_LIBRARY") or lytab.__file__).resolve().parent.parent / "bin/lytab"
     TEXTS = [b"8 -\t\t* 3", b"1\n8 - \xff\xc3\xa9 * 3", b"\xe2\x82\xac", b"8 -\n", b"8 - ", b"", b"1 2\r\n", b"1\r",
-             b"\r\n*", b"1 +\x01+ 2", b"1+" * 200 + b"*" + b"+1" * 200, b"*" + b"+1" * 200, b"1+" * 200 + b"*",
+             b"\r\n*", b"1 +\x01+ 2", b"1 \x7f2", b"1+" * 200 + b"*" + b"+1" * 200, b"*" + b"+1" * 200, b"1+" * 200 + b"*",
              b"1+" * 79 + b"**", b"1+" * 79 + b"*1", b"1 " + b"7" * 80, b"1 " + b"7" * 60, b"'",
              b"1 -\n\n * 3\n2", b"1 2" * 60]
 
