@@ -29,7 +29,7 @@ import os
 import pathlib
 import struct
 import threading
-from typing import Any, Callable, Dict, Iterable, Iterator, List, Optional, Sequence, Tuple, Type, TypeVar, Union
+from typing import Any, Callable, Dict, Iterable, Iterator, List, Optional, Tuple, Type, TypeVar, Union
 
 VERSION = 1
 _DONE, _REFUSED, _FAULT, _MEMORY, _MISUSED, _SHORT = range(6)
@@ -291,8 +291,9 @@ class Node:
     def at(self, byte: int) -> Optional[Union[Node, Token]]:
         """Returns the innermost part whose span has this byte, or None if the node's own span doesn't.
 
-        On the way to that part each step takes logarithmic time in the number of children; there, all children of the
-        part are tried once. Requires that the spans of two children have no byte in common, as in every parsed tree.
+        On the way to that part each step takes logarithmic time in the number of children, if few of them are None and
+        they are in the order of the text; there, all children of the part are tried once. Requires that the spans of
+        two children have no byte in common, as in every tree of a text.
         """
         if not self.start <= byte < self.end:
             return None
@@ -482,13 +483,13 @@ def _put_together(counts: List[int], nodes: List[Tuple[str, int, int, Optional[b
     return tree
 
 
-Method = TypeVar("Method", bound=Callable[..., Any])
+_Method = TypeVar("_Method", bound=Callable[..., Any])
 
 
-def constructs(*names: str) -> Callable[[Method], Method]:
+def constructs(*names: str) -> Callable[[_Method], _Method]:
     """Marks a method of a Transformer as that of the constructors of these names, whatever its own name is."""
 
-    def marked(method: Method) -> Method:
+    def marked(method: _Method) -> _Method:
         method._constructors = names  # type: ignore[attr-defined]
         return method
 
@@ -559,7 +560,9 @@ def _methods_of(kind: Type[Transformer]) -> Dict[str, str]:
         seen.update(vars(above))
         here: Dict[str, str] = {}
         for name in names:
-            marked = getattr(vars(above)[name], "_constructors", () if name.startswith("_") else (name,))
+            value = vars(above)[name]
+            own = () if name.startswith("_") else (name,)
+            marked = getattr(getattr(value, "__func__", value), "_constructors", own)
             for constructor in marked:
                 if here.setdefault(constructor, name) != name:
                     both = f"{above.__name__}.{here[constructor]} and {above.__name__}.{name}"
@@ -579,7 +582,7 @@ def _library() -> ctypes.CDLL:
     installed = [above / "lib" / name for above in pathlib.Path(__file__).resolve().parents]
     path = os.environ.get("LYTAB_LIBRARY") or next((str(it) for it in installed if it.is_file()), name)
     library = ctypes.CDLL(path)
-    size, u32, u64 = ctypes.c_size_t, ctypes.POINTER(ctypes.c_uint32), ctypes.POINTER(ctypes.c_uint64)
+    size, u64 = ctypes.c_size_t, ctypes.POINTER(ctypes.c_uint64)
     bytes_, block = [ctypes.c_char_p, size], [ctypes.c_void_p, size]
     answer = [*bytes_, *bytes_, *block, ctypes.POINTER(_Report)]
     for name, kinds in (

@@ -781,8 +781,13 @@ class Transformers(unittest.TestCase):
             def Divide(node, left, right):
                 return left // right
 
+            @staticmethod
+            @lytab.constructs("Power")
+            def raised(node, left, right):
+                return left
+
         value = Reversed(self.tables).transform
-        self.assertEqual(value(self.tables.parse(b"5 + 2; 5 * 2; 9 / 2;")), [3, 10, 4])
+        self.assertEqual(value(self.tables.parse(b"5 + 2; 5 * 2; 9 / 2; 3 ^ 2;")), [3, 10, 4, 3])
 
     def test_constructors_of_any_name(self):
         tables = lytab.Tables.build(b"%%\nx return 'x';\n", b"""%%
@@ -866,8 +871,8 @@ class Shown(unittest.TestCase):
 
     PROGRAM = pathlib.Path(os.environ.get("LYTAB_LIBRARY") or lytab.__file__).resolve().parent.parent / "bin/lytab"
     TEXTS = [b"8 -\t\t* 3", b"1\n8 - \xff\xc3\xa9 * 3", b"\xe2\x82\xac", b"8 -\n", b"8 - ", b"", b"1 2\r\n", b"1\r",
-             b"\r\n*", b"1 +\x01+ 2", b"1 \x7f2", b"1+" * 200 + b"*" + b"+1" * 200, b"*" + b"+1" * 200, b"1+" * 200 + b"*",
-             b"1+" * 79 + b"**", b"1+" * 79 + b"*1", b"1 " + b"7" * 80, b"1 " + b"7" * 60, b"'",
+             b"\r\n*", b"1 +\x01+ 2", b"1 \x7f2", b"1+" * 200 + b"*" + b"+1" * 200, b"*" + b"+1" * 200,
+             b"1+" * 200 + b"*", b"1+" * 79 + b"**", b"1+" * 79 + b"*1", b"1 " + b"7" * 80, b"1 " + b"7" * 60, b"'",
              b"1 -\n\n * 3\n2", b"1 2" * 60]
 
     def fault(self, tables, text):
