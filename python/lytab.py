@@ -38,7 +38,7 @@ _FILES = (None, "lex", "yacc")
 _PART = struct.Struct("=IIQQQ")
 _GIVEN = struct.Struct("=IIQQ")
 # How many parts of a tree are unpacked at a time.
-_AT_ONCE = 1 << 15
+_AT_ONCE = 1 << 10
 # How many bytes of an unexpected token, and of a source line, a message has at most.
 _LONGEST, _WIDEST = 60, 160
 # How many levels a line of `pretty` is indented at most.
@@ -554,8 +554,6 @@ def _methods_of(kind: Type[Transformer]) -> Dict[str, str]:
     found: Dict[str, str] = {}
     seen = set(vars(Transformer))
     for above in kind.__mro__:
-        if above in Transformer.__mro__:
-            continue
         names = [name for name in vars(above) if name not in seen and _is_method(vars(above)[name])]
         seen.update(vars(above))
         here: Dict[str, str] = {}

@@ -777,6 +777,8 @@ class Transformers(unittest.TestCase):
             def _zero(self):
                 return 0
 
+            Negate = None
+
             @staticmethod
             def Divide(node, left, right):
                 return left // right
@@ -788,6 +790,7 @@ class Transformers(unittest.TestCase):
 
         value = Reversed(self.tables).transform
         self.assertEqual(value(self.tables.parse(b"5 + 2; 5 * 2; 9 / 2; 3 ^ 2;")), [3, 10, 4, 3])
+        self.assertEqual(repr(value(self.tables.parse(b"-2;"))), "[Node('Negate', [1 children], 0, 2)]")
 
     def test_constructors_of_any_name(self):
         tables = lytab.Tables.build(b"%%\nx return 'x';\n", b"""%%
@@ -1081,25 +1084,27 @@ class Memory(unittest.TestCase):
     """How much memory a tree takes."""
 
     PROGRAM = """
-        import resource, lytab
+        import lytab, resource
+        peak = lambda: 1024 * resource.getrusage(resource.RUSAGE_SELF).ru_maxrss
         tables = lytab.Tables.build(open("json.l", "rb").read(), open("json.y", "rb").read())
         text = b"[" + b", ".join(b'{"id": %d, "name": "number %d", "of": [1, 2, null]}' % (n, n) for n in range(40_000))
-        before = resource.getrusage(resource.RUSAGE_SELF).ru_maxrss
-        tree = tables.parse(text + b"]")
-        count = sum(1 for _ in tree.walk())
-        print(len(text), count, resource.getrusage(resource.RUSAGE_SELF).ru_maxrss - before)
+        text, before = text + b"]", peak()
+        tree = tables.parse(text)
+        print(sum(1 for _ in tree.walk()), peak() - before)
     """
 
     @unittest.skipUnless(sys.platform == "linux", "the peak is in KiB on Linux")
     def test_a_large_text(self):
         environment = {**os.environ, "PYTHONPATH": str(TOP / "python"), "LYTAB_LIBRARY": lytab._library()._name}
-        words = [sys.executable, "-B", "-c", textwrap.dedent(self.PROGRAM)]
+        # (a program has at least the peak of the process that it replaces, so it is a child of a small one)
+        words = ["sh", "-c", '"$@"; exit $?', "sh", sys.executable, "-B", "-c", textwrap.dedent(self.PROGRAM)]
         ran = subprocess.run(words, cwd=TOP / "examples", env=environment, stdout=subprocess.PIPE, check=True)
-        size, count, peak = map(int, ran.stdout.split())
+        count, peak = map(int, ran.stdout.split())
         # an object has 17 parts; and there are 39,999 nodes of the list, and the array
         self.assertEqual(count, 40_000 * 17 + 39_999 + 1)
-        # A part takes 160 bytes or so, and 32 more in the library's list; with the list kept whole it was above 190.
-        self.assertLess(peak * 1024 / count, 185, (size, count, peak))
+        # Each part took 196 to 200 bytes by Python's version, and 209 to 212 if equal numbers of neighbours were two
+        # objects.
+        self.assertLess(peak / count, 204, (count, peak))
 
 
 @unittest.skipUnless(importlib.util.find_spec("mypy"), "there is no mypy for this Python")
@@ -1424,7 +1429,7 @@ class ApartInJavaScript(unittest.TestCase):
         self.assertLessEqual({80, 81, 82, 83, 84, 90}, found)
 
     def test_tables_by_hand(self):
-        """The runs of cases/tables: each fault, in both versions of the table file."""
+        # the runs of cases/tables: each fault, in both versions of the table file
         with tempfile.TemporaryDirectory() as room:
             shutil.copytree(TOP / "cases/tables", room, dirs_exist_ok=True)
             subprocess.run(["sh", "./make"], cwd=room, check=True)
