@@ -4,8 +4,8 @@ docs/trees.md and docs/texts-and-faults.md alone. It needs nothing but Python, a
 
     lydrive.py TABLES [TEXT] [--json] [--places]
 
-Nothing of it is proved. Of the faults of a table file it looks for 80 to 83 alone: a file that isn't known to be good is
-for `lytab check` first, since a parser by forged tables may run for ever.
+Nothing of it is proved. Of the faults of a table file it looks for 80 to 83 alone: a file that isn't known to be good
+is for `lytab check` first, since a parser by forged tables may run for ever.
 """
 import json
 import sys
@@ -153,15 +153,16 @@ def is_expected(tables, states, terminal):
 
 
 class Part:
-    """A part of a derivation: a token, or a rule over the parts of its body; and from where to where its tokens stand, if
-    it has any."""
+    """A part of a derivation: a token, or a rule over the parts of its body; and from where to where its tokens stand,
+    if it has any."""
 
     def __init__(self, terminal=None, rule=None, body=(), extent=None):
         self.terminal, self.rule, self.body, self.extent = terminal, rule, body, extent
 
 
 class Refused(Exception):
-    """A text has no tree: its token of this number is refused, or the end (terminal 0); or no rule matches (number 0)."""
+    """A text has no tree: its token of this number is refused, or the end (terminal 0); or no rule matches (number
+    0)."""
 
     def __init__(self, number, terminal, start, end, terminals=()):
         super().__init__()
@@ -181,8 +182,9 @@ def derivation(tables, text):
 
 
 def feed(tables, states, parts, number, terminal, start, end):
-    """Reads a token, or accepts at the end."""
-    before = list(states)
+    """Reads a token, or accepts at the end. The stack before the token is the first `kept` states and then, the last of
+    them first, those that reductions on it have popped: to copy all of it for each token would take too long."""
+    kept, popped = len(states), []
     while True:
         action = tables.action(states[-1], terminal)
         if action >= tables.shift:
@@ -194,13 +196,16 @@ def feed(tables, states, parts, number, terminal, start, end):
                 raise TableFault(90)
             return
         if action == 0:
-            raise Refused(number, terminal, start, end, expected(tables, before))
+            raise Refused(number, terminal, start, end, expected(tables, states[:kept] + popped[::-1]))
         rule = action - tables.reduce - 1
         left, length, *_ = tables.rules[rule]
         if length > len(parts):
             raise TableFault(90)
-        body = parts[len(parts) - length :]
-        del parts[len(parts) - length :], states[len(states) - length :]
+        body, left_over = parts[len(parts) - length :], len(states) - length
+        if left_over < kept:
+            popped += reversed(states[left_over:kept])
+            kept = left_over
+        del parts[len(parts) - length :], states[left_over:]
         extents = [part.extent for part in body if part.extent]
         extent = (extents[0][0], extents[-1][1]) if extents else None
         goto = tables.gotos.entry(states[-1], left)
@@ -230,7 +235,8 @@ def child(part, place, last):
 
 
 class Writer:
-    """Writes an answer: by these functions, what stands for nothing, for a token, and before and behind a node's parts."""
+    """Writes an answer: by these functions, what stands for nothing, for a token, and before and behind a node's
+    parts."""
 
     def __init__(self, tables, text):
         self.tables, self.text = tables, text

@@ -17,15 +17,6 @@ HERE = pathlib.Path(__file__).resolve().parent
 Found = Tuple[int, str]
 
 
-def items(part: lytab.Part, list_: str) -> List[lytab.Part]:
-    """The items of a left-recursive list whose nodes have this name, in order."""
-    found = []
-    while isinstance(part, lytab.Node) and part.name == list_:
-        part, item = part.children
-        found.append(item)
-    return [part] * (part is not None) + found[::-1]
-
-
 def line_of(text: bytes, byte: int) -> int:
     """The line of a byte."""
     return lytab.locate(text, byte)[0]
@@ -34,7 +25,7 @@ def line_of(text: bytes, byte: int) -> int:
 def duplicates(text: bytes, entries: lytab.Part) -> Iterator[Found]:
     """The names that a section has more than once."""
     first = {}
-    for entry in items(entries, "Entries"):
+    for entry in lytab.flat(entries, "Entries", "first"):
         name = entry.children[0]
         if name.text in first:
             line = line_of(text, first[name.text].start)
@@ -44,7 +35,7 @@ def duplicates(text: bytes, entries: lytab.Part) -> Iterator[Found]:
 
 def is_mixed(list_: lytab.Node) -> bool:
     """Whether a list has values of different kinds."""
-    values = items(list_.children[0], "Values") if list_.children else []
+    values = lytab.flat(list_.children[0], "Values", "first") if list_.children else []
     return len({"truth" if it.name in ("YES", "NO") else it.name for it in values}) > 1
 
 
