@@ -1,6 +1,6 @@
 -- Lemmas on files by their paths.
-use Rattle.std.proofs.Common.{◌≡◌, ◌≢◌, ◌∙◌, ◌⊎◌, ◌++◌, ℕ, Bool, List, [], ◌∷◌, Option, Some, None, ap}
-use Rattle.std.proofs.Common.{arith, false, get_or, inl, inr, length, min, refl, rules, suc, sym, take, true, drop, ◌<◌, ◌≤◌, ◌+◌}
+use Rattle.std.proofs.Common.{◌≡◌, ◌≢◌, ◌∙◌, ◌⊎◌, ◌++◌, ◌<◌, ◌≤◌, ◌+◌, ℕ, Bool, List, [], ◌∷◌, Option, Some, None}
+use Rattle.std.proofs.Common.{ap, arith, drop, false, get_or, inl, inr, length, min, refl, rules, suc, sym, take, true}
 use Rattle.std.specs.Prelude.{Err, Ok, OnErr, OnOk, Result, bytes_eq, option_map, string_bytes}
 use Rattle.std.proofs.Math.Seq.{drop-drop, take-append_seam, take-suc}
 use Rattle.std.proofs.lemmas.List.{length-take-le, take-append-drop}

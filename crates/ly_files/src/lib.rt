@@ -1,8 +1,8 @@
 //! Files by their paths: how a program reads them whole, and replaces them without losing the older one.
 //!
 //! A `Folder` is what a program asks for files. `HostFolder` asks the operating system, of whose files nothing is
-//! known. `MemFolder` has its files in memory, where everything is known of them, and can be set to fail. What is proved
-//! over any folder holds over both.
+//! known. `MemFolder` has its files in memory, where everything is known of them, and can be set to fail. What is
+//! proved over any folder holds over both.
 //!
 //! `write_file` writes a new file beside the older one and then gives it the older one's path, as editors do. If
 //! anything fails before that, the older file is as it was. Only where a folder can't replace a file like this, the
