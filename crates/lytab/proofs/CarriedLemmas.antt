@@ -201,8 +201,15 @@ pub carried_tokens : {A R : Type 0} (f : A → List ℕ) (path lex : List ℕ) (
     → (IsSome text → e.input_after ≡ e.input_before)
     → (text ≡ None → IfErr r (λ g. IsOfRules g → e.input_after ≡ e.input_before))
     → (text ≡ None → OnOk r (IsAtEnd e.left)) → IsCarriedOut (tokens path (option_map f text) by) r e
-carried_tokens f path lex text by r e is answered refused begins elsewhere unread needed =
-    (lex, λ no. is, answered, refused, begins, input_mapped f text r e (OnOk r (IsAtEnd e.left)) elsewhere unread needed)
+carried_tokens f path lex text by r e is answered refused begins elsewhere unread needed = (
+  lex,
+  λ no. is,
+  answered,
+  refused,
+  begins,
+  input_mapped f text r e (OnOk r (IsAtEnd e.left)) elsewhere unread
+      needed,
+)
 
 pub carried_table_tokens : {A R : Type 0} (f : A → List ℕ) (path bytes : List ℕ) (text : Option A) (by : Answering)
     (r : Result Completion Failure) (e : Ends R) → IsFile e.files_before path bytes
@@ -292,7 +299,8 @@ carried_try_placed f path other lex yacc text points r e is also answered refuse
 
 pub carried_try : {A R : Type 0} (f : A → List ℕ) (path other lex yacc : List ℕ) (text : Option A) (by : Answering)
     (r : Result Completion Failure) (e : Ends R) → IsFile e.files_before path lex → IsFile e.files_before other yacc
-    → IfOk r (IsAnsweredByFiles by.form lex yacc (text_from (option_map f text) e.files_before e.given) e.before e.after)
+    → IfOk r (IsAnsweredByFiles by.form lex yacc (text_from (option_map f text) e.files_before e.given) e.before
+    e.after)
     → IfErr r (IsRefusalOfFiles lex yacc (text_from (option_map f text) e.files_before e.given))
     → WroteNothingOrPrefix r e
     (IsBegunByFiles by.form lex yacc (text_from (option_map f text) e.files_before e.given) e.before e.after)

@@ -1,5 +1,6 @@
 -- Whether there are as many conflicts as there are to be.
-use Rattle.std.proofs.Common.{◌≡◌, ◌∙◌, ◌&&◌, ◌==◌, ap, ap₂, Bool, false, is_some, List, None, Option, refl, Some, sym, true}
+use Rattle.std.proofs.Common.{◌≡◌, ◌∙◌, ◌&&◌, ◌==◌, ap, ap₂, Bool, false, is_some, List, None, Option, refl, Some}
+use Rattle.std.proofs.Common.{sym, true}
 use Rattle.std.proofs.Common.{true≢false, unwrap_or, ℕ}
 use Rattle.std.proofs.lemmas.Bool.{eq-eqb, eqb-true}
 use Rattle.ly_base.specs.declared.version.Version.{Version}

@@ -258,19 +258,22 @@ IsCarriedOut (tokens lex text by) result e = (bytes : List ℕ)
     × IsRead e.files_before lex result bytes
     × IfOk result (AreTokensPrinted by.form bytes (text_from text e.files_before e.given) e.before e.after)
     × IfErr result (IsRefusalOfLex bytes)
-    × WroteNothingOrPrefix result e (AreTokensBegun by.form bytes (text_from text e.files_before e.given) e.before e.after)
+    × WroteNothingOrPrefix result e (AreTokensBegun by.form bytes (text_from text e.files_before e.given) e.before
+    e.after)
     × IsInputTaken text result e (OnOk result (IsAtEnd e.left))
 IsCarriedOut (table_tokens table_file text by) result e = (bytes : List ℕ)
     × IsRead e.files_before table_file result bytes
     × IfOk result (AreTableTokens by.form bytes (text_from text e.files_before e.given) e.before e.after)
     × IfErr result (IsRefusalOfScanner bytes (text_from text e.files_before e.given))
-    × WroteNothingOrPrefix result e (AreTableTokensBegun by.form bytes (text_from text e.files_before e.given) e.before e.after)
+    × WroteNothingOrPrefix result e (AreTableTokensBegun by.form bytes (text_from text e.files_before e.given) e.before
+    e.after)
     × IsInputTaken text result e (OnOk result (IsAtEnd e.left))
 IsCarriedOut (run table_file text by) result e = (bytes : List ℕ)
     × IsRead e.files_before table_file result bytes
     × IfOk result (IsAnsweredByTables by.form bytes (text_from text e.files_before e.given) e.before e.after)
     × IfErr result (IsRefusalOfTables bytes (text_from text e.files_before e.given))
-    × WroteNothingOrPrefix result e (IsBegunByTables by.form bytes (text_from text e.files_before e.given) e.before e.after)
+    × WroteNothingOrPrefix result e (IsBegunByTables by.form bytes (text_from text e.files_before e.given) e.before
+    e.after)
     × IsInputTaken text result e (IsReadForTables bytes result e)
 IsCarriedOut (lines table_file text by) result e = (bytes : List ℕ)
     × IsRead e.files_before table_file result bytes
@@ -282,7 +285,8 @@ IsCarriedOut (run_placed table_file text points) result e = (bytes : List ℕ)
     × IsRead e.files_before table_file result bytes
     × IfOk result (IsPlacedByTables bytes (text_from text e.files_before e.given) e.before e.after)
     × IfErr result (IsRefusalOfTables bytes (text_from text e.files_before e.given))
-    × WroteNothingOrPrefix result e (IsPlacingBegunByTables bytes (text_from text e.files_before e.given) e.before e.after)
+    × WroteNothingOrPrefix result e (IsPlacingBegunByTables bytes (text_from text e.files_before e.given) e.before
+    e.after)
     × IsInputTaken text result e (OnOk result (IsAtEnd e.left))
 IsCarriedOut (try_placed lex yacc text points) result e = (lex_bytes yacc_bytes : List ℕ)
     × IsRead e.files_before lex result lex_bytes
@@ -295,7 +299,8 @@ IsCarriedOut (try_placed lex yacc text points) result e = (lex_bytes yacc_bytes 
 IsCarriedOut (try lex yacc text by) result e = (lex_bytes yacc_bytes : List ℕ)
     × IsRead e.files_before lex result lex_bytes
     × IsRead e.files_before yacc result yacc_bytes
-    × IfOk result (IsAnsweredByFiles by.form lex_bytes yacc_bytes (text_from text e.files_before e.given) e.before e.after)
+    × IfOk result (IsAnsweredByFiles by.form lex_bytes yacc_bytes (text_from text e.files_before e.given) e.before
+    e.after)
     × IfErr result (IsRefusalOfFiles lex_bytes yacc_bytes (text_from text e.files_before e.given))
     × WroteNothingOrPrefix result e
     (IsBegunByFiles by.form lex_bytes yacc_bytes (text_from text e.files_before e.given) e.before e.after)

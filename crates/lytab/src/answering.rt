@@ -87,16 +87,20 @@ pub fn answer_text<'a, D: Folder, R: Source + Recall, W: Sink>(
     output: &mut W,
     notes: &mut Notes,
 ) -> Result<Completion, Failure<'a>>
-    ensures answered { IfOk result (IsParsedBy rules.entry (text_from (option_map (λ p. p.now) text.entry) (D.holds folder.now) (R.remaining input.old))
+    ensures answered { IfOk result (IsParsedBy rules.entry
+        (text_from (option_map (λ p. p.now) text.entry) (D.holds folder.now) (R.remaining input.old))
         (W.contents output.old) (W.contents output.new)) }
-    ensures refused { IfErr result (IsRefusalOf rules.entry (text_from (option_map (λ p. p.now) text.entry) (D.holds folder.now) (R.remaining input.old))) }
+    ensures refused { IfErr result (IsRefusalOf rules.entry
+        (text_from (option_map (λ p. p.now) text.entry) (D.holds folder.now) (R.remaining input.old))) }
     ensures told { text.entry ≡ None → DeviceFailuresReported result (R.failures input.old) (R.failures input.new)
         (W.failures output.old) (W.failures output.new) }
     ensures unread { IsSome text.entry → input.new ≡ input.old }
     ensures written { WriteFailuresReported result (W.failures output.old) (W.failures output.new) }
     ensures beginning { IfErr result (λ f. IsOfWriter f → IsAnswerBegun rules.entry
-        (text_from (option_map (λ p. p.now) text.entry) (D.holds folder.now) (R.remaining input.old)) (W.contents output.old) (W.contents output.new)) }
-    ensures stopped { IfErr result (AreLinesStoppedBy rules.entry (text_from (option_map (λ p. p.now) text.entry) (D.holds folder.now) (R.remaining input.old))
+        (text_from (option_map (λ p. p.now) text.entry) (D.holds folder.now) (R.remaining input.old))
+        (W.contents output.old) (W.contents output.new)) }
+    ensures stopped { IfErr result (AreLinesStoppedBy rules.entry
+        (text_from (option_map (λ p. p.now) text.entry) (D.holds folder.now) (R.remaining input.old))
         (W.contents output.old) (W.contents output.new)) }
     ensures kept { IfErr result (λ f. (IsOfWriter f → ⊥) → W.failures output.new ≡ W.failures output.old) }
     ensures untouched { IsOneText rules.entry → IfErr result (λ f. (IsOfWriter f → ⊥) → output.new ≡ output.old) }

@@ -78,7 +78,8 @@ fn explained(
     yacc: &[u8],
     options: Options,
 ) -> Result<Explanation, OutOfMemory>
-    ensures explained { IfOk result (IsExplained version_2 (lex_text (paths_of_explain paths.entry).lex lex.now) yacc.now) }
+    ensures explained { IfOk result (IsExplained version_2 (lex_text (paths_of_explain paths.entry).lex lex.now)
+        yacc.now) }
     ensures form { IfOk result (λ e. IsInForm options.form e.findings e.text.items) }
 {
     let yacc_name = ShownPath(paths.yacc).text(alloc)?;

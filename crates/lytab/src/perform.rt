@@ -88,8 +88,8 @@ pub fn perform<D: Folder, R: Source + Recall, W: Sink, E: Write>(
 }
 
 /// The exit status of a command with this result. If it failed, the line of the failure is written, and in any case
-/// what `--where` requests. Without memory for that, the failure is out of memory; the line that says so is also written
-/// if the command succeeded.
+/// what `--where` requests. Without memory for that, the failure is out of memory; the line that says so is also
+/// written if the command succeeded.
 fn concluded<E: Write>(
     alloc: Global,
     ended: Result<Completion, Failure<'_>>,

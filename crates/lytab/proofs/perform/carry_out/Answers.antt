@@ -9,7 +9,8 @@ returns-in_ok-bytes-in-Tokens-clause-carried_out g c =
     let r = c.answer_text-ended.ensures in
     rw c.in-Tokens.is (carried_tokens
     (λ s. s.now)
-    c.in-Tokens.lex.now _ c.in-Tokens.text c.in-Tokens.by c.answer_text-ended.result _ c.in_ok-bytes.ensures.read r.answered r.refused
+    c.in-Tokens.lex.now _ c.in-Tokens.text c.in-Tokens.by c.answer_text-ended.result _ c.in_ok-bytes.ensures.read
+    r.answered r.refused
     (begun_at_most g.W.Sink.contents c.answer_text-ended.result _ _ _ r.beginning (r.untouched tt)) r.unread
     (λ no. (r.needed no).unread) (λ no. (r.needed no).needed))
 
@@ -29,7 +30,8 @@ returns-in_ok-bytes-in-Run-clause-carried_out g c =
     let r = c.answer_text-ended-in-Run.ensures in
     rw c.in-Run.is (carried_run
     (λ s. s.now)
-    c.in-Run.tables.now _ c.in-Run.text c.in-Run.by c.answer_text-ended-in-Run.result _ c.in_ok-bytes-in-Run.ensures.read r.answered r.refused
+    c.in-Run.tables.now _ c.in-Run.text c.in-Run.by c.answer_text-ended-in-Run.result _
+    c.in_ok-bytes-in-Run.ensures.read r.answered r.refused
     (begun_at_most g.W.Sink.contents c.answer_text-ended-in-Run.result _ _ _ r.beginning (r.untouched tt)) r.unread
     (λ no. (r.needed no).unread) (λ no. (r.needed no).needed))
 
@@ -38,7 +40,8 @@ returns-in_ok-bytes-in-Lines-clause-carried_out g c =
     let r = c.answer_text-ended-in-Lines.ensures in
     rw c.in-Lines.is (carried_lines
     (λ s. s.now)
-    c.in-Lines.tables.now _ c.in-Lines.text c.in-Lines.by c.answer_text-ended-in-Lines.result _ c.in_ok-bytes-in-Lines.ensures.read r.answered r.stopped
+    c.in-Lines.tables.now _ c.in-Lines.text c.in-Lines.by c.answer_text-ended-in-Lines.result _
+    c.in_ok-bytes-in-Lines.ensures.read r.answered r.stopped
     r.unread (λ no. (r.needed no).unread) r.read)
 
 pub returns-in_ok-bytes-in-Lines-clause-devices : goal.returns-in_ok-bytes-in-Lines-clause-devices
@@ -63,7 +66,8 @@ returns-in_ok-yacc_bytes-in-TryPlaced-clause-carried_out g c =
     rw c.in-TryPlaced.is (carried_try_placed
     (λ s. s.now)
     c.in-TryPlaced.lex.now c.in-TryPlaced.yacc.now _ _ c.in-TryPlaced.text c.in-TryPlaced.points
-    c.answer_text-ended-in-TryPlaced.result _ c.in_ok-lex_bytes.ensures.read c.in_ok-yacc_bytes.ensures.read r.answered r.refused
+    c.answer_text-ended-in-TryPlaced.result _ c.in_ok-lex_bytes.ensures.read c.in_ok-yacc_bytes.ensures.read r.answered
+    r.refused
     (begun_at_most g.W.Sink.contents c.answer_text-ended-in-TryPlaced.result _ _ _ r.beginning (r.untouched tt))
     r.unread (λ no. (r.needed no).unread) (λ no. (r.needed no).needed))
 
@@ -73,7 +77,8 @@ returns-in_ok-yacc_bytes-in-Try-clause-carried_out g c =
     rw c.in-Try.is (carried_try
     (λ s. s.now)
     c.in-Try.lex.now c.in-Try.yacc.now _ _ c.in-Try.text c.in-Try.by
-    c.answer_text-ended-in-Try.result _ c.in_ok-lex_bytes-in-Try.ensures.read c.in_ok-yacc_bytes-in-Try.ensures.read r.answered r.refused
+    c.answer_text-ended-in-Try.result _ c.in_ok-lex_bytes-in-Try.ensures.read c.in_ok-yacc_bytes-in-Try.ensures.read
+    r.answered r.refused
     (begun_at_most g.W.Sink.contents c.answer_text-ended-in-Try.result _ _ _ r.beginning (r.untouched tt)) r.unread
     (λ no. (r.needed no).unread) (λ no. (r.needed no).needed))
 
