@@ -28,9 +28,9 @@ has_one text a b empty says = has_more [] text (Some []) b refl (rw empty at say
 
 -- four parts
 pub has_four : (p q r s : List ℕ) (a b c d e : Option (List ℕ)) → a ≡ Some [] → Says a p b → Says b q c → Says c r d
-    → Says d s e → Has (p ++ (q ++ (r ++ s))) e
+    → Says d s e → Has (p ++ ((q ++ r) ++ s)) e
 has_four p q r s a b c d e empty first second third fourth = subst (λ text. Has text e)
-    (append_assoc (p ++ q) r s ∙ append_assoc p q (r ++ s))
+    (ap (λ text. text ++ s) (append_assoc p q r) ∙ append_assoc p (q ++ r) s)
     (has_more ((p ++ q) ++ r) s d e
     (has_more (p ++ q) r c d (has_more p q b c (has_one p a b empty first) second) third) fourth)
 
