@@ -1,7 +1,7 @@
 -- Lemmas on the files that a command writes.
 use Rattle.std.proofs.Common.{◌≡◌, ◌≢◌, ◌∙◌, ◌⊎◌, [], ◌∷◌, ◌++◌, ℕ, List, Option, Some, None, ap, false, inl, inr}
 use Rattle.std.proofs.Common.{refl, sym, true≢false}
-use Rattle.std.specs.Prelude.{Err, IsSome, Ok, OnErr, OnOk, Result, is_some}
+use Rattle.std.specs.Prelude.{Err, IsSome, Ok, OnErr, OnOk, Result, bytes_eq, is_some}
 use Rattle.std.specs.declared.alloc.Global.{Global}
 use Rattle.std.specs.declared.vec.Vec.{Vec}
 use Rattle.ly_cli.specs.Paths.{as_list}
@@ -37,7 +37,7 @@ kept_by_set paths path file f g among is p other some =
 kept_by_begun : (paths : List (List ℕ)) (new : List ℕ) (f g : Files) → IsBegun new f g → AreOthersKept paths f g
 kept_by_begun paths new f g begun p other some = by (same_or_not p new)
   where
-    by : (p ≡ new) ⊎ (_ ≡ false) → g p ≡ f p
+    by : (p ≡ new) ⊎ (bytes_eq p new ≡ false) → g p ≡ f p
     by (inl same) = absurd (true≢false (sym some ∙ ap (λ q. is_some (f q)) same ∙ ap is_some begun.0))
     by (inr apart) = begun.1.1 p ∙ set_there new begun.1.0 f p apart
 
@@ -92,11 +92,12 @@ set_if_same : (path : Option (List ℕ)) (bytes : Option (Vec ℕ Global)) (f g 
     → AreSame (set_if path bytes f) (set_if path bytes g)
 set_if_same None bytes f g same = same
 set_if_same (Some path) None f g same = same
-set_if_same (Some path) (Some bytes) f g same p = by (same_or_not p path)
+set_if_same (Some path) (Some bytes) f g same = λ p. by p (same_or_not p path)
   where
-    by : (p ≡ path) ⊎ (_ ≡ false) → set path (Some bytes.items) g p ≡ set path (Some bytes.items) f p
-    by (inl here) = rw here (set_here path (Some bytes.items) g ∙ sym (set_here path (Some bytes.items) f))
-    by (inr apart) = set_there path (Some bytes.items) g p apart ∙ same p
+    by : (p : List ℕ) → (p ≡ path) ⊎ (bytes_eq p path ≡ false)
+        → set path (Some bytes.items) g p ≡ set path (Some bytes.items) f p
+    by p (inl here) = rw here (set_here path (Some bytes.items) g ∙ sym (set_here path (Some bytes.items) f))
+    by p (inr apart) = set_there path (Some bytes.items) g p apart ∙ same p
         ∙ sym (set_there path (Some bytes.items) f p apart)
 
 -- a change and then a file that may be written

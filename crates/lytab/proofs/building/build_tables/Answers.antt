@@ -1,8 +1,7 @@
 use Rattle.std.proofs.Common.{◌≡◌, ◌∙◌, IfErr, rules, subst, sym}
 use Rattle.ly_generate.specs.Parser.{IsReportIf}
 use Rattle.ly_generate.proofs.GenFaultLemmas.{err_weaker}
-use Rattle.ly_base.specs.Limits.{least_of, sizes_in}
-use Rattle.ly_generate.specs.Generated.{IsGenerated}
+use Rattle.ly_files.specs.Folder.{IsFile}
 use Rattle.lytab.specs.CarriedOut.{HasBuilt, paths_of_build}
 use Rattle.lytab.specs.Devices.{WroteAllOrPrefix, DoneOrUnchanged}
 use Rattle.lytab.specs.Failure.{IsOfDevice}
@@ -26,10 +25,10 @@ returns-clause-built g c =
     }) c.said.result))
     c.version_2-limits.ensures
     (is_told c.said.result before after (record {
-      lex = _;
-      lex_read = c.in_ok-lex.ensures.read;
-      yacc = _;
-      yacc_read = c.in_ok-yacc.ensures.read;
+      lex = c.deref.result.now;
+      lex_read = rw c.deref.ensures.value c.in_ok-lex.ensures.read;
+      yacc = c.deref-2.result.now;
+      yacc_read = rw c.deref-2.ensures.value c.in_ok-yacc.ensures.read;
       set = built.0;
       generated = built.1;
       tables = _;
@@ -48,19 +47,21 @@ pub returns-in-Some-clause-refused : goal.returns-in-Some-clause-refused
 returns-in-Some-clause-refused g c =
     let built = c.in-Ok.ensures.built in
     let differ = counts_differ c.args.expected c.in-Ok.built.conflicts _ (sym c.missed_count.ensures ∙ c.in-Some.is) in
-    let generated = subst (λ limits. IsGenerated c.args.version (least_of limits (sizes_in c.args.version))
-    c.in_ok-lex.lex.items c.in_ok-yacc.yacc.items built.0) c.version_2-limits.ensures built.1 in (
+    let files = g.D.Folder.holds c.args.folder.now in
+    subst (λ limits. (o : HasOtherCounts limits c.args.version c.args.expected c.in-Ok.built.conflicts
+    c.in-Some.expected) × IsFile files c.args.paths.lex.now o.lex × IsFile files c.args.paths.yacc.now o.yacc)
+    c.version_2-limits.ensures (
       (record {
-        lex = c.in_ok-lex.lex.items;
-        yacc = c.in_ok-yacc.yacc.items;
+        lex = c.deref.result.now;
+        yacc = c.deref-2.result.now;
         set = built.0;
-        generated = generated;
-        are_counts = ?;
+        generated = built.1;
+        are_counts = built.3;
         is_expected = differ.0;
         others = differ.1;
       }),
-      c.in_ok-lex.ensures.read,
-      c.in_ok-yacc.ensures.read,
+      rw c.deref.ensures.value c.in_ok-lex.ensures.read,
+      rw c.deref-2.ensures.value c.in_ok-yacc.ensures.read,
     )
 
 pub returns-clause-refused : goal.returns-clause-refused

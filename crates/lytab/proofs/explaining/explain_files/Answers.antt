@@ -12,10 +12,10 @@ returns-clause-said g c =
     let after = g.W.Sink.contents c.said.new.output in
     let is_said : WroteAllOrPrefix c.said.result before after explanation.text.items = search rules in
     is_told c.said.result before after (record {
-      lex = _;
-      lex_read = c.in_ok-lex.ensures.read;
-      yacc = _;
-      yacc_read = c.in_ok-yacc.ensures.read;
+      lex = c.deref.result.now;
+      lex_read = rw c.deref.ensures.value c.in_ok-lex.ensures.read;
+      yacc = c.deref-2.result.now;
+      yacc_read = rw c.deref-2.ensures.value c.in_ok-yacc.ensures.read;
       explanation = explanation;
       explained = c.in_ok-explanation.ensures.explained;
       in_form = subst (λ form. IsInForm form explanation.findings explanation.text.items) c.form_of.ensures

@@ -8,9 +8,8 @@ pub returns-in_ok-bytes-in-Tokens-clause-carried_out : goal.returns-in_ok-bytes-
 returns-in_ok-bytes-in-Tokens-clause-carried_out g c =
     let r = c.answer_text-ended.ensures in
     rw c.in-Tokens.is (carried_tokens
-    (λ s. s.now)
-    c.in-Tokens.lex.now _ c.in-Tokens.text c.in-Tokens.by c.answer_text-ended.result _ c.in_ok-bytes.ensures.read
-    r.answered r.refused
+    (λ s. s.now) c.in-Tokens.lex.now c.deref.result.now c.in-Tokens.text c.in-Tokens.by c.answer_text-ended.result _
+    (rw c.deref.ensures.value c.in_ok-bytes-in-Tokens.ensures.read) r.answered r.refused
     (begun_at_most g.W.Sink.contents c.answer_text-ended.result _ _ _ r.beginning (r.untouched tt)) r.unread
     (λ no. (r.needed no).unread) (λ no. (r.needed no).needed))
 
@@ -19,9 +18,8 @@ pub returns-in_ok-bytes-in-TableTokens-clause-carried_out
 returns-in_ok-bytes-in-TableTokens-clause-carried_out g c =
     let r = c.answer_text-ended-in-TableTokens.ensures in
     rw c.in-TableTokens.is (carried_table_tokens
-    (λ s. s.now)
-    c.in-TableTokens.tables.now _ c.in-TableTokens.text c.in-TableTokens.by c.answer_text-ended-in-TableTokens.result _
-    c.in_ok-bytes-in-TableTokens.ensures.read r.answered r.refused
+    (λ s. s.now) c.in-TableTokens.tables.now c.deref-in-TableTokens.result.now c.in-TableTokens.text c.in-TableTokens.by c.answer_text-ended-in-TableTokens.result _
+    (rw c.deref-in-TableTokens.ensures.value c.in_ok-bytes-in-TableTokens.ensures.read) r.answered r.refused
     (begun_at_most g.W.Sink.contents c.answer_text-ended-in-TableTokens.result _ _ _ r.beginning (r.untouched tt))
     r.unread (λ no. (r.needed no).unread) (λ no. (r.needed no).needed))
 
@@ -29,9 +27,8 @@ pub returns-in_ok-bytes-in-Run-clause-carried_out : goal.returns-in_ok-bytes-in-
 returns-in_ok-bytes-in-Run-clause-carried_out g c =
     let r = c.answer_text-ended-in-Run.ensures in
     rw c.in-Run.is (carried_run
-    (λ s. s.now)
-    c.in-Run.tables.now _ c.in-Run.text c.in-Run.by c.answer_text-ended-in-Run.result _
-    c.in_ok-bytes-in-Run.ensures.read r.answered r.refused
+    (λ s. s.now) c.in-Run.tables.now c.deref-in-Run.result.now c.in-Run.text c.in-Run.by c.answer_text-ended-in-Run.result _
+    (rw c.deref-in-Run.ensures.value c.in_ok-bytes-in-Run.ensures.read) r.answered r.refused
     (begun_at_most g.W.Sink.contents c.answer_text-ended-in-Run.result _ _ _ r.beginning (r.untouched tt)) r.unread
     (λ no. (r.needed no).unread) (λ no. (r.needed no).needed))
 
@@ -39,9 +36,8 @@ pub returns-in_ok-bytes-in-Lines-clause-carried_out : goal.returns-in_ok-bytes-i
 returns-in_ok-bytes-in-Lines-clause-carried_out g c =
     let r = c.answer_text-ended-in-Lines.ensures in
     rw c.in-Lines.is (carried_lines
-    (λ s. s.now)
-    c.in-Lines.tables.now _ c.in-Lines.text c.in-Lines.by c.answer_text-ended-in-Lines.result _
-    c.in_ok-bytes-in-Lines.ensures.read r.answered r.stopped
+    (λ s. s.now) c.in-Lines.tables.now c.deref-in-Lines.result.now c.in-Lines.text c.in-Lines.by c.answer_text-ended-in-Lines.result _
+    (rw c.deref-in-Lines.ensures.value c.in_ok-bytes-in-Lines.ensures.read) r.answered r.stopped
     r.unread (λ no. (r.needed no).unread) r.read)
 
 pub returns-in_ok-bytes-in-Lines-clause-devices : goal.returns-in_ok-bytes-in-Lines-clause-devices
@@ -53,9 +49,8 @@ pub returns-in_ok-bytes-in-RunPlaced-clause-carried_out : goal.returns-in_ok-byt
 returns-in_ok-bytes-in-RunPlaced-clause-carried_out g c =
     let r = c.answer_text-ended-in-RunPlaced.ensures in
     rw c.in-RunPlaced.is (carried_run_placed
-    (λ s. s.now)
-    c.in-RunPlaced.tables.now _ c.in-RunPlaced.text c.in-RunPlaced.points c.answer_text-ended-in-RunPlaced.result _
-    c.in_ok-bytes-in-RunPlaced.ensures.read r.answered r.refused
+    (λ s. s.now) c.in-RunPlaced.tables.now c.deref-in-RunPlaced.result.now c.in-RunPlaced.text c.in-RunPlaced.points c.answer_text-ended-in-RunPlaced.result _
+    (rw c.deref-in-RunPlaced.ensures.value c.in_ok-bytes-in-RunPlaced.ensures.read) r.answered r.refused
     (begun_at_most g.W.Sink.contents c.answer_text-ended-in-RunPlaced.result _ _ _ r.beginning (r.untouched tt))
     r.unread (λ no. (r.needed no).unread) (λ no. (r.needed no).needed))
 
@@ -64,9 +59,9 @@ pub returns-in_ok-yacc_bytes-in-TryPlaced-clause-carried_out
 returns-in_ok-yacc_bytes-in-TryPlaced-clause-carried_out g c =
     let r = c.answer_text-ended-in-TryPlaced.ensures in
     rw c.in-TryPlaced.is (carried_try_placed
-    (λ s. s.now)
-    c.in-TryPlaced.lex.now c.in-TryPlaced.yacc.now _ _ c.in-TryPlaced.text c.in-TryPlaced.points
-    c.answer_text-ended-in-TryPlaced.result _ c.in_ok-lex_bytes.ensures.read c.in_ok-yacc_bytes.ensures.read r.answered
+    (λ s. s.now) c.in-TryPlaced.lex.now c.in-TryPlaced.yacc.now c.deref-in-TryPlaced.result.now c.deref-in-TryPlaced-2.result.now c.in-TryPlaced.text c.in-TryPlaced.points
+    c.answer_text-ended-in-TryPlaced.result _ (rw c.deref-in-TryPlaced.ensures.value c.in_ok-lex_bytes-in-TryPlaced.ensures.read)
+    (rw c.deref-in-TryPlaced-2.ensures.value c.in_ok-yacc_bytes-in-TryPlaced.ensures.read) r.answered
     r.refused
     (begun_at_most g.W.Sink.contents c.answer_text-ended-in-TryPlaced.result _ _ _ r.beginning (r.untouched tt))
     r.unread (λ no. (r.needed no).unread) (λ no. (r.needed no).needed))
@@ -75,9 +70,9 @@ pub returns-in_ok-yacc_bytes-in-Try-clause-carried_out : goal.returns-in_ok-yacc
 returns-in_ok-yacc_bytes-in-Try-clause-carried_out g c =
     let r = c.answer_text-ended-in-Try.ensures in
     rw c.in-Try.is (carried_try
-    (λ s. s.now)
-    c.in-Try.lex.now c.in-Try.yacc.now _ _ c.in-Try.text c.in-Try.by
-    c.answer_text-ended-in-Try.result _ c.in_ok-lex_bytes-in-Try.ensures.read c.in_ok-yacc_bytes-in-Try.ensures.read
+    (λ s. s.now) c.in-Try.lex.now c.in-Try.yacc.now c.deref-in-Try.result.now c.deref-in-Try-2.result.now c.in-Try.text c.in-Try.by
+    c.answer_text-ended-in-Try.result _ (rw c.deref-in-Try.ensures.value c.in_ok-lex_bytes-in-Try.ensures.read)
+    (rw c.deref-in-Try-2.ensures.value c.in_ok-yacc_bytes-in-Try.ensures.read)
     r.answered r.refused
     (begun_at_most g.W.Sink.contents c.answer_text-ended-in-Try.result _ _ _ r.beginning (r.untouched tt)) r.unread
     (λ no. (r.needed no).unread) (λ no. (r.needed no).needed))
