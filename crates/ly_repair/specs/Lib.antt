@@ -1,0 +1,5 @@
+pub mod Edits
+pub mod Laws
+pub mod Private
+pub mod Repairs
+pub mod Runs
