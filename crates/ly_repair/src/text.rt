@@ -142,10 +142,11 @@ impl<'a, A: Rows<TableAction> + Drop, G: Rows<StateNo> + Drop> Text<'a, A, G> {
         ensures next { IfOk result (IsNext self.now.machine (after self.now index) (stack_of runs.old.stacks at.0)
             runs.new.stacks) }
     {
-        match self.rest.get(index) {
-            Some(&terminal) => self.run(runs, at, terminal),
-            None => self.run(runs, at, Sym(0)),
+        if index < self.rest.len() {
+            let terminal = self.rest[index];
+            return self.run(runs, at, terminal);
         }
+        self.run(runs, at, Sym(0))
     }
 
     /// How far the tables read on from a place: the index of the first terminal that isn't read, but at most a limit. It
