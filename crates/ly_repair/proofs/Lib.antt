@@ -1,7 +1,9 @@
 mod FormLemmas
 mod OrderLemmas
+mod PlaceLemmas
 mod ReadLemmas
 mod RunLemmas
 mod StackLemmas
+mod StepLemmas
 mod TextLemmas
 mod UnfinishedLemmas

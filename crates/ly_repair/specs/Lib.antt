@@ -3,3 +3,4 @@ pub mod Laws
 pub mod Private
 pub mod Repairs
 pub mod Runs
+pub mod Values

@@ -79,7 +79,8 @@ impl<'a, A: Rows<TableAction> + Drop, G: Rows<StateNo> + Drop> Text<'a, A, G> {
 
     /// The number of terminals of the tables.
     pub(crate) fn terminals(&self) -> usize
-        ensures { result ≡ self.now.machine.terminals }
+        ensures count { result ≡ self.now.machine.terminals }
+        ensures readable { IsReadable self.now }
     {
         self.machine.terminals()
     }
