@@ -7,3 +7,5 @@ mod StackLemmas
 mod StepLemmas
 mod TextLemmas
 mod UnfinishedLemmas
+mod WalkLemmas
+mod LevelLemmas

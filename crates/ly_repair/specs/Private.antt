@@ -1,3 +1,4 @@
+pub mod Levels
 pub mod Search
 pub mod Stacks
 pub mod Text
