@@ -1,5 +1,6 @@
 mod FormLemmas
 mod OrderLemmas
+mod PathLemmas
 mod PlaceLemmas
 mod ReadLemmas
 mod RunLemmas
@@ -9,3 +10,4 @@ mod TextLemmas
 mod UnfinishedLemmas
 mod WalkLemmas
 mod LevelLemmas
+mod SoundLemmas

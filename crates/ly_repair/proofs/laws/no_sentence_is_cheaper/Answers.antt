@@ -1,7 +1,7 @@
 use Rattle.ly_repair.proofs.ReadLemmas.{accepts, mends}
 use Rattle.ly_repair.proofs.laws.no_sentence_is_cheaper.Goals as goal
 
-pub returns-clause-whole : goal.returns-clause-mends
+pub returns-clause-whole : goal.returns-clause-whole
 returns-clause-whole c = λ m stack rest es few x. mends m 3 es stack rest x.last few x.reads x.accepts
 
 pub returns-clause-least : goal.returns-clause-least

@@ -3,7 +3,8 @@ use Rattle.ly_pack.proofs.Runs.{reductions_fall, runs_end}
 use Rattle.ly_pack.specs.Machine.{Machine, accept, error, reduce, shift}
 use Rattle.ly_pack.specs.Steady.{EndsWithin, accepts, ends, goes_on, move, refuses, run_bound}
 use Rattle.ly_pack.proofs.LegalLemmas.{legal_reduction}
-use Rattle.ly_repair.specs.Private.Stacks.{IsGrown, IsMade, now_of, stack_of, upward}
+use Rattle.ly_repair.specs.Private.Stacks.{IsGrown, IsMade, now_of, stack_of}
+use Rattle.ly_repair.specs.Values.{upward}
 use Rattle.ly_repair.specs.Private.Text.{IsOutcome, IsStackAt}
 use Rattle.ly_repair.specs.Runs.{Accepts, IsStackOf, Reads}
 use Rattle.ly_repair.specs.declared.text.RunEnd.TheVariants as run

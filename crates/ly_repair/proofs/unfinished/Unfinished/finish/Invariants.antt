@@ -1,5 +1,6 @@
 use Rattle.std.proofs.Common.{◌≡◌, ◌<◌, ◌++◌, length, take}
-use Rattle.ly_repair.specs.Private.Stacks.{IsGrown, stack_of, upward}
+use Rattle.ly_repair.specs.Private.Stacks.{IsGrown, stack_of}
+use Rattle.ly_repair.specs.Values.{upward}
 use Rattle.ly_repair.proofs.unfinished.Unfinished.finish.Given as goal
 
 abbrev pub invariant-loop-state : goal.invariant-loop-state

@@ -1,5 +1,6 @@
 use Rattle.std.proofs.Common.{◌∙◌, ◌-◌, ◌++◌, ap, arith, drop, length, sym, take}
-use Rattle.ly_repair.specs.Private.Stacks.{stack_of, upward}
+use Rattle.ly_repair.specs.Private.Stacks.{stack_of}
+use Rattle.ly_repair.specs.Values.{upward}
 use Rattle.ly_repair.proofs.UnfinishedLemmas.{pop_above, pop_below}
 use Rattle.ly_repair.proofs.unfinished.Unfinished.pop.Goals as goal
 
