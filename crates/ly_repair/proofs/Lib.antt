@@ -11,3 +11,4 @@ mod UnfinishedLemmas
 mod WalkLemmas
 mod LevelLemmas
 mod SoundLemmas
+mod AnswerLemmas

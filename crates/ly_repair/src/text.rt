@@ -3,9 +3,10 @@ ghost use Rattle.std.specs.Prelude.{◌≡◌, ◌↔◌, ◌+◌, ◌<◌, ◌�
 ghost use Rattle.ly_repair.specs.Private.Stacks.{stack_of, IsGrown};
 ghost use Rattle.ly_repair.specs.Private.Text.{after, ComesUpTo, IsNext, IsOutcome, IsReadable, IsStackAt};
 ghost use Rattle.ly_repair.specs.Runs.{Holds};
+ghost use Rattle.ly_repair.specs.Values.{stack_in};
 
 use crate::place::Place;
-use crate::stacks::{StackNo, Stacks};
+use crate::stacks::{BOTTOM, StackNo, Stacks};
 use crate::unfinished::Unfinished;
 use ly_base::{OutOfMemory, StateNo, Sym};
 use ly_pack::{MachineView, Rows, TableAction};
@@ -65,6 +66,19 @@ impl Runs {
             stacks: Stacks::new(alloc),
             moves: 0,
         }
+    }
+
+    /// Adds a stack, given by its states above the bottom, the top last.
+    pub(crate) fn enter(&mut self, stack: &[StateNo]) -> Result<StackNo, OutOfMemory>
+        requires { self.old.stacks ≡ (0 ∷ []) ∷ [] }
+        ensures within { IfOk result (λ at. at.0 < length self.new.stacks) }
+        ensures entered { IfOk result (λ at. stack_of self.new.stacks at.0 ≡ stack_in stack.now) }
+    {
+        let mut at = BOTTOM;
+        for &state in stack {
+            at = self.stacks.push(at, state)?;
+        }
+        Ok(at)
     }
 }
 
