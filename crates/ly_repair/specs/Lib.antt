@@ -1,4 +1,5 @@
 pub mod Edits
+pub mod Examples
 pub mod Laws
 pub mod Private
 pub mod Repairs

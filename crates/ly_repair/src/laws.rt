@@ -1,3 +1,4 @@
+ghost use Rattle.ly_repair.specs.Examples.{OneIsDeleted, OneIsInserted};
 ghost use Rattle.ly_repair.specs.Laws.{AcceptedIsRepaired, ErrorsCost, FormLosesNothing, HoldsFalls, LeastIsOfRepairs};
 ghost use Rattle.ly_repair.specs.Laws.{NoSentenceIsCheaper, NoneIsAccepted, OrderLosesNothing, ReadIsNotRefused};
 ghost use Rattle.ly_repair.specs.Laws.{ReadsInOneWay, RepairedIsAccepted};
@@ -28,4 +29,10 @@ pub fn form_loses_nothing()
     ensures form { FormLosesNothing }
     ensures least { LeastIsOfRepairs }
     ensures falls { HoldsFalls }
+{}
+
+/// Theorem: in a small grammar a missing parenthesis is inserted, and one too many is deleted.
+pub fn examples()
+    ensures inserted { OneIsInserted }
+    ensures deleted { OneIsDeleted }
 {}

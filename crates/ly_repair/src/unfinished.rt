@@ -113,11 +113,7 @@ impl Unfinished {
     }
 
     /// Adds the stack with a state on top to the stacks.
-    pub(crate) fn finish(
-        &self,
-        stacks: &mut Stacks,
-        state: StateNo,
-    ) -> Result<StackNo, OutOfMemory>
+    pub(crate) fn finish(&self, stacks: &mut Stacks, state: StateNo) -> Result<StackNo, OutOfMemory>
         requires { self.now.lower.0 < length stacks.old }
         ensures grown { OnOk result (IsGrown stacks.old stacks.new) }
         ensures within { IfOk result (λ at. at.0 < length stacks.new) }
