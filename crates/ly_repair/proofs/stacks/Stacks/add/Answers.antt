@@ -1,5 +1,5 @@
-use Rattle.std.proofs.Common.{◌≡◌, ◌∙◌, ◌<◌, ◌+◌, List, ap, length, subst, sym, ℕ}
-use Rattle.ly_repair.specs.Private.Stacks.{IsGrown, raised, stack_of, stacks_from}
+use Rattle.std.proofs.Common.{◌∙◌, ◌<◌, ap, length, subst, sym}
+use Rattle.ly_repair.specs.Private.Stacks.{IsGrown, raised, stacks_from}
 use Rattle.ly_repair.proofs.StackLemmas.{added, found_level}
 use Rattle.ly_repair.proofs.stacks.Stacks.add.Goals as goal
 

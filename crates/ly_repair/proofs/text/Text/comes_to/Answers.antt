@@ -1,4 +1,4 @@
-use Rattle.std.proofs.Common.{◌≡◌, ◌∙◌, ◌<◌, ◌≤◌, ap, arith, refl, subst, sym}
+use Rattle.std.proofs.Common.{arith, subst}
 use Rattle.ly_repair.specs.Private.Stacks.{stack_of}
 use Rattle.ly_repair.specs.Private.Text.{IsNext, after}
 use Rattle.ly_repair.proofs.StackLemmas.{grown_twice}

@@ -1,4 +1,4 @@
-use Rattle.std.proofs.Common.{◌≡◌, ℕ, ◌<◌, ◌≤◌, ◌+◌, ◌-◌, List, length}
+use Rattle.std.proofs.Common.{ℕ, ◌+◌, ◌-◌}
 use Rattle.ly_repair.specs.Private.Stacks.{IsGrown, stack_of}
 use Rattle.ly_repair.specs.Private.Text.{IsStackAt, after}
 use Rattle.ly_repair.specs.Runs.{Holds}

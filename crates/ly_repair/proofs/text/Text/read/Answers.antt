@@ -1,4 +1,4 @@
-use Rattle.std.proofs.Common.{◌≡◌, ◌∙◌, ◌<◌, ap, drop, get_or, map, refl, suc, subst, sym, ◌∷◌}
+use Rattle.std.proofs.Common.{◌∙◌, ◌<◌, ap, drop, get_or, map, suc, subst, sym}
 use Rattle.std.proofs.lemmas.Result.{IfOk-weaker}
 use Rattle.ly_repair.specs.Private.Stacks.{stack_of}
 use Rattle.ly_repair.specs.Private.Text.{IsNext, IsOutcome, after}

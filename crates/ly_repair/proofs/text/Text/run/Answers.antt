@@ -1,9 +1,9 @@
-use Rattle.std.proofs.Common.{◌≡◌, ◌∙◌, ℕ, ◌<◌, ◌+◌, ◌*◌, ◌++◌, All, ap, arith, false, length, List, refl, subst, sym, true}
+use Rattle.std.proofs.Common.{◌≡◌, ◌∙◌, ◌<◌, ◌+◌, ◌*◌, ◌++◌, ap, false, length, refl, subst, sym, true}
 use Rattle.ly_pack.proofs.Runs.{reductions_fall, runs_end}
-use Rattle.ly_pack.specs.Machine.{Machine, accept, error, reduce, shift}
+use Rattle.ly_pack.specs.Machine.{accept, error, reduce}
 use Rattle.ly_pack.specs.Steady.{EndsWithin, accepts, ends, goes_on, move, refuses, run_bound}
 use Rattle.ly_pack.proofs.LegalLemmas.{legal_reduction}
-use Rattle.ly_repair.specs.Private.Stacks.{IsGrown, IsMade, now_of, stack_of}
+use Rattle.ly_repair.specs.Private.Stacks.{IsMade, now_of, stack_of}
 use Rattle.ly_repair.specs.Values.{upward}
 use Rattle.ly_repair.specs.Private.Text.{IsOutcome, IsStackAt}
 use Rattle.ly_repair.specs.Runs.{Accepts, IsStackOf, Reads}

@@ -1,4 +1,4 @@
-use Rattle.std.proofs.Common.{◌∙◌, ◌-◌, ◌++◌, ap, arith, drop, length, sym, take}
+use Rattle.std.proofs.Common.{◌∙◌, ◌++◌, ap, arith, sym}
 use Rattle.ly_repair.specs.Private.Stacks.{stack_of}
 use Rattle.ly_repair.specs.Values.{upward}
 use Rattle.ly_repair.proofs.UnfinishedLemmas.{pop_above, pop_below}
