@@ -164,8 +164,8 @@ impl<'a, A: Rows<TableAction> + Drop, G: Rows<StateNo> + Drop> Text<'a, A, G> {
         self.run(runs, at, Sym(0))
     }
 
-    /// How far the tables read on from a place: the index of the first terminal that isn't read, but at most a limit. It
-    /// is the limit if the end is accepted.
+    /// How far the tables read on from a place: the index of the first terminal that isn't read, but at most a limit.
+    /// It is the limit if the end is accepted.
     pub(crate) fn comes_to(
         &self,
         runs: &mut Runs,

@@ -1,5 +1,6 @@
 //! A stack during a run.
-ghost use Rattle.std.specs.Prelude.{◌≡◌, ◌↔◌, ◌<◌, [], ◌∷◌, All, IfOk, IsTrue, List, OnOk, drop, false, length, true, ℕ};
+ghost use Rattle.std.specs.Prelude.{◌≡◌, ◌↔◌, ◌<◌, [], ◌∷◌, All, IfOk, IsTrue, List, OnOk, drop, false, length, true};
+ghost use Rattle.std.specs.Prelude.{ℕ};
 ghost use Rattle.ly_pack.specs.Machine.{states_of, IsMachine, IsRuleNumber};
 ghost use Rattle.ly_repair.specs.Private.Stacks.{now_of, stack_of, top_in, IsGrown, IsMade};
 

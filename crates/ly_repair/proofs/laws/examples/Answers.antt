@@ -26,7 +26,11 @@ inserted = record {
 }
 
 pub returns-clause-inserted : goal.returns-clause-inserted
-returns-clause-inserted c = (inserted, λ es w. costs nested es (4 ∷ 2 ∷ 0 ∷ []) [] w.last w.left w.leads w.holds end_refused)
+returns-clause-inserted c = (
+  inserted,
+  λ es w. costs nested es
+      (4 ∷ 2 ∷ 0 ∷ []) [] w.last w.left w.leads w.holds end_refused,
+)
 
 -- behind "x" nothing is read
 nothing_on_one : (t : ℕ) (next : List ℕ) → Reads nested t (1 ∷ 0 ∷ []) next → ⊥
@@ -48,7 +52,8 @@ no_change (delete ∷ es) e h = omega (arith, e)
 no_change (keep ∷ []) e h = h
 no_change (keep ∷ f ∷ es) e h = no_change (f ∷ es) e h
 
-one_delete : (es : List Edit) (stack rest last left : List ℕ) → stack ≡ 4 ∷ 0 ∷ [] → Leads nested es stack rest last left
+one_delete : (es : List Edit) (stack rest last left : List ℕ) → stack ≡ 4 ∷ 0 ∷ []
+    → Leads nested es stack rest last left
     → EndsInChange es → cost es ≡ 1 → es ≡ delete ∷ []
 one_delete [] stack rest last left s l h e = absurd h
 one_delete (insert t ∷ es) stack rest last left s (inserts {next = next} r l) h e =

@@ -5,7 +5,8 @@ pub returns-clause-whole : goal.returns-clause-whole
 returns-clause-whole c = λ m stack rest es few x. mends m 3 es stack rest x.last few x.reads x.accepts
 
 pub returns-clause-least : goal.returns-clause-least
-returns-clause-least c = λ m stack rest n least es few x. least es (mends m 3 es stack rest x.last few x.reads x.accepts)
+returns-clause-least c = λ m stack rest n least es few x. least es
+    (mends m 3 es stack rest x.last few x.reads x.accepts)
 
 pub returns-clause-accepted : goal.returns-clause-accepted
 returns-clause-accepted c = λ m stack rest last left es l x. accepts m es stack rest last left l x

@@ -2,7 +2,8 @@ use Rattle.std.proofs.Common.{arith, subst}
 use Rattle.ly_repair.specs.Private.Stacks.{stack_of}
 use Rattle.ly_repair.specs.Private.Text.{IsNext, after}
 use Rattle.ly_repair.proofs.StackLemmas.{grown_twice}
-use Rattle.ly_repair.proofs.TextLemmas.{all_hold, comes_all, comes_end, none_holds, one_fewer, one_more, read_on, stops_at}
+use Rattle.ly_repair.proofs.TextLemmas.{all_hold, comes_all, comes_end, none_holds, one_fewer, one_more, read_on}
+use Rattle.ly_repair.proofs.TextLemmas.{stops_at}
 use Rattle.ly_repair.proofs.text.Text.comes_to.Goals as goal
 
 pub returns-in-Accepts-clause-far : goal.returns-in-Accepts-clause-far

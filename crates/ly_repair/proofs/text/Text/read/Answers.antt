@@ -6,7 +6,8 @@ use Rattle.ly_repair.proofs.TextLemmas.{after_none, after_some, end_is, known_at
 use Rattle.ly_repair.proofs.text.Text.read.Goals as goal
 
 pub run-requires-clause-terminal : goal.run-requires-clause-terminal
-run-requires-clause-terminal g c = subst (λ m. (get_or c.self.inside.rest.now c.args.index (record { 0 = 0 })).0 < m.terminals)
+run-requires-clause-terminal g c = subst (λ m. (get_or c.self.inside.rest.now c.args.index
+    (record { 0 = 0 })).0 < m.terminals)
     (ap (λ x. x.machine) c.self.view_is)
     (known_at c.self.inside.machine.now c.self.inside.rest.now c.args.index (record { 0 = 0 }) c.self.invariant.known
     c.if-index-self.true).1
