@@ -1,0 +1,14 @@
+mod FormLemmas
+mod OrderLemmas
+mod PathLemmas
+mod PlaceLemmas
+mod ReadLemmas
+mod RunLemmas
+mod StackLemmas
+mod StepLemmas
+mod TextLemmas
+mod UnfinishedLemmas
+mod WalkLemmas
+mod LevelLemmas
+mod SoundLemmas
+mod AnswerLemmas

@@ -1,0 +1,5 @@
+pub mod Levels
+pub mod Paths
+pub mod Search
+pub mod Stacks
+pub mod Text
