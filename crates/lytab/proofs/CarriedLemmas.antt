@@ -319,6 +319,11 @@ carried_try f path other lex yacc text by r e is also answered refused begins el
   input_mapped f text r e _ elsewhere unread needed,
 )
 
+-- whether a report is wanted, by the path as an argument
+pub wanted_named : {A B : Type 0} (f : A → B) (path : Option A) → wanted_for path ≡ wanted_for (option_map f path)
+wanted_named f None = refl
+wanted_named f (Some path) = refl
+
 -- it is told, however the command ends
 pub is_told : {A : Type 0} (r : Result Completion Failure) (before after : Option (List ℕ)) → A
     → DoneOrUnchanged r before after A

@@ -6,7 +6,7 @@ use Rattle.lytab.specs.CarriedOut.{HasBuilt, paths_of_build}
 use Rattle.lytab.specs.Devices.{WroteAllOrPrefix, DoneOrUnchanged}
 use Rattle.lytab.specs.Failure.{IsOfDevice}
 use Rattle.lytab.specs.Refusal.{HasOtherCounts}
-use Rattle.lytab.proofs.CarriedLemmas.{is_told}
+use Rattle.lytab.proofs.CarriedLemmas.{is_told, wanted_named}
 use Rattle.lytab.proofs.CountLemmas.{counts_differ, counts_hold, device_of_build}
 use Rattle.lytab.proofs.building.build_tables.Goals as goal
 
@@ -34,7 +34,8 @@ returns-clause-built g c =
       tables = _;
       spelled = built.2;
       report = c.in-Ok.built.report;
-      is_report = subst (λ options. IsReportIf options built.1.spec c.in-Ok.built.report) c.wanted.ensures built.4;
+      is_report = subst (λ options. IsReportIf options built.1.spec c.in-Ok.built.report)
+          (c.wanted.ensures ∙ wanted_named (λ s. s.now) c.args.paths.report) built.4;
       written = c.in_ok-write_files.ensures.written;
       counts = c.in-Ok.built.conflicts;
       are_counts = built.3;
