@@ -1,5 +1,5 @@
-ghost use Rattle.std.specs.Prelude.{◌≡◌, ◌-◌, ◌<◌, ◌≤◌, ◌++◌, [], ◌∷◌, IfOk, List, None, OnErr, OnOk, Option, Some};
-ghost use Rattle.std.specs.Prelude.{◌↔◌, IfErr, IsErr, length, min, option_map, string_bytes, true, ℕ};
+ghost use Rattle.std.specs.Prelude.{◌≡◌, ◌-◌, ◌<◌, List, None, OnErr, OnOk, Option, Some};
+ghost use Rattle.std.specs.Prelude.{◌↔◌, IfErr, IsErr, min, option_map, true, ℕ};
 ghost use Rattle.ly_files.specs.Folder.{Files, IsCreated, IsRenamed, IsSet, IsSetSomehow, set};
 ghost use Rattle.ly_files.specs.Folders.{IsCreatedOrNot, TakesFile};
 ghost use Rattle.ly_files.specs.MemFolder.{changes_left, files_of, read_failures, unread};

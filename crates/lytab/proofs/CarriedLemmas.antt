@@ -1,25 +1,18 @@
 -- What a command did is said of its request, whose paths are the bytes of those that the command has.
-use Rattle.std.proofs.Common.{◌≡◌, ◌⊎◌, ap, Bool, Err, IfErr, IfOk, inl, inr, ◌∷◌, [], List, None, Ok, OnErr, OnOk}
+use Rattle.std.proofs.Common.{◌≡◌, ◌⊎◌, ap, Bool, Err, IfErr, IfOk, inl, inr, [], List, None, Ok, OnErr, OnOk}
 use Rattle.std.proofs.Common.{Option, option_map, refl, Result, Some, subst, sym, ℕ}
 use Rattle.std.specs.Prelude.{IsSome}
 use Rattle.std.specs.Result.{IsErrAnd}
 use Rattle.std.specs.Io.KnownBytes.{IsAtEnd}
-use Rattle.std.specs.declared.alloc.Global.{Global}
-use Rattle.std.specs.declared.vec.Vec.{Vec}
-use Rattle.ly_base.specs.Limits.{Sizes, version_2}
 use Rattle.ly_base.specs.declared.version.Version.{Version}
-use Rattle.ly_explain.specs.Explained.{IsExplained}
-use Rattle.ly_generate.specs.Parser.{IsReportIf}
 use Rattle.ly_print.specs.declared.answer_form.AnswerForm.{AnswerForm}
 use Rattle.ly_cli.specs.Request.{Request, build, check, explain, lines, run, run_placed, table_tokens}
 use Rattle.ly_cli.specs.Request.{tokens, try, try_placed}
 use Rattle.ly_cli.specs.declared.command.Answering.{Answering}
-use Rattle.ly_cli.specs.declared.command.ReportForm.{ReportForm}
-use Rattle.ly_cli.specs.declared.command.Strictness.{Strictness}
 use Rattle.lytab.specs.Answering.{AreTokensBegun, AreTokensPrinted, IsAnsweredByFiles, IsAnsweredByTables}
 use Rattle.lytab.specs.Answering.{IsBegunByFiles, IsBegunByTables, text_from}
-use Rattle.lytab.specs.CarriedOut.{Ends, WroteNothingOrPrefix, HasBuilt, IsCarriedOut, HasExplained, IsInputTaken}
-use Rattle.lytab.specs.CarriedOut.{lex_text, wanted_for}
+use Rattle.lytab.specs.CarriedOut.{Ends, WroteNothingOrPrefix, IsCarriedOut, IsInputTaken}
+use Rattle.lytab.specs.CarriedOut.{wanted_for}
 use Rattle.lytab.specs.Devices.{LineFailuresReported, WriteFailuresReported, UnchangedOrWriteFailed}
 use Rattle.lytab.specs.Devices.{OutputFailuresReported, DoneOrUnchanged, IsOutputAfter}
 use Rattle.lytab.specs.Failure.{IsOfDevice, IsOfWriter, failure_of_file}

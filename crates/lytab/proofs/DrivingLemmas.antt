@@ -1,6 +1,6 @@
 -- What a failure says that stands for a fault of driving.
 use Rattle.std.proofs.Common.{◌≡◌, ℕ, List, Option, ap, refl, subst, sym}
-use Rattle.ly_drive.specs.Answering.{IsDriven, IsFaultyOn, IsTooLong}
+use Rattle.ly_drive.specs.Answering.{IsDriven, IsFaultyOn}
 use Rattle.ly_drive.specs.TableTokens.{HasBadCut}
 use Rattle.ly_drive.specs.declared.fault.DriveFault.{DriveFault}
 use Rattle.ly_drive.specs.declared.fault.DriveFault.TheVariants as drive

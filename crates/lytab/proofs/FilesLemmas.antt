@@ -1,13 +1,13 @@
 -- Lemmas on the files that a command writes.
-use Rattle.std.proofs.Common.{◌≡◌, ◌≢◌, ◌∙◌, ◌⊎◌, [], ◌∷◌, ◌++◌, ℕ, List, Option, Some, None, ap, false, inl, inr}
+use Rattle.std.proofs.Common.{◌≡◌, ◌≢◌, ◌∙◌, ◌⊎◌, ◌∷◌, ◌++◌, ℕ, List, Option, Some, None, ap, false, inl, inr}
 use Rattle.std.proofs.Common.{refl, sym, true≢false}
-use Rattle.std.specs.Prelude.{Err, IsSome, Ok, OnErr, OnOk, Result, bytes_eq, is_some}
+use Rattle.std.specs.Prelude.{Err, Ok, OnErr, OnOk, Result, bytes_eq, is_some}
 use Rattle.std.specs.declared.alloc.Global.{Global}
 use Rattle.std.specs.declared.vec.Vec.{Vec}
 use Rattle.ly_cli.specs.Paths.{as_list}
 use Rattle.ly_files.proofs.ChangeLemmas.{changed_also, changed_twice, unchanged}
 use Rattle.ly_files.proofs.FolderLemmas.{differ, same_or_not, set_here, set_there}
-use Rattle.ly_files.specs.Folder.{AreSame, Changed, Files, IsBegun, IsSet, IsSetSomehow, IsSpared, IsSparedOrSet, set}
+use Rattle.ly_files.specs.Folder.{AreSame, Changed, Files, IsBegun, IsSet, IsSparedOrSet, set}
 use Rattle.ly_cli.specs.Request.{Request, build, check, explain, lines, run, run_placed, table_tokens}
 use Rattle.ly_cli.specs.Request.{tokens, try, try_placed}
 use Rattle.lytab.specs.declared.failure.Failure.{Failure}

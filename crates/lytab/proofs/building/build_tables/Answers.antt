@@ -1,4 +1,4 @@
-use Rattle.std.proofs.Common.{◌≡◌, ◌∙◌, IfErr, rules, subst, sym}
+use Rattle.std.proofs.Common.{◌∙◌, IfErr, rules, subst, sym}
 use Rattle.ly_generate.specs.Parser.{IsReportIf}
 use Rattle.ly_generate.proofs.GenFaultLemmas.{err_weaker}
 use Rattle.ly_files.specs.Folder.{IsFile}

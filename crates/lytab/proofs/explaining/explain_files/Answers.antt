@@ -1,4 +1,4 @@
-use Rattle.std.proofs.Common.{◌≡◌, ◌∙◌, rules, subst}
+use Rattle.std.proofs.Common.{◌∙◌, rules, subst}
 use Rattle.ly_explain.specs.Findings.{IsInForm}
 use Rattle.ly_generate.proofs.GenFaultLemmas.{ok_weaker}
 use Rattle.lytab.specs.Devices.{WroteAllOrPrefix}

@@ -1,4 +1,4 @@
-use Rattle.std.proofs.Common.{◌≡◌, Err, Ok, refl, subst}
+use Rattle.std.proofs.Common.{◌≡◌, Err, refl, subst}
 use Rattle.ly_cli.specs.Request.{Request}
 use Rattle.ly_cli.specs.declared.command.CommandFault.TheVariants.{Bad, Help, OutOfMemory as NoMemory}
 use Rattle.ly_cli.proofs.RequestLemmas.{asked}
