@@ -18,7 +18,8 @@ pub returns-in_ok-bytes-in-TableTokens-clause-carried_out
 returns-in_ok-bytes-in-TableTokens-clause-carried_out g c =
     let r = c.answer_text-ended-in-TableTokens.ensures in
     rw c.in-TableTokens.is (carried_table_tokens
-    (λ s. s.now) c.in-TableTokens.tables.now c.deref-in-TableTokens.result.now c.in-TableTokens.text c.in-TableTokens.by c.answer_text-ended-in-TableTokens.result _
+    (λ s. s.now) c.in-TableTokens.tables.now c.deref-in-TableTokens.result.now c.in-TableTokens.text
+    c.in-TableTokens.by c.answer_text-ended-in-TableTokens.result _
     (rw c.deref-in-TableTokens.ensures.value c.in_ok-bytes-in-TableTokens.ensures.read) r.answered r.refused
     (begun_at_most g.W.Sink.contents c.answer_text-ended-in-TableTokens.result _ _ _ r.beginning (r.untouched tt))
     r.unread (λ no. (r.needed no).unread) (λ no. (r.needed no).needed))
@@ -27,7 +28,8 @@ pub returns-in_ok-bytes-in-Run-clause-carried_out : goal.returns-in_ok-bytes-in-
 returns-in_ok-bytes-in-Run-clause-carried_out g c =
     let r = c.answer_text-ended-in-Run.ensures in
     rw c.in-Run.is (carried_run
-    (λ s. s.now) c.in-Run.tables.now c.deref-in-Run.result.now c.in-Run.text c.in-Run.by c.answer_text-ended-in-Run.result _
+    (λ s. s.now) c.in-Run.tables.now c.deref-in-Run.result.now c.in-Run.text c.in-Run.by
+    c.answer_text-ended-in-Run.result _
     (rw c.deref-in-Run.ensures.value c.in_ok-bytes-in-Run.ensures.read) r.answered r.refused
     (begun_at_most g.W.Sink.contents c.answer_text-ended-in-Run.result _ _ _ r.beginning (r.untouched tt)) r.unread
     (λ no. (r.needed no).unread) (λ no. (r.needed no).needed))
@@ -36,7 +38,8 @@ pub returns-in_ok-bytes-in-Lines-clause-carried_out : goal.returns-in_ok-bytes-i
 returns-in_ok-bytes-in-Lines-clause-carried_out g c =
     let r = c.answer_text-ended-in-Lines.ensures in
     rw c.in-Lines.is (carried_lines
-    (λ s. s.now) c.in-Lines.tables.now c.deref-in-Lines.result.now c.in-Lines.text c.in-Lines.by c.answer_text-ended-in-Lines.result _
+    (λ s. s.now) c.in-Lines.tables.now c.deref-in-Lines.result.now c.in-Lines.text c.in-Lines.by
+    c.answer_text-ended-in-Lines.result _
     (rw c.deref-in-Lines.ensures.value c.in_ok-bytes-in-Lines.ensures.read) r.answered r.stopped
     r.unread (λ no. (r.needed no).unread) r.read)
 
@@ -49,7 +52,8 @@ pub returns-in_ok-bytes-in-RunPlaced-clause-carried_out : goal.returns-in_ok-byt
 returns-in_ok-bytes-in-RunPlaced-clause-carried_out g c =
     let r = c.answer_text-ended-in-RunPlaced.ensures in
     rw c.in-RunPlaced.is (carried_run_placed
-    (λ s. s.now) c.in-RunPlaced.tables.now c.deref-in-RunPlaced.result.now c.in-RunPlaced.text c.in-RunPlaced.points c.answer_text-ended-in-RunPlaced.result _
+    (λ s. s.now) c.in-RunPlaced.tables.now c.deref-in-RunPlaced.result.now c.in-RunPlaced.text c.in-RunPlaced.points
+    c.answer_text-ended-in-RunPlaced.result _
     (rw c.deref-in-RunPlaced.ensures.value c.in_ok-bytes-in-RunPlaced.ensures.read) r.answered r.refused
     (begun_at_most g.W.Sink.contents c.answer_text-ended-in-RunPlaced.result _ _ _ r.beginning (r.untouched tt))
     r.unread (λ no. (r.needed no).unread) (λ no. (r.needed no).needed))
@@ -59,8 +63,10 @@ pub returns-in_ok-yacc_bytes-in-TryPlaced-clause-carried_out
 returns-in_ok-yacc_bytes-in-TryPlaced-clause-carried_out g c =
     let r = c.answer_text-ended-in-TryPlaced.ensures in
     rw c.in-TryPlaced.is (carried_try_placed
-    (λ s. s.now) c.in-TryPlaced.lex.now c.in-TryPlaced.yacc.now c.deref-in-TryPlaced.result.now c.deref-in-TryPlaced-2.result.now c.in-TryPlaced.text c.in-TryPlaced.points
-    c.answer_text-ended-in-TryPlaced.result _ (rw c.deref-in-TryPlaced.ensures.value c.in_ok-lex_bytes-in-TryPlaced.ensures.read)
+    (λ s. s.now) c.in-TryPlaced.lex.now c.in-TryPlaced.yacc.now c.deref-in-TryPlaced.result.now
+    c.deref-in-TryPlaced-2.result.now c.in-TryPlaced.text c.in-TryPlaced.points
+    c.answer_text-ended-in-TryPlaced.result _
+    (rw c.deref-in-TryPlaced.ensures.value c.in_ok-lex_bytes-in-TryPlaced.ensures.read)
     (rw c.deref-in-TryPlaced-2.ensures.value c.in_ok-yacc_bytes-in-TryPlaced.ensures.read) r.answered
     r.refused
     (begun_at_most g.W.Sink.contents c.answer_text-ended-in-TryPlaced.result _ _ _ r.beginning (r.untouched tt))
@@ -70,7 +76,8 @@ pub returns-in_ok-yacc_bytes-in-Try-clause-carried_out : goal.returns-in_ok-yacc
 returns-in_ok-yacc_bytes-in-Try-clause-carried_out g c =
     let r = c.answer_text-ended-in-Try.ensures in
     rw c.in-Try.is (carried_try
-    (λ s. s.now) c.in-Try.lex.now c.in-Try.yacc.now c.deref-in-Try.result.now c.deref-in-Try-2.result.now c.in-Try.text c.in-Try.by
+    (λ s. s.now) c.in-Try.lex.now c.in-Try.yacc.now c.deref-in-Try.result.now c.deref-in-Try-2.result.now
+    c.in-Try.text c.in-Try.by
     c.answer_text-ended-in-Try.result _ (rw c.deref-in-Try.ensures.value c.in_ok-lex_bytes-in-Try.ensures.read)
     (rw c.deref-in-Try-2.ensures.value c.in_ok-yacc_bytes-in-Try.ensures.read)
     r.answered r.refused
