@@ -1,7 +1,8 @@
 -- Lemmas on the files that a command writes.
 use Rattle.std.proofs.Common.{◌≡◌, ◌≢◌, ◌∙◌, ◌⊎◌, ◌∷◌, ◌++◌, ℕ, List, Option, Some, None, ap, false, inl, inr}
-use Rattle.std.proofs.Common.{refl, sym, true≢false}
-use Rattle.std.specs.Prelude.{Err, Ok, OnErr, OnOk, Result, bytes_eq, is_some}
+use Rattle.std.proofs.Common.{refl, subst, sym, true≢false}
+use Rattle.std.specs.Prelude.{Err, IfErr, Ok, OnErr, OnOk, Result, bytes_eq, is_some}
+use Rattle.std.specs.Result.{IsErrAnd}
 use Rattle.std.specs.declared.alloc.Global.{Global}
 use Rattle.std.specs.declared.vec.Vec.{Vec}
 use Rattle.ly_cli.specs.Paths.{as_list}
@@ -10,6 +11,9 @@ use Rattle.ly_files.proofs.FolderLemmas.{differ, same_or_not, set_here, set_ther
 use Rattle.ly_files.specs.Folder.{AreSame, Changed, Files, IsBegun, IsSet, IsSparedOrSet, set}
 use Rattle.ly_cli.specs.Request.{Request, build, check, explain, lines, run, run_placed, table_tokens}
 use Rattle.ly_cli.specs.Request.{tokens, try, try_placed}
+use Rattle.ly_files.specs.declared.file_fault.FileFault.{FileFault}
+use Rattle.ly_files.specs.declared.file_fault.FileFault.TheVariants.{CannotRead, CannotWrite, OutOfMemory}
+use Rattle.lytab.specs.Failure.{IsOfDevice, failure_of_file}
 use Rattle.lytab.specs.declared.failure.Failure.{Failure}
 use Rattle.lytab.specs.Files.{AreFilesLeft, AreOthersKept, AreWritten, IsLeftIf, IsOther, set_if}
 
@@ -140,3 +144,11 @@ files_kept (try_placed lex yacc text points) f a = refl
 files_kept (try lex yacc text by) f a = refl
 files_kept (check tables by) f a = refl
 files_kept (explain lex yacc states graph strictness form) f a = kept_same (as_list states ++ as_list graph) a
+
+-- nothing is said of a failure of a device
+pub device_kept : {T P : Type 0} (r : Result T Failure) (fault : FileFault)
+    → IsErrAnd r (λ f. f ≡ failure_of_file fault) → IfErr r (λ f. (IsOfDevice f → ⊥) → P)
+device_kept (Ok v) fault is = absurd is
+device_kept (Err f) (CannotRead path reason) is = λ not. absurd (not (subst IsOfDevice (sym is) tt))
+device_kept (Err f) (CannotWrite path reason) is = λ not. absurd (not (subst IsOfDevice (sym is) tt))
+device_kept (Err f) OutOfMemory is = λ not. absurd (not (subst IsOfDevice (sym is) tt))

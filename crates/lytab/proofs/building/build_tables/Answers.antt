@@ -2,11 +2,12 @@ use Rattle.std.proofs.Common.{◌∙◌, IfErr, rules, subst, sym}
 use Rattle.ly_generate.specs.Parser.{IsReportIf}
 use Rattle.ly_generate.proofs.GenFaultLemmas.{err_weaker}
 use Rattle.ly_files.specs.Folder.{IsFile}
-use Rattle.lytab.specs.CarriedOut.{HasBuilt, paths_of_build}
+use Rattle.lytab.specs.CarriedOut.{HasBuilt, paths_of_build, written_by}
 use Rattle.lytab.specs.Devices.{WroteAllOrPrefix, DoneOrUnchanged}
 use Rattle.lytab.specs.Failure.{IsOfDevice}
 use Rattle.lytab.specs.Refusal.{HasOtherCounts}
 use Rattle.lytab.proofs.CarriedLemmas.{is_told, wanted_named}
+use Rattle.lytab.proofs.FilesLemmas.{device_kept, kept_same}
 use Rattle.lytab.proofs.CountLemmas.{counts_differ, counts_hold, device_of_build}
 use Rattle.lytab.proofs.building.build_tables.Goals as goal
 
@@ -69,3 +70,17 @@ pub returns-clause-refused : goal.returns-clause-refused
 returns-clause-refused g c =
     let failed : IfErr c.said.result IsOfDevice = search rules in
     err_weaker c.said.result _ _ (device_of_build c.args.version c.args.expected _ _ _) failed
+
+pub returns-in-Some-clause-others : goal.returns-in-Some-clause-others
+returns-in-Some-clause-others g c = kept_same (written_by c.args.paths) (g.D.Folder.holds c.args.folder.now)
+
+pub returns-in_err-line-clause-others : goal.returns-in_err-line-clause-others
+returns-in_err-line-clause-others g c = kept_same (written_by c.args.paths) (g.D.Folder.holds c.args.folder.now)
+
+pub returns-in_err-write_files-clause-kept : goal.returns-in_err-write_files-clause-kept
+returns-in_err-write_files-clause-kept g c = device_kept c.from_residual-in_err-write_files.result
+    c.in_err-write_files.field-0.0 c.from_residual-in_err-write_files.ensures.1
+
+pub returns-clause-kept : goal.returns-clause-kept
+returns-clause-kept g c =
+    err_weaker c.said.result _ _ (λ f device not. absurd (not device)) c.said.ensures.failed
