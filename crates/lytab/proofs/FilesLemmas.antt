@@ -146,9 +146,9 @@ files_kept (check tables by) f a = refl
 files_kept (explain lex yacc states graph strictness form) f a = kept_same (as_list states ++ as_list graph) a
 
 -- nothing is said of a failure of a device
-pub device_kept : {T P : Type 0} (r : Result T Failure) (fault : FileFault)
+pub device_kept : {T : Type 0} (P : Type 0) (r : Result T Failure) (fault : FileFault)
     → IsErrAnd r (λ f. f ≡ failure_of_file fault) → IfErr r (λ f. (IsOfDevice f → ⊥) → P)
-device_kept (Ok v) fault is = absurd is
-device_kept (Err f) (CannotRead path reason) is = λ not. absurd (not (subst IsOfDevice (sym is) tt))
-device_kept (Err f) (CannotWrite path reason) is = λ not. absurd (not (subst IsOfDevice (sym is) tt))
-device_kept (Err f) OutOfMemory is = λ not. absurd (not (subst IsOfDevice (sym is) tt))
+device_kept P (Ok v) fault is = absurd is
+device_kept P (Err f) (CannotRead path reason) is = λ not. absurd (not (subst IsOfDevice (sym is) tt))
+device_kept P (Err f) (CannotWrite path reason) is = λ not. absurd (not (subst IsOfDevice (sym is) tt))
+device_kept P (Err f) OutOfMemory is = λ not. absurd (not (subst IsOfDevice (sym is) tt))

@@ -78,7 +78,7 @@ pub returns-in_err-line-clause-others : goal.returns-in_err-line-clause-others
 returns-in_err-line-clause-others g c = kept_same (written_by c.args.paths) (g.D.Folder.holds c.args.folder.now)
 
 pub returns-in_err-write_files-clause-kept : goal.returns-in_err-write_files-clause-kept
-returns-in_err-write_files-clause-kept g c = device_kept c.from_residual-in_err-write_files.result
+returns-in_err-write_files-clause-kept g c = device_kept _ c.from_residual-in_err-write_files.result
     c.in_err-write_files.field-0.0 c.from_residual-in_err-write_files.ensures.1
 
 pub returns-clause-kept : goal.returns-clause-kept
