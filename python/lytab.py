@@ -27,6 +27,7 @@ import itertools
 import operator
 import os
 import pathlib
+import re
 import struct
 import threading
 from typing import Any, Callable, Dict, Iterable, Iterator, List, Optional, Tuple, Type, TypeVar, Union
@@ -41,6 +42,10 @@ _GIVEN = struct.Struct("=IIQQ")
 _AT_ONCE = 1 << 10
 # How many bytes of an unexpected token, and of a source line, a message has at most.
 _LONGEST, _WIDEST = 60, 160
+# Characters that aren't shown as they are: controls, separators of lines, changes of direction, and invisible ones.
+_UNSEEN = re.compile(
+    "[\x80-\x9f\xad\u061c\u180e\u200b-\u200f\u2028-\u202e\u2060-\u206f\ufeff\ufff9-\ufffb\U000e0000-\U000e007f]"
+)
 # How many levels a line of `pretty` is indented at most.
 _LEVELS = 40
 
@@ -199,16 +204,52 @@ def _excerpt(text: bytes, offset: int, column: int) -> str:
         end -= 1
     if first >= end:
         return ""
-    start = first if end - first <= _WIDEST else max(first, offset - _WIDEST // 2)
-    shown, before = text[start : min(end, start + _WIDEST)], "..." if start > first else ""
-    behind = "..." if start + _WIDEST < end else ""
-    blanks = "".join("\t" if it == "\t" else " " for it in _printable(shown[: offset - start]))
-    return f"    {before}{_printable(shown)}{behind}\n    {' ' * len(before)}{blanks}^\n"
+    line, passed = text[first:end], offset - first
+    start = _start_of_unit(line, min(max(passed - _WIDEST // 2, 0), len(line))) if len(line) > _WIDEST else 0
+    shown = line[start:]
+    before, behind = "..." if start > 0 else "", ""
+    if len(shown) > _WIDEST:
+        shown, behind = shown[: _start_of_unit(shown, _WIDEST)], "..."
+    units = list(_units(shown))
+    blanks = "".join("\t" if it == "\t" else " " * len(it) for at, it in units if at < passed - start)
+    return f"    {before}{''.join(it for _, it in units)}{behind}\n    {' ' * len(before)}{blanks}^\n"
 
 
-def _printable(line: bytes) -> str:
-    """A line with a `?` in place of each control byte other than a tab."""
-    return bytes(it if it == 9 or it >= 32 and it != 127 else 63 for it in line).decode(errors="replace")
+def _units(line: bytes) -> Iterator[Tuple[int, str]]:
+    """The characters of a line, and the bytes that belong to none: the offset of each, and how it is shown. Nothing of
+    that moves a terminal's cursor or is invisible: control bytes of ASCII other than a tab are shown as `?`, and
+    characters that aren't printable and bytes that are no UTF-8 as escapes."""
+    at = 0
+    while at < len(line):
+        found = _first_character(line[at : at + 4])
+        size = len(found.encode()) if found else 1
+        if found is None or _UNSEEN.match(found):
+            yield at, "".join(f"\\x{it:02x}" for it in line[at : at + size])
+        else:
+            yield at, found if found == "\t" or " " <= found != "\x7f" else "?"
+        at += size
+
+
+def _first_character(text: bytes) -> Optional[str]:
+    """The character at the start of bytes, if these are UTF-8."""
+    if not text:
+        return None
+    first = text[0]
+    size = 1 if first < 0x80 else 2 if first < 0xE0 else 3 if first < 0xF0 else 4
+    try:
+        return text[:size].decode()
+    except UnicodeDecodeError:
+        return None
+
+
+def _start_of_unit(line: bytes, offset: int) -> int:
+    """The offset of the first byte of the character at an offset, or the offset itself if no character is there."""
+    for back in range(4):
+        start = max(offset - back, 0)
+        found = _first_character(line[start : start + 4])
+        if found and len(found.encode()) > max(back, 1):
+            return start
+    return offset
 
 
 class Token:
