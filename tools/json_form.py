@@ -215,7 +215,7 @@ def sarif_place(place, text_of):
 
 
 def sarif_uri(path):
-    """A path as a URI, in which each byte but letters, digits, `-._~/` stands behind a percent sign."""
+    """A path as a URI, in which each byte but letters, digits, `-._~/` is a percent escape."""
     return ("file://" if path.startswith("/") else "") + urllib.parse.quote(path, safe="/")
 
 
