@@ -1,4 +1,5 @@
-ghost use Rattle.std.specs.Prelude.{None, false};
+ghost use Rattle.std.specs.Prelude.{None, OnOk, false};
+ghost use Rattle.std.specs.Io.KnownBytes.{Appends};
 
 use crate::create_fault::CreateFault;
 use crate::folder::Folder;
@@ -106,7 +107,9 @@ fn take_after<T: OpenFile>(new: &T, older: &Metadata) -> io::Result<()> {
 }
 
 /// Writes all bytes to a file and to its device.
-fn write_through<T: Write + OpenFile>(file: &mut T, bytes: &[u8]) -> io::Result<()> {
+fn write_through<T: Write + OpenFile>(file: &mut T, bytes: &[u8]) -> io::Result<()>
+    ensures { OnOk result (Appends (T.contents file.old) (T.contents file.new) bytes.now) }
+{
     file.write_all(bytes)?;
     file.sync_all()
 }
